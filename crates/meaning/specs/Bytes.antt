@@ -1,0 +1,193 @@
+-- Document 01, "Bytes": how the values stand among the bytes of an envelope.
+-- A value is taken from the front of the bytes that are left of its envelope. Where they run out a byte is needed at the declared end: 6.
+use Prim.Native.Nat.{ℕ, zero, suc, _+_, _-_, _*_, _/_, _%_}
+use mathlib.Core.List.{List, [], _∷_, _++_}
+use mathlib.Core.Bool.{Bool, true, false, _&&_, _||_, not}
+use lib.Dec.{eqb, leb, ltb}
+use lib.ListN.{length}
+use Rattle.meaning.specs.Basics.{pick, isEmpty}
+
+-- "either a value with the place after it, or a refusal": the value and the bytes behind it, or the number and how many bytes are left at the fault
+pub data Taken : Type 0 where
+  took : List ℕ → List ℕ → Taken
+  failed : ℕ → ℕ → Taken
+
+abbrev pub prefixed : ℕ → Taken → Taken
+prefixed b (took v rest) = took (b ∷ v) rest
+prefixed b (failed refusal left) = failed refusal left
+
+-- "Text: bytes 20 to FF": the one name for which bytes a text allows
+unfoldable pub textByte : ℕ → Bool
+textByte b = leb 0x20 b
+
+-- ".. possibly none, then 00"; "8: text byte 01 to 1F, that byte"
+unfoldable pub takeText : List ℕ → Taken
+takeText [] = failed 6 0
+takeText (b ∷ s) =
+    let more : Taken = prefixed b (takeText s) in
+    pick (eqb b 0) (took [] s) (pick (textByte b) more (failed 8 (suc (length s))))
+
+unfoldable pub textOk : List ℕ → Bool
+textOk [] = true
+textOk (b ∷ v) = textByte b && textOk v
+
+-- "Coded digits: digit n is the four bits n+1; the high four bits are the earlier digit"
+abbrev pub isDigit : ℕ → Bool
+isDigit bits = leb 1 bits && leb bits 10
+
+abbrev pub digitOf : ℕ → ℕ
+digitOf bits = bits - 1
+
+abbrev pub twoDigits : ℕ → ℕ
+twoDigits b = 10 * digitOf (b / 16) + digitOf (b % 16)
+
+-- "Payload length .. has decimal digits only, no leading zero, and at most 4,294,967,295"
+abbrev pub numberMost : ℕ
+numberMost = 4294967295
+
+-- what a byte does to the number so far: it ends it, leads on, or is wrong
+pub data Turn : Type 0 where
+  stop : Turn
+  more : ℕ → Turn
+  wrong : Turn
+
+-- "An odd digit count ends with four zero bits, an even one with a byte 00"; first: no digit stands before this byte
+unfoldable pub turn : ℕ → Bool → ℕ → Turn
+turn number first b =
+    let one = 10 * number + digitOf (b / 16) in
+    let two = 10 * one + digitOf (b % 16) in
+    let leadingZero = first && eqb (b / 16) 1 in
+    pick (eqb b 0) (pick first wrong stop)
+    (pick (isDigit (b / 16) && leb one numberMost)
+    (pick (eqb (b % 16) 0) stop
+    (pick (isDigit (b % 16) && not leadingZero && leb two numberMost) (more two) wrong))
+    wrong)
+
+abbrev pub afterTurn : ℕ → List ℕ → (ℕ → Taken) → Turn → Taken
+afterTurn b s onward stop = took (b ∷ []) s
+afterTurn b s onward (more number) = prefixed b (onward number)
+afterTurn b s onward wrong = failed 10 (suc (length s))
+
+-- "10: payload length wrong, or its value now too large, that byte"
+unfoldable pub takeNumber : ℕ → Bool → List ℕ → Taken
+takeNumber number first [] = failed 6 0
+takeNumber number first (b ∷ s) = afterTurn b s (λ next. takeNumber next false s) (turn number first b)
+
+abbrev pub okTurn : List ℕ → (ℕ → Bool) → Turn → Bool
+okTurn v onward stop = isEmpty v
+okTurn v onward (more number) = onward number
+okTurn v onward wrong = false
+
+unfoldable pub numberOk : ℕ → Bool → List ℕ → Bool
+numberOk number first [] = false
+numberOk number first (b ∷ v) = okTurn v (λ next. numberOk next false v) (turn number first b)
+
+-- a date's bytes, each by its test: two digits between two bounds; a day; a digit and four zero bits; the designator
+pub data Check : Type 0 where
+  pair : ℕ → ℕ → Check
+  day : Check
+  half : Check
+  letter : Check
+
+-- "day 1 to 31": the one name for which days exist; earlier: the date's bytes before the day, the month first
+unfoldable pub lastDay : List ℕ → ℕ
+lastDay earlier = 31
+
+abbrev pub pairWithin : ℕ → ℕ → ℕ → Bool
+pairWithin lo hi b = isDigit (b / 16) && isDigit (b % 16) && leb lo (twoDigits b) && leb (twoDigits b) hi
+
+unfoldable pub passes : Check → List ℕ → ℕ → Bool
+passes (pair lo hi) earlier b = pairWithin lo hi b
+passes day earlier b = pairWithin 1 (lastDay earlier) b
+passes half earlier b = isDigit (b / 16) && eqb (b % 16) 0
+passes letter earlier b = (leb 0x41 b && leb b 0x5a) || (leb 0x61 b && leb b 0x7a)
+
+pub data Reach : Type 0 where
+  absolute relative : Reach
+
+abbrev pub anyPair : Check
+anyPair = pair 0 99
+
+-- "year 4 digits, month, day, hour, minute, second 2 each, millisecond 3 digits and four zero bits"; "relative ones have any digits"
+abbrev pub checksOf : Reach → List Check → List Check
+checksOf absolute end = anyPair ∷ anyPair ∷ pair 1 12 ∷ day ∷ pair 0 23 ∷ pair 0 59 ∷ pair 0 59 ∷ anyPair ∷ half ∷ end
+checksOf relative end = anyPair ∷ anyPair ∷ anyPair ∷ anyPair ∷ anyPair ∷ anyPair ∷ anyPair ∷ anyPair ∷ half ∷ end
+
+-- "The designator is one ASCII letter"
+abbrev pub designator : Bool → List Check
+designator true = letter ∷ []
+designator false = []
+
+abbrev pub dateChecks : Reach → Bool → List Check
+dateChecks reach designated = checksOf reach (designator designated)
+
+-- "9: date .. digit, range, padding or designator wrong, that byte"
+unfoldable pub takeDate : List Check → List ℕ → List ℕ → Taken
+takeDate [] earlier s = took [] s
+takeDate (c ∷ cs) earlier [] = failed 6 0
+takeDate (c ∷ cs) earlier (b ∷ s) =
+    let more : Taken = prefixed b (takeDate cs (b ∷ earlier) s) in
+    pick (passes c earlier b) more (failed 9 (suc (length s)))
+
+unfoldable pub dateOk : List Check → List ℕ → List ℕ → Bool
+dateOk [] earlier [] = true
+dateOk [] earlier (b ∷ v) = false
+dateOk (c ∷ cs) earlier [] = false
+dateOk (c ∷ cs) earlier (b ∷ v) = passes c earlier b && dateOk cs (b ∷ earlier) v
+
+-- a number of so many bytes, high first, and the bytes behind it
+pub data Count : Type 0 where
+  counted : ℕ → List ℕ → Count
+  short : Count
+
+unfoldable pub highFirst : ℕ → ℕ → List ℕ → Count
+highFirst zero number s = counted number s
+highFirst (suc n) number [] = short
+highFirst (suc n) number (b ∷ s) = highFirst n (256 * number + b) s
+
+-- "16, 17, 19 with a length of 1, 2, 4 bytes (high first)"
+pub data Width : Type 0 where
+  oneByte twoBytes fourBytes : Width
+
+abbrev pub bytesOf : Width → ℕ
+bytesOf oneByte = 1
+bytesOf twoBytes = 2
+bytesOf fourBytes = 4
+
+-- "The shortest length form is required": the lengths of a form, from the fewest up to the one that it cannot hold
+abbrev pub fewest : Width → ℕ
+fewest oneByte = 0
+fewest twoBytes = 256
+fewest fourBytes = 65536
+
+abbrev pub past : Width → ℕ
+past oneByte = 256
+past twoBytes = 65536
+past fourBytes = 4294967296
+
+-- the one name for whether a wide length is refused
+unfoldable pub tooWide : Width → ℕ → Bool
+tooWide w n = ltb n (fewest w)
+
+abbrev pub lengthBytes : Width → ℕ → List ℕ
+lengthBytes oneByte n = n ∷ []
+lengthBytes twoBytes n = n / 256 ∷ n % 256 ∷ []
+lengthBytes fourBytes n = n / 16777216 ∷ n / 65536 % 256 ∷ n / 256 % 256 ∷ n % 256 ∷ []
+
+unfoldable pub takeBytes : ℕ → List ℕ → Taken
+takeBytes zero s = took [] s
+takeBytes (suc n) [] = failed 6 0
+takeBytes (suc n) (b ∷ s) = prefixed b (takeBytes n s)
+
+-- "11: length form too wide, code"; ".. after the length bytes, before the block"; left: the bytes left at the code
+unfoldable pub blockOf : Width → ℕ → Count → Taken
+blockOf w left short = failed 6 0
+blockOf w left (counted n s) =
+    let all : Taken = takeBytes n s in
+    pick (tooWide w n) (failed 11 left) all
+
+unfoldable pub takeBlock : Width → ℕ → List ℕ → Taken
+takeBlock w left s = blockOf w left (highFirst (bytesOf w) 0 s)
+
+unfoldable pub blockOk : Width → List ℕ → Bool
+blockOk w v = leb (fewest w) (length v) && ltb (length v) (past w)

@@ -1,0 +1,87 @@
+-- Document 01, "Rows lent" and "Answers by number": what a call answers, and what the lent memory holds after it.
+-- "A refused call changes nothing lent; an accepted one changes only its rows or bytes."
+use Prim.Native.Nat.{ℕ, zero, suc, _+_, _*_, _/_}
+use mathlib.Core.List.{List, [], _∷_, _++_}
+use mathlib.Core.Bool.{Bool, true, false}
+use lib.Dec.{leb}
+use lib.ListN.{length, take, drop}
+use Rattle.meaning.specs.Basics.{pick}
+use Rattle.meaning.specs.Editions.{labelOf}
+use Rattle.meaning.specs.Headers.{Placed, Answer, refused, accepted, read}
+use Rattle.meaning.specs.Writing.{Cell, cell, broken, Written, written, unwritten, writtenUnder}
+
+-- "A row is four u32 numbers: kind, level, start, length": how many numbers a row has is said here and in the three below
+abbrev pub rowWidth : ℕ
+rowWidth = 4
+
+abbrev pub numbersOf : Placed → List ℕ
+numbersOf r = r .kind ∷ r .level ∷ r .start ∷ length (r .view) ∷ []
+
+abbrev pub tableOf : List Placed → List ℕ
+tableOf [] = []
+tableOf (r ∷ rs) = numbersOf r ++ tableOf rs
+
+-- "start plus length passes the pool": for every row, an opening one too
+abbrev pub cellOf : List ℕ → ℕ → ℕ → ℕ → ℕ → Cell
+cellOf pool kind level start len =
+    pick (leb (start + len) (length pool)) (cell (record { kind = kind; level = level; view = take len (drop start pool) })) broken
+
+-- "A slice that isn't whole rows is 15 at the count of whole ones"
+unfoldable pub cellsOf : List ℕ → List ℕ → List Cell
+cellsOf pool [] = []
+cellsOf pool (kind ∷ []) = broken ∷ []
+cellsOf pool (kind ∷ (level ∷ [])) = broken ∷ []
+cellsOf pool (kind ∷ (level ∷ (start ∷ []))) = broken ∷ []
+cellsOf pool (kind ∷ (level ∷ (start ∷ (len ∷ rows)))) = cellOf pool kind level start len ∷ cellsOf pool rows
+
+-- "with a quarter of its length, rounded down, as the room"
+abbrev pub roomOf : List ℕ → ℕ
+roomOf lent = length lent / rowWidth
+
+-- lent memory with these numbers at its front, and nothing changed behind them
+unfoldable pub laidOver : List ℕ → List ℕ → List ℕ
+laidOver lent front = front ++ drop (length front) lent
+
+-- "The reader gives answer, place, row count"; the writer too
+pub record Reply : Type 0 where
+  pub answer : ℕ
+  pub place : ℕ
+  pub rows : ℕ
+
+abbrev pub reply : ℕ → ℕ → ℕ → Reply
+reply a p n = record { answer = a; place = p; rows = n }
+
+-- "Accepted: 0, payload's first byte, rows"; "14: all well, but rows exceed the room"; "Refusals report 0 rows, except 14, which reports the rows needed"
+abbrev pub readReply : ℕ → Answer → Reply
+readReply room (refused refusal place) = reply refusal place 0
+readReply room (accepted place rs) = reply (pick (leb (length rs) room) 0 14) place (length rs)
+
+abbrev pub readMemory : List ℕ → Answer → List ℕ
+readMemory lent (refused refusal place) = lent
+readMemory lent (accepted place rs) = pick (leb (length rs) (roomOf lent)) (laidOver lent (tableOf rs)) lent
+
+-- the reader: edition, input and lent rows to its answer, and to the lent rows after the call
+unfoldable pub readAnswer : ℕ → List ℕ → List ℕ → Reply
+readAnswer edition input lent = readReply (roomOf lent) (read edition input)
+
+unfoldable pub readRows : ℕ → List ℕ → List ℕ → List ℕ
+readRows edition input lent = readMemory lent (read edition input)
+
+-- "Accepted gives 0, bytes written, rows"
+abbrev pub writeReply : ℕ → Written → Reply
+writeReply rows (unwritten refusal place) = reply refusal place 0
+writeReply rows (written bytes) = reply 0 (length bytes) rows
+
+abbrev pub writeMemory : List ℕ → Written → List ℕ
+writeMemory lent (unwritten refusal place) = lent
+writeMemory lent (written bytes) = laidOver lent bytes
+
+-- the writer: edition, rows, the pool that they view and the output's room
+unfoldable pub write : ℕ → List ℕ → List ℕ → ℕ → Written
+write edition rows pool room = writtenUnder room (cellsOf pool rows) (labelOf edition)
+
+unfoldable pub writeAnswer : ℕ → List ℕ → List ℕ → List ℕ → Reply
+writeAnswer edition rows pool output = writeReply (roomOf rows) (write edition rows pool (length output))
+
+unfoldable pub writeOutput : ℕ → List ℕ → List ℕ → List ℕ → List ℕ
+writeOutput edition rows pool output = writeMemory output (write edition rows pool (length output))
