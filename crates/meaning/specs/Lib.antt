@@ -10,3 +10,9 @@ pub mod Memory
 pub mod Payload
 pub mod Plain
 pub mod Listing
+pub mod Cases
+pub mod Instances
+pub mod Accepting
+pub mod Refusing
+pub mod Coding
+pub mod Bounds

@@ -187,6 +187,9 @@ isShort n = leb (3 + n) 65535
 abbrev pub envelopeSize : ℕ → ℕ
 envelopeSize n = pick (isShort n) (3 + n) (7 + n)
 
+abbrev pub withinLimit : ℕ → Bool
+withinLimit n = leb (envelopeSize n) envelopeMost
+
 abbrev pub envelopeLength : ℕ → List ℕ
 envelopeLength n = pick (isShort n) (lengthBytes twoBytes (3 + n)) (0 ∷ 0 ∷ lengthBytes fourBytes (7 + n))
 
@@ -205,7 +208,7 @@ pub data Limit : Type 0 where
 abbrev pub limits : ℕ → List Envelope → Limit
 limits n [] = fine
 limits zero (v ∷ vs) = exceeds (v .at)
-limits (suc n) (v ∷ vs) = pick (leb (envelopeSize (length (v .body))) envelopeMost) (limits n vs) (exceeds (v .at))
+limits (suc n) (v ∷ vs) = pick (withinLimit (length (v .body))) (limits n vs) (exceeds (v .at))
 
 pub data Written : Type 0 where
   written : List ℕ → Written

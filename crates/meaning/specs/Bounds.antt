@@ -1,0 +1,38 @@
+-- Our own table: every move of each edition, a refused code for each room, each bound of document 01 at it and one over; in one theorem.
+use Prim.Native.Nat.{ℕ, zero, suc, _+_, _-_, _*_, _/_}
+use mathlib.Core.List.{List, [], _∷_, _++_}
+use mathlib.Core.Bool.{Bool, true, false, _&&_, not}
+use lib.Dec.{T, eqb, leb}
+use lib.ListN.{length, take, replicate}
+use Rattle.meaning.specs.Basics.{pick, every}
+use Rattle.meaning.specs.Bytes.{textByte, takeText, textOk, turn, takeNumber, numberOk, lastDay, passes, takeDate, dateOk, highFirst, tooWide, takeBytes, blockOf, takeBlock, blockOk}
+use Rattle.meaning.specs.Editions.{shared, own, moves}
+use Rattle.meaning.specs.Reading.{takeValue, find, look, stepMove, step, run, inside}
+use Rattle.meaning.specs.Headers.{envelope, header, read}
+use Rattle.meaning.specs.Writing.{valid, writeValue, wayOf, fit, fitRow, closeWithin, close, planOf, writeRows}
+use Rattle.meaning.specs.Memory.{cellsOf, laidOver, write, readAnswer, readRows, writeAnswer, writeOutput}
+use Rattle.meaning.specs.Payload.{payloadStart, payloadEnd, payloadBytes}
+use Rattle.meaning.specs.Plain.{numberValue, digitsWithin, digitsOf, packed, decodeNumber, numberDecoded, numberPlain, numberBytes, numberEncoded, numberOutput, decodeDate, dateDecoded, datePlain, dateInRange, dateEncoded, dateOutput}
+use Rattle.meaning.specs.Listing.{decimal, viewed, lineOf, listingOf, listing}
+use Rattle.meaning.specs.Cases.{reads, rewrites, writes, decodes, datesRead, datesWritten}
+use Rattle.meaning.specs.Accepting as accepting
+use Rattle.meaning.specs.Refusing as refusing
+use Rattle.meaning.specs.Coding as coding
+
+abbrev pub readings : Bool
+readings =
+    every reads accepting.heads && every reads accepting.parameters && every reads accepting.objects && every reads accepting.agents && every reads accepting.envelopes &&
+    every reads refusing.codes && every reads refusing.dates && every reads refusing.values && every reads refusing.envelopes
+
+abbrev pub writings : Bool
+writings =
+    every rewrites accepting.heads && every rewrites accepting.parameters && every rewrites accepting.objects && every rewrites accepting.agents && every rewrites accepting.envelopes &&
+    every writes coding.written && every writes coding.unwritten && coding.sizes && coding.memory && coding.payload
+
+abbrev pub values : Bool
+values =
+    every decodes coding.numbersRead && coding.numbersWritten && every datesRead coding.datesRead && every datesWritten coding.datesWritten && coding.dateOutputs && coding.listings
+
+pub bounds : T (readings && writings && values)
+unfolding textByte takeText textOk turn takeNumber numberOk lastDay passes takeDate dateOk highFirst tooWide takeBytes blockOf takeBlock blockOk shared own moves takeValue find look stepMove step run inside envelope header read valid writeValue wayOf fit fitRow closeWithin close planOf writeRows cellsOf laidOver write readAnswer readRows writeAnswer writeOutput payloadStart payloadEnd payloadBytes numberValue digitsWithin digitsOf packed decodeNumber numberDecoded numberPlain numberBytes numberEncoded numberOutput decodeDate dateDecoded datePlain dateInRange dateEncoded dateOutput decimal viewed lineOf listingOf listing
+bounds = tt
