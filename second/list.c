@@ -7,7 +7,7 @@
 
 int main(int count, char **arguments)
 {
-    static uint8_t input[SECOND_LISTING_INPUT + 1];
+    uint8_t input[SECOND_LISTING_INPUT + 1];
     uint32_t edition = 0;
     if (count == 2 && strcmp(arguments[1], "b") == 0)
         edition = EDITION_B;

@@ -1,7 +1,7 @@
 /* The values that stand inside an envelope: texts, coded digits, dates and any-values.
 
    A `front` function looks for one value at the front of `length` bytes. It answers ACCEPTED with the count of bytes
-   that the value takes, or a refusal with the offset of the fault. BYTE_NEEDED, at `length`, says that the value goes on. */
+   that the value takes, or a refusal with the offset of the fault; BYTE_NEEDED, at `length`, if the value goes on. */
 #ifndef SECOND_VALUES_H
 #define SECOND_VALUES_H
 
@@ -20,8 +20,6 @@ struct any_value {
     size_t start;
     size_t length;
 };
-
-enum { BLOCK_WIDTH_MOST = 4 };
 
 /* Bytes 20 to FF before the first other byte, `length` if there is none. */
 size_t second_text_run(const uint8_t *bytes, size_t length);

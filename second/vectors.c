@@ -131,7 +131,7 @@ static void print_list(const uint8_t *bytes, size_t length)
     }
 }
 
-static void print_guards(struct lent *lent)
+static void print_lent(struct lent *lent)
 {
     printf("\n  lent ");
     print_hex(inside(lent) - GUARD, GUARD);
@@ -163,8 +163,8 @@ static bool check_read(const struct fields *fields, struct bench *bench)
     printf("  got %" PRIu32 "\t%" PRIu64 "\t%" PRIu64 "\t", got.answer, got.place, got.rows);
     print_list(inside(&bench->target), got.answer == ACCEPTED ? got.rows * ROW_NUMBERS * sizeof *rows : 0);
     printf("\n  payload %zu at %zu", payload.length, payload.start);
-    print_guards(&bench->source);
-    print_guards(&bench->target);
+    print_lent(&bench->source);
+    print_lent(&bench->target);
     return false;
 }
 
@@ -189,10 +189,10 @@ static bool check_write(const struct fields *fields, struct bench *bench)
         return true;
     printf("  got %" PRIu32 "\t%" PRIu64 "\t%" PRIu64 "\t", got.answer, got.place, got.rows);
     print_hex(output, got.answer == ACCEPTED ? got.place : 0);
-    print_guards(&bench->source);
-    print_guards(&bench->pool);
+    print_lent(&bench->source);
+    print_lent(&bench->pool);
     bench->target.length = got.answer == ACCEPTED ? got.place : 0;
-    print_guards(&bench->target);
+    print_lent(&bench->target);
     return false;
 }
 
@@ -203,7 +203,7 @@ static bool check_encoded(struct second_answer got, const struct fields *fields,
         && holds_only(&bench->target, bench->expected, expected))
         return true;
     printf("  got %" PRIu32 "\t%" PRIu64, got.answer, got.place);
-    print_guards(&bench->target);
+    print_lent(&bench->target);
     return false;
 }
 
@@ -223,18 +223,17 @@ static bool check_number(const struct fields *fields, struct bench *bench)
         && value == number(fields->text[4]) && holds_only(&bench->source, bench->given, length))
         return true;
     printf("  got %" PRIu32 "\t%" PRIu64 "\t%" PRIu64, got.answer, got.place, value);
-    print_guards(&bench->source);
+    print_lent(&bench->source);
     return false;
 }
 
 /* encode, kind, seven components, designator, room, answer, place, output */
 static bool check_date_encode(const struct fields *fields, struct bench *bench)
 {
-    struct second_date date = {0};
-    uint32_t parts[8] = {0};
+    uint32_t parts[7];
     list_bytes(fields->text[2], (uint8_t *)parts);
-    date = (struct second_date){parts[0], parts[1], parts[2], parts[3], parts[4], parts[5], parts[6],
-                                (uint32_t)number(fields->text[3])};
+    struct second_date date = {parts[0], parts[1], parts[2], parts[3],
+                               parts[4], parts[5], parts[6], (uint32_t)number(fields->text[3])};
     size_t room = number(fields->text[4]);
     uint8_t *output = lend(&bench->target, room);
     return check_encoded(second_date_encode((uint32_t)number(fields->text[1]), &date, output, room), fields, 5, bench);
@@ -256,7 +255,7 @@ static bool check_date_decode(const struct fields *fields, struct bench *bench)
         return true;
     printf("  got %" PRIu32 "\t%" PRIu64 "\t", got.answer, got.place);
     print_list((const uint8_t *)parts, sizeof parts);
-    print_guards(&bench->source);
+    print_lent(&bench->source);
     return false;
 }
 

@@ -32,7 +32,7 @@ struct measure {
     uint64_t lengths[ENVELOPES];
     uint64_t total;
     bool over_limit;
-    uint64_t over_limit_row; /* of the first envelope that there is no place for */
+    uint64_t over_limit_row; /* of the first envelope that answer 5 refuses */
 };
 
 static void look_ahead(struct writer *writer)
