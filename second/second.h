@@ -1,0 +1,61 @@
+/* Reader and writer of the FIPA bit-efficient message envelope, editions B (1) and D (2), as document 01 rules it.
+   The caller lends all memory. A refused call changes nothing lent; an accepted one only its rows or bytes. */
+#ifndef SECOND_H
+#define SECOND_H
+
+#include <stddef.h>
+#include <stdint.h>
+#include <stdio.h>
+
+/* Document 01, "Answers by number". */
+struct second_reply {
+    uint32_t answer;
+    uint64_t place;
+    uint64_t rows;
+};
+
+/* What a coder of plain values answers. */
+struct second_answer {
+    uint32_t answer;
+    uint64_t place;
+};
+
+/* A part of the caller's own input. */
+struct second_part {
+    size_t start;
+    size_t length;
+};
+
+struct second_date {
+    uint32_t year;
+    uint32_t month;
+    uint32_t day;
+    uint32_t hour;
+    uint32_t minute;
+    uint32_t second;
+    uint32_t millisecond;
+    uint32_t designator; /* 0 for none */
+};
+
+/* `rows_length` counts u32 numbers; four make a row, and the room is the whole rows among them. */
+struct second_reply second_read(uint32_t edition, const uint8_t *input, size_t length,
+                                uint32_t *rows, size_t rows_length);
+
+struct second_reply second_write(uint32_t edition, const uint32_t *rows, size_t rows_length,
+                                 const uint8_t *pool, size_t pool_length,
+                                 uint8_t *output, size_t output_length);
+
+/* The empty part at the front if the header is refused. */
+struct second_part second_payload(uint32_t edition, const uint8_t *input, size_t length);
+
+/* A refused decoder leaves 0 in every value. */
+struct second_answer second_number_decode(const uint8_t *bytes, size_t length, uint64_t *value);
+struct second_answer second_number_encode(uint64_t value, uint8_t *output, size_t room);
+struct second_answer second_date_decode(uint32_t kind, const uint8_t *bytes, size_t length, struct second_date *date);
+struct second_answer second_date_encode(uint32_t kind, const struct second_date *date, uint8_t *output, size_t room);
+
+/* The text of the listing program for this input. An input of SECOND_LISTING_INPUT + 1 bytes is already too long. */
+enum { SECOND_LISTING_INPUT = 65536, SECOND_LISTING_ROWS = 4096 };
+void second_listing(uint32_t edition, const uint8_t *input, size_t length, FILE *listing);
+
+#endif

@@ -1,0 +1,337 @@
+/* Runs the recorded cases of one folder: read.tsv, write.tsv, number.tsv and date.tsv. Each case is given its own lent
+   memory between guards, and the whole of it is compared afterwards. */
+#include "second.h"
+
+#include "rules.h"
+
+#include <inttypes.h>
+#include <stdbool.h>
+#include <stdlib.h>
+#include <string.h>
+
+enum { GUARD = 64, MOST_LENT = 1048576, PATTERN = 0xA5, MOST_FIELDS = 8, MOST_LINE = 65536 };
+
+/* Words, so that rows may be lent from it too. */
+struct lent {
+    uint32_t words[(GUARD + MOST_LENT + GUARD) / sizeof(uint32_t)];
+    size_t length;
+};
+
+/* What one case is run with; large, and used again for every case. */
+struct bench {
+    struct lent source; /* input, rows to write, or bytes to decode */
+    struct lent pool;
+    struct lent target; /* rows to fill, or output */
+    uint8_t expected[MOST_LENT];
+    uint8_t given[MOST_LENT];
+};
+
+struct fields {
+    char *text[MOST_FIELDS];
+    size_t count;
+};
+
+/* A checker prints what it got if that differs from the case. */
+typedef bool checker(const struct fields *fields, struct bench *bench);
+
+static uint8_t *inside(struct lent *lent)
+{
+    return (uint8_t *)lent->words + GUARD;
+}
+
+static uint8_t *lend(struct lent *lent, size_t length)
+{
+    if (length > MOST_LENT) {
+        fputs("a case lends more than this program holds\n", stderr);
+        exit(2);
+    }
+    lent->length = length;
+    memset(lent->words, PATTERN, GUARD + length + GUARD);
+    return inside(lent);
+}
+
+static uint8_t *lend_copy(struct lent *lent, const uint8_t *bytes, size_t length)
+{
+    uint8_t *copy = lend(lent, length);
+    memcpy(copy, bytes, length);
+    return copy;
+}
+
+static uint32_t *as_rows(uint8_t *lent)
+{
+    return (uint32_t *)(void *)lent;
+}
+
+/* The memory starts with these bytes, and all the rest of it, guards too, is as it was lent. */
+static bool holds_only(struct lent *lent, const uint8_t *bytes, size_t length)
+{
+    const uint8_t *all = (const uint8_t *)lent->words;
+    if (length > lent->length || memcmp(all + GUARD, bytes, length) != 0)
+        return false;
+    for (size_t place = 0; place < GUARD + lent->length + GUARD; place++) {
+        bool guard = place < GUARD || place >= GUARD + length;
+        if (guard && all[place] != PATTERN)
+            return false;
+    }
+    return true;
+}
+
+static uint64_t number(const char *text)
+{
+    return strtoull(text, NULL, 10);
+}
+
+static bool is_none(const char *text)
+{
+    return text[0] == '\0' || strcmp(text, "-") == 0;
+}
+
+static unsigned hex_digit(char digit)
+{
+    return digit <= '9' ? (unsigned)(digit - '0') : (unsigned)(digit - 'a' + 10);
+}
+
+static size_t hex_bytes(const char *text, uint8_t *bytes)
+{
+    size_t length = 0;
+    if (is_none(text))
+        return 0;
+    for (; text[0] != '\0' && text[1] != '\0'; text += 2)
+        bytes[length++] = (uint8_t)(hex_digit(text[0]) << 4 | hex_digit(text[1]));
+    return length;
+}
+
+/* The numbers of a comma list, as they lie in memory; answers the bytes they take. */
+static size_t list_bytes(const char *text, uint8_t *bytes)
+{
+    size_t length = 0;
+    if (is_none(text))
+        return 0;
+    for (const char *item = text; item != NULL; item = strchr(item, ',')) {
+        item += *item == ',';
+        uint32_t value = (uint32_t)number(item);
+        memcpy(bytes + length, &value, sizeof value);
+        length += sizeof value;
+    }
+    return length;
+}
+
+static void print_hex(const uint8_t *bytes, size_t length)
+{
+    for (size_t place = 0; place < length; place++)
+        printf("%02x", bytes[place]);
+}
+
+static void print_list(const uint8_t *bytes, size_t length)
+{
+    for (size_t place = 0; place < length; place += sizeof(uint32_t)) {
+        uint32_t value;
+        memcpy(&value, bytes + place, sizeof value);
+        printf("%s%" PRIu32, place == 0 ? "" : ",", value);
+    }
+}
+
+static void print_lent(struct lent *lent)
+{
+    printf("\n  lent ");
+    print_hex(inside(lent) - GUARD, GUARD);
+    printf(" | ");
+    print_hex(inside(lent), lent->length);
+    printf(" | ");
+    print_hex(inside(lent) + lent->length, GUARD);
+}
+
+/* edition, row room, input, answer, place, rows, rows themselves */
+static bool check_read(const struct fields *fields, struct bench *bench)
+{
+    uint32_t edition = (uint32_t)number(fields->text[0]);
+    size_t room = number(fields->text[1]) * ROW_NUMBERS;
+    size_t length = hex_bytes(fields->text[2], bench->given);
+    uint32_t answer = (uint32_t)number(fields->text[3]);
+    uint64_t place = number(fields->text[4]);
+    size_t expected = list_bytes(fields->text[6], bench->expected);
+    uint8_t *input = lend_copy(&bench->source, bench->given, length);
+    uint32_t *rows = as_rows(lend(&bench->target, room * sizeof *rows));
+
+    struct second_reply got = second_read(edition, input, length, rows, room);
+    struct second_part payload = second_payload(edition, input, length);
+    bool well = answer == ACCEPTED || answer == ROOM_EXCEEDED;
+    if (got.answer == answer && got.place == place && got.rows == number(fields->text[5])
+        && payload.start == (well ? place : 0) && payload.length == (well ? length - place : 0)
+        && holds_only(&bench->source, bench->given, length) && holds_only(&bench->target, bench->expected, expected))
+        return true;
+    printf("  got %" PRIu32 "\t%" PRIu64 "\t%" PRIu64 "\t", got.answer, got.place, got.rows);
+    print_list(inside(&bench->target), got.answer == ACCEPTED ? got.rows * ROW_NUMBERS * sizeof *rows : 0);
+    printf("\n  payload %zu at %zu", payload.length, payload.start);
+    print_lent(&bench->source);
+    print_lent(&bench->target);
+    return false;
+}
+
+/* edition, rows themselves, pool, output room, answer, place, rows, output */
+static bool check_write(const struct fields *fields, struct bench *bench)
+{
+    uint32_t edition = (uint32_t)number(fields->text[0]);
+    size_t rows_bytes = list_bytes(fields->text[1], bench->given);
+    const uint32_t *rows = as_rows(lend_copy(&bench->source, bench->given, rows_bytes));
+    size_t pool_length = hex_bytes(fields->text[2], bench->given);
+    const uint8_t *pool = lend_copy(&bench->pool, bench->given, pool_length);
+    size_t room = number(fields->text[3]);
+    uint8_t *output = lend(&bench->target, room);
+
+    struct second_reply got = second_write(edition, rows, rows_bytes / sizeof *rows, pool, pool_length, output, room);
+    bool sources = holds_only(&bench->pool, bench->given, pool_length);
+    list_bytes(fields->text[1], bench->given);
+    sources = sources && holds_only(&bench->source, bench->given, rows_bytes);
+    size_t expected = hex_bytes(fields->text[7], bench->expected);
+    if (got.answer == number(fields->text[4]) && got.place == number(fields->text[5])
+        && got.rows == number(fields->text[6]) && sources && holds_only(&bench->target, bench->expected, expected))
+        return true;
+    printf("  got %" PRIu32 "\t%" PRIu64 "\t%" PRIu64 "\t", got.answer, got.place, got.rows);
+    print_hex(output, got.answer == ACCEPTED ? got.place : 0);
+    print_lent(&bench->source);
+    print_lent(&bench->pool);
+    bench->target.length = got.answer == ACCEPTED ? got.place : 0;
+    print_lent(&bench->target);
+    return false;
+}
+
+static bool check_encoded(struct second_answer got, const struct fields *fields, size_t first, struct bench *bench)
+{
+    size_t expected = hex_bytes(fields->text[first + 2], bench->expected);
+    if (got.answer == number(fields->text[first]) && got.place == number(fields->text[first + 1])
+        && holds_only(&bench->target, bench->expected, expected))
+        return true;
+    printf("  got %" PRIu32 "\t%" PRIu64, got.answer, got.place);
+    print_lent(&bench->target);
+    return false;
+}
+
+/* encode, value, room, answer, place, output; or decode, input, answer, place, value */
+static bool check_number(const struct fields *fields, struct bench *bench)
+{
+    if (strcmp(fields->text[0], "encode") == 0) {
+        size_t room = number(fields->text[2]);
+        uint8_t *output = lend(&bench->target, room);
+        return check_encoded(second_number_encode(number(fields->text[1]), output, room), fields, 3, bench);
+    }
+    size_t length = hex_bytes(fields->text[1], bench->given);
+    const uint8_t *input = lend_copy(&bench->source, bench->given, length);
+    uint64_t value = UINT64_MAX;
+    struct second_answer got = second_number_decode(input, length, &value);
+    if (got.answer == number(fields->text[2]) && got.place == number(fields->text[3])
+        && value == number(fields->text[4]) && holds_only(&bench->source, bench->given, length))
+        return true;
+    printf("  got %" PRIu32 "\t%" PRIu64 "\t%" PRIu64, got.answer, got.place, value);
+    print_lent(&bench->source);
+    return false;
+}
+
+/* encode, kind, seven components, designator, room, answer, place, output */
+static bool check_date_encode(const struct fields *fields, struct bench *bench)
+{
+    uint32_t parts[7];
+    list_bytes(fields->text[2], (uint8_t *)parts);
+    struct second_date date = {parts[0], parts[1], parts[2], parts[3],
+                               parts[4], parts[5], parts[6], (uint32_t)number(fields->text[3])};
+    size_t room = number(fields->text[4]);
+    uint8_t *output = lend(&bench->target, room);
+    return check_encoded(second_date_encode((uint32_t)number(fields->text[1]), &date, output, room), fields, 5, bench);
+}
+
+/* decode, kind, input, answer, place, eight values */
+static bool check_date_decode(const struct fields *fields, struct bench *bench)
+{
+    size_t length = hex_bytes(fields->text[2], bench->given);
+    const uint8_t *input = lend_copy(&bench->source, bench->given, length);
+    struct second_date date;
+    memset(&date, PATTERN, sizeof date);
+    struct second_answer got = second_date_decode((uint32_t)number(fields->text[1]), input, length, &date);
+    uint32_t parts[8] = {date.year,   date.month,  date.day,         date.hour,
+                         date.minute, date.second, date.millisecond, date.designator};
+    list_bytes(fields->text[5], bench->expected);
+    if (got.answer == number(fields->text[3]) && got.place == number(fields->text[4])
+        && memcmp(parts, bench->expected, sizeof parts) == 0 && holds_only(&bench->source, bench->given, length))
+        return true;
+    printf("  got %" PRIu32 "\t%" PRIu64 "\t", got.answer, got.place);
+    print_list((const uint8_t *)parts, sizeof parts);
+    print_lent(&bench->source);
+    return false;
+}
+
+static bool check_date(const struct fields *fields, struct bench *bench)
+{
+    return strcmp(fields->text[0], "encode") == 0 ? check_date_encode(fields, bench)
+                                                  : check_date_decode(fields, bench);
+}
+
+static struct fields split(char *line)
+{
+    struct fields fields = {.count = 0};
+    for (char *field = line; field != NULL && fields.count < MOST_FIELDS;) {
+        fields.text[fields.count++] = field;
+        field = strchr(field, '\t');
+        if (field != NULL)
+            *field++ = '\0';
+    }
+    return fields;
+}
+
+struct tally {
+    unsigned passed;
+    unsigned failed;
+};
+
+static void check_line(const char *name, unsigned row, const char *line, checker *check, struct bench *bench,
+                       struct tally *tally)
+{
+    char copy[MOST_LINE];
+    strcpy(copy, line);
+    struct fields fields = split(copy);
+    for (size_t missing = fields.count; missing < MOST_FIELDS; missing++)
+        fields.text[missing] = "";
+    if (check(&fields, bench)) {
+        tally->passed++;
+        return;
+    }
+    printf("\n  for %s line %u: %s\n", name, row, line);
+    tally->failed++;
+}
+
+static void check_file(const char *folder, const char *name, checker *check, struct bench *bench, struct tally *tally)
+{
+    char path[4096];
+    char line[MOST_LINE];
+    snprintf(path, sizeof path, "%s/%s", folder, name);
+    FILE *file = fopen(path, "r");
+    if (file == NULL) {
+        perror(path);
+        exit(2);
+    }
+    for (unsigned row = 1; fgets(line, sizeof line, file) != NULL; row++) {
+        size_t end = strcspn(line, "\n");
+        if (line[end] == '\0') {
+            fprintf(stderr, "%s line %u is too long or has no end\n", path, row);
+            exit(2);
+        }
+        line[end] = '\0';
+        check_line(name, row, line, check, bench, tally);
+    }
+    fclose(file);
+}
+
+int main(int count, char **arguments)
+{
+    static struct bench bench;
+    struct tally tally = {0};
+    if (count != 2) {
+        fputs("usage: vectors folder\n", stderr);
+        return 2;
+    }
+    check_file(arguments[1], "read.tsv", check_read, &bench, &tally);
+    check_file(arguments[1], "write.tsv", check_write, &bench, &tally);
+    check_file(arguments[1], "number.tsv", check_number, &bench, &tally);
+    check_file(arguments[1], "date.tsv", check_date, &bench, &tally);
+    printf("%u passed, %u failed\n", tally.passed, tally.failed);
+    return tally.failed == 0 ? 0 : 1;
+}
