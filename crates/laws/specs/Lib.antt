@@ -1,3 +1,8 @@
 -- Laws of the meaning, each file by those before it.
 pub mod Logic
 pub mod From
+pub mod Values
+pub mod Tables
+pub mod Lookups
+pub mod Steps
+pub mod Fits
