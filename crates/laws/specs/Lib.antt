@@ -6,3 +6,4 @@ pub mod Tables
 pub mod Lookups
 pub mod Steps
 pub mod Fits
+pub mod WrittenRead
