@@ -7,3 +7,4 @@ pub mod Lookups
 pub mod Steps
 pub mod Fits
 pub mod WrittenRead
+pub mod Crossing
