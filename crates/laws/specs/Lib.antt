@@ -8,3 +8,4 @@ pub mod Steps
 pub mod Fits
 pub mod WrittenRead
 pub mod Crossing
+pub mod ReadWritten
