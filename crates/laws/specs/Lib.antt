@@ -9,3 +9,4 @@ pub mod Fits
 pub mod WrittenRead
 pub mod Crossing
 pub mod ReadWritten
+pub mod Envelopes
