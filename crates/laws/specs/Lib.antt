@@ -10,3 +10,4 @@ pub mod WrittenRead
 pub mod Crossing
 pub mod ReadWritten
 pub mod Envelopes
+pub mod Views

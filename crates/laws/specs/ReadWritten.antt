@@ -311,17 +311,17 @@ fit-own e st m v i q d ok =
 
 -- What a step tells
 
-record Stepping (e : Edition) (st : State) (s : List ℕ) (st₁ : State) (rs : List Seen) (s₁ : List ℕ) : Type 0 where
-  by : Move
-  view : List ℕ
-  member : In by (moves e (st .room))
-  flat : tooDeep by st ≡ false
-  ok : T (valid (by .form) (by .code) view)
-  to : go (by .next) st ≡ st₁
-  rows : seenBy (by .form) (by .kind) (st .level) view s₁ ≡ rs
-  out : s ≡ (lead by ++ writeValue (by .form) view) ++ s₁
+pub record Stepping (e : Edition) (st : State) (s : List ℕ) (st₁ : State) (rs : List Seen) (s₁ : List ℕ) : Type 0 where
+  pub by : Move
+  pub view : List ℕ
+  pub member : In by (moves e (st .room))
+  pub flat : tooDeep by st ≡ false
+  pub ok : T (valid (by .form) (by .code) view)
+  pub to : go (by .next) st ≡ st₁
+  pub rows : seenBy (by .form) (by .kind) (st .level) view s₁ ≡ rs
+  pub out : s ≡ (lead by ++ writeValue (by .form) view) ++ s₁
 
-abbrev Stepped : Edition → State → List ℕ → Step → Type 0
+abbrev pub Stepped : Edition → State → List ℕ → Step → Type 0
 Stepped e st s (fails refusal left) = Unit {0}
 Stepped e st s (over t) = (isClosed (st .room) ≡ true) × (s ≡ t)
 Stepped e st s (next st₁ rs s₁) = Stepping e st s st₁ rs s₁
@@ -360,7 +360,7 @@ stepped-found e st b s (hit m) t i =
     stepped-deep e st m b s (takeValue (m .form) (suc (length s)) (m .code) (valueFrom m b s)) (i .0) (i .1) (tooDeep m st) refl
     (value-out (m .form) (suc (length s)) (m .code) (valueFrom m b s) (from-bytes b s (hasCode noCode m) t))
 
-stepped : (e : Edition) (st : State) (s : List ℕ) → T (areBytes s) → Stepped e st s (step e st s)
+pub stepped : (e : Edition) (st : State) (s : List ℕ) → T (areBytes s) → Stepped e st s (step e st s)
 unfolding step
 stepped e st [] t = stepped-end e st [] 6 0 (isClosed (st .room)) refl
 stepped e st (b ∷ s) t = stepped-found e st b s (look b (moves e (st .room))) t (looked b (moves e (st .room)))
@@ -380,7 +380,7 @@ quiet-writes itself v q = cc
 quiet-writes opens v q = cc
 quiet-writes quiet v q = refl
 
-rows-inv : (rs : List Seen) (o : Out) (rows : List Seen) (rest : List ℕ) → withRows rs o ≡ done rows rest → (ts : List Seen) × (o ≡ done ts rest) × (rows ≡ rs ++ ts)
+pub rows-inv : (rs : List Seen) (o : Out) (rows : List Seen) (rest : List ℕ) → withRows rs o ≡ done rows rest → (ts : List Seen) × (o ≡ done ts rest) × (rows ≡ rs ++ ts)
 rows-inv rs dry rows rest q = let z : _≡_ {A = ℕ} 0 1 = cc in absurd (omega arith)
 rows-inv rs (fault refusal left) rows rest q = let z : _≡_ {A = ℕ} 0 1 = cc in absurd (omega arith)
 rows-inv rs (done ts s) rows rest q = (ts, cc, cc)
