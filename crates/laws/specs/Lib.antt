@@ -11,3 +11,4 @@ pub mod Crossing
 pub mod ReadWritten
 pub mod Envelopes
 pub mod Views
+pub mod HeaderWritten

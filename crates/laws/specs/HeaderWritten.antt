@@ -1,0 +1,221 @@
+-- An accepted input is a header that the writer gives for the table read, with the payload behind it; its rows view that header.
+-- By induction over the envelopes: each one's head is the only one that the writer gives for its length.
+use Prim.Native.Nat.{ℕ, zero, suc, _+_, _-_, _*_, _/_, _%_, _≤_, _<_}
+use mathlib.Core.List.{List, [], _∷_, _++_, append-assoc, append-nil, map}
+use mathlib.Core.Bool.{Bool, true, false}
+use mathlib.Core.Path.{_≡_, refl, ap, sym, _∙_, subst}
+use native.Mathlib.Omega.{arith}
+use lib.Dec.{T, eqb, leb, ltb}
+use lib.ListN.{length, take, drop, length-append, length-take}
+use lib.ListN.{take-append-drop}
+use borrow.Author.Tests.{eqb-true, le-leb, lt-leb, ltb-false}
+use Rattle.meaning.specs.Basics.{pick}
+use Rattle.meaning.specs.Bytes.{Count, counted, short, highFirst}
+use Rattle.meaning.specs.Editions.{Edition, State}
+use Rattle.meaning.specs.Reading.{Row, Seen, rowOf, Out, dry, fault, done, inside}
+use Rattle.meaning.specs.Headers.{Placed, placedRow, placed, meant, Answer, refused, accepted, behind, envelopeMost, opening, start, ends, envelope, shortLeast, longLeast, longForm, sized, Identifier, extension, base, neither, identifierOf, identified, seventeenth, header}
+use Rattle.meaning.specs.Writing.{fits, isShort, envelopeSize, withinLimit, envelopeLength, wrap}
+use Rattle.laws.specs.Logic.{areBytes, first-byte, other-bytes, bytes-front, bytes-behind}
+use Rattle.laws.specs.WrittenRead.{fitAll}
+use Rattle.laws.specs.ReadWritten.{Back, all-read-written}
+use Rattle.laws.specs.Views.{AllSeen, inside-seen, PlacedIn, AllIn, all-in-append, all-in-behind, all-placed}
+use Rattle.laws.specs.Envelopes.{openingRow, Writes, the-base, before, wrap-length, placed-meant, map-append}
+
+-- what stands behind an accepted answer
+pub record Whole (k : ℕ) (e : Edition) (at : ℕ) (s : List ℕ) (p : ℕ) (rows : List Placed) : Type 0 where
+  pub count : ℕ
+  pub bytes : List ℕ
+  pub payload : List ℕ
+  pub few : count ≤ k
+  pub written : Writes e count (map meant rows) bytes
+  pub parts : s ≡ bytes ++ payload
+  pub place : p ≡ at + length bytes
+  pub views : AllIn at bytes rows
+
+abbrev pub Again : ℕ → Edition → ℕ → List ℕ → Answer → Type 0
+Again k e at s (refused refusal place) = Unit {0}
+Again k e at s (accepted p rows) = Whole k e at s p rows
+
+limit-within : (n : ℕ) → envelopeSize n ≤ envelopeMost → withinLimit n ≡ true
+limit-within n h = le-leb (envelopeSize n) envelopeMost h
+
+-- the rows of one envelope, in its bytes and what follows
+module _ (b : Bool) (at : ℕ) (t w : List ℕ) (rs : List Seen) (seen-in : AllSeen t rs) where
+  abbrev size : ℕ
+  size = envelopeSize (length t)
+
+  head-length : length (pick b 0xfe 0xfd ∷ envelopeLength (length t)) + length t ≡ size
+  head-length = omega (arith, wrap-length b t, length-append (envelopeLength (length t)) t)
+
+  own-in : AllIn at (wrap b t ++ w) (placedRow (opening b) 0 at [] ∷ map (placed (at + size)) rs)
+  own-in = (
+    ([], wrap b t ++ w, refl, omega arith),
+    all-placed at (at + size) (pick b 0xfe 0xfd ∷ envelopeLength (length t)) t w rs (omega (arith, head-length)) seen-in,
+  )
+
+base-again : (k : ℕ) (e : Edition) (at : ℕ) (s t rest : List ℕ) (rs : List Seen) (st : State) → envelopeSize (length t) ≤ envelopeMost → fitAll e (map rowOf rs) (start true) ≡ fits st t → AllSeen t rs → s ≡ wrap true t ++ rest
+    → Whole (suc k) e at s (at + envelopeSize (length t)) (placedRow (opening true) 0 at [] ∷ map (placed (at + envelopeSize (length t))) rs)
+base-again k e at s t rest rs st small q i qs =
+    let n = envelopeSize (length t) in
+    record {
+      count = 1;
+      bytes = wrap true t;
+      payload = rest;
+      few = omega arith;
+      written = subst (λ (x : List Row). Writes e 1 (openingRow true ∷ x) (wrap true t)) (sym (placed-meant (at + n) rs)) (the-base (map rowOf rs) st t q (limit-within (length t) small));
+      parts = qs;
+      place = ap (λ (x : ℕ). at + x) (sym (wrap-length true t));
+      views = subst (λ (x : List ℕ). AllIn at x (placedRow (opening true) 0 at [] ∷ map (placed (at + n)) rs)) (append-nil (wrap true t)) (own-in true at t [] rs i);
+    }
+
+next-again : (k : ℕ) (e : Edition) (at : ℕ) (s t rest : List ℕ) (rs : List Seen) (st : State) (a : Answer) → envelopeSize (length t) ≤ envelopeMost → fitAll e (map rowOf rs) (start false) ≡ fits st t → AllSeen t rs → s ≡ wrap false t ++ rest
+    → Again k e (at + envelopeSize (length t)) rest a → Again (suc k) e at s (behind (placedRow (opening false) 0 at [] ∷ []) (behind (map (placed (at + envelopeSize (length t))) rs) a))
+next-again k e at s t rest rs st (refused refusal place) small q i qs w = tt
+next-again k e at s t rest rs st (accepted p ts) small q i qs w =
+    let n = envelopeSize (length t) in
+    let h = w .few in
+    let table : map meant (map (placed (at + n)) rs ++ ts) ≡ map rowOf rs ++ map meant ts = map-append (map (placed (at + n)) rs) ts ∙ ap (λ (x : List Row). x ++ map meant ts) (placed-meant (at + n) rs) in
+    record {
+      count = suc (w .count);
+      bytes = wrap false t ++ w .bytes;
+      payload = w .payload;
+      few = omega arith;
+      written = subst (λ (x : List Row). Writes e (suc (w .count)) (openingRow false ∷ x) (wrap false t ++ w .bytes)) (sym table)
+          (before (map rowOf rs) (map meant ts) st t (w .bytes) (w .count) q (limit-within (length t) small) (w .written));
+      parts = qs ∙ ap (λ (x : List ℕ). wrap false t ++ x) (w .parts) ∙ sym (append-assoc (wrap false t) (w .bytes) (w .payload));
+      place = omega (arith, w .place, length-append (wrap false t) (w .bytes), wrap-length false t);
+      views = all-in-append at (wrap false t ++ w .bytes) (placedRow (opening false) 0 at [] ∷ map (placed (at + n)) rs) ts (own-in false at t (w .bytes) rs i)
+          (all-in-behind at n (wrap false t) (w .bytes) ts (wrap-length false t) (w .views));
+    }
+
+abbrev Ih : ℕ → Edition → Type 0
+Ih k e = (at : ℕ) (s : List ℕ) → T (areBytes s) → Again k e at s (header k e at s)
+
+-- the inside was read to its end
+ends-done : (k : ℕ) (e : Edition) (b : Bool) (at : ℕ) (s t rest : List ℕ) (rs : List Seen) (st : State) → Ih k e → T (areBytes rest) → envelopeSize (length t) ≤ envelopeMost → fitAll e (map rowOf rs) (start b) ≡ fits st t → AllSeen t rs → s ≡ wrap b t ++ rest
+    → Again (suc k) e at s (behind (placedRow (opening b) 0 at [] ∷ []) (ends b (at + envelopeSize (length t)) rest (header k e) (done rs [])))
+ends-done k e true at s t rest rs st ih tr small q i qs = base-again k e at s t rest rs st small q i qs
+ends-done k e false at s t rest rs st ih tr small q i qs =
+    let n = envelopeSize (length t) in
+    next-again k e at s t rest rs st (header k e (at + n) rest) small q i qs (ih (at + n) rest tr)
+
+back-fits : (e : Edition) (b : Bool) (t : List ℕ) (rs : List Seen) → Back e (start b) t rs [] → (st : State) × (fitAll e (map rowOf rs) (start b) ≡ fits st t)
+back-fits e b t rs (st, bs, q, qs) = (st, q ∙ ap (fits st) (sym (qs ∙ append-nil bs)))
+
+ends-again : (k : ℕ) (e : Edition) (b : Bool) (at : ℕ) (s t rest : List ℕ) (o : Out) → Ih k e → T (areBytes t) → T (areBytes rest) → envelopeSize (length t) ≤ envelopeMost → s ≡ wrap b t ++ rest → inside e (start b) t ≡ o
+    → Again (suc k) e at s (behind (placedRow (opening b) 0 at [] ∷ []) (ends b (at + envelopeSize (length t)) rest (header k e) o))
+ends-again k e b at s t rest dry ih bt br small qs q = tt
+ends-again k e b at s t rest (fault refusal left) ih bt br small qs q = tt
+ends-again k e b at s t rest (done rs (c ∷ v)) ih bt br small qs q = tt
+ends-again k e b at s t rest (done rs []) ih bt br small qs q =
+    let (st, f) = back-fits e b t rs (all-read-written e (start b) t [] rs bt q) in
+    ends-done k e b at s t rest rs st ih br small f (inside-seen e (start b) t [] rs bt q) qs
+
+-- a head of `head` bytes with the length n is the one that the writer gives
+abbrev Heads : Bool → List ℕ → List ℕ → ℕ → ℕ → ℕ → Type 0
+Heads b s u least head n = least ≤ n → n ≤ envelopeMost → (t rest : List ℕ) → u ≡ t ++ rest → length t ≡ n - head → (s ≡ wrap b t ++ rest) × (envelopeSize (length t) ≡ n)
+
+module _ (k : ℕ) (e : Edition) (b : Bool) (at : ℕ) (s u : List ℕ) (least head n : ℕ) (ih : Ih k e) (bu : T (areBytes u)) (h : Heads b s u least head n) where
+  abbrev read-of : Answer
+  read-of = behind (placedRow (opening b) 0 at [] ∷ []) (ends b (at + n) (drop (n - head) u) (header k e) (inside e (start b) (take (n - head) u)))
+
+  envelope-whole : least ≤ n → n ≤ envelopeMost → n ≤ head + length u → Again (suc k) e at s read-of
+  envelope-whole lo hi all =
+      let t = take (n - head) u in
+      let rest = drop (n - head) u in
+      let c : u ≡ t ++ rest = sym (take-append-drop (n - head) u) in
+      let bs : T (areBytes (t ++ rest)) = subst (λ (x : List ℕ). T (areBytes x)) c bu in
+      let (qs, qn) = h lo hi t rest c (omega (arith, length-take (n - head) u)) in
+      let small : envelopeSize (length t) ≤ envelopeMost = omega arith in
+      subst (λ (x : ℕ). Again (suc k) e at s (behind (placedRow (opening b) 0 at [] ∷ []) (ends b (at + x) rest (header k e) (inside e (start b) t)))) qn
+      (ends-again k e b at s t rest (inside e (start b) t) ih (bytes-front t rest bs) (bytes-behind t rest bs) small qs refl)
+
+  envelope-picks : (x y z : Bool) → ltb n least ≡ x → ltb envelopeMost n ≡ y → ltb (head + length u) n ≡ z
+      → Again (suc k) e at s (pick x (refused 4 (at + 1)) (pick y (refused 5 (at + 1)) (pick z (refused 2 (at + head + length u)) read-of)))
+  envelope-picks true y z p q r = tt
+  envelope-picks false true z p q r = tt
+  envelope-picks false false true p q r = tt
+  envelope-picks false false false p q r = envelope-whole (ltb-false n least p) (ltb-false envelopeMost n q) (ltb-false (head + length u) n r)
+
+  envelope-again : Again (suc k) e at s (envelope e b least at head n u (header k e))
+  unfolding envelope
+  envelope-again = envelope-picks (ltb n least) (ltb envelopeMost n) (ltb (head + length u) n) refl refl refl
+
+-- the two forms of the length
+short-heads : (b : Bool) (i x y : ℕ) (u : List ℕ) (n : ℕ) → i ≡ pick b 0xfe 0xfd → x < 256 → y < 256 → n ≡ 256 * x + y → Heads b (i ∷ x ∷ y ∷ u) u shortLeast 3 n
+short-heads b i x y u n qi hx hy qn lo hi t rest qu ql =
+    let m = 3 + length t in
+    let h : m ≤ 65535 = omega arith in
+    let e₀ : m / 256 ≡ x = omega arith in
+    let e₁ : m % 256 ≡ y = omega arith in
+    let e₂ : m ≡ n = omega arith in
+    (rw (le-leb m 65535 h, qu, qi) (rw (e₀, e₁) refl), rw (le-leb m 65535 h) e₂)
+
+long-heads : (b : Bool) (i x y p q r d : ℕ) (u : List ℕ) (n : ℕ) → i ≡ pick b 0xfe 0xfd → x ≡ 0 → y ≡ 0 → p < 256 → q < 256 → r < 256 → d < 256 → n ≡ 16777216 * p + 65536 * q + 256 * r + d
+    → Heads b (i ∷ x ∷ y ∷ p ∷ q ∷ r ∷ d ∷ u) u longLeast 7 n
+long-heads b i x y p q r d u n qi qx qy hp hq hr hd qn lo hi t rest qu ql =
+    let m = 7 + length t in
+    let h : 65535 < 3 + length t = omega arith in
+    let e₀ : m / 16777216 ≡ p = omega arith in
+    let e₁ : m / 65536 % 256 ≡ q = omega arith in
+    let e₂ : m / 256 % 256 ≡ r = omega arith in
+    let e₃ : m % 256 ≡ d = omega arith in
+    let e₄ : m ≡ n = omega arith in
+    (rw (lt-leb (3 + length t) 65535 h, qu, qi, qx, qy) (rw (e₀, e₁, e₂, e₃) refl), rw (lt-leb (3 + length t) 65535 h) e₄)
+
+long-again : (k : ℕ) (e : Edition) (b : Bool) (at i x y all : ℕ) (u : List ℕ) → Ih k e → T (areBytes u) → i ≡ pick b 0xfe 0xfd → x ≡ 0 → y ≡ 0
+    → Again (suc k) e at (i ∷ x ∷ y ∷ u) (longForm e b at all (header k e) (highFirst 4 0 u))
+unfolding highFirst
+long-again k e b at i x y all [] ih t qi qx qy = tt
+long-again k e b at i x y all (p ∷ []) ih t qi qx qy = tt
+long-again k e b at i x y all (p ∷ (q ∷ [])) ih t qi qx qy = tt
+long-again k e b at i x y all (p ∷ (q ∷ (r ∷ []))) ih t qi qx qy = tt
+long-again k e b at i x y all (p ∷ (q ∷ (r ∷ (d ∷ u)))) ih t qi qx qy =
+    let t₁ = other-bytes p (q ∷ (r ∷ (d ∷ u))) t in let t₂ = other-bytes q (r ∷ (d ∷ u)) t₁ in let t₃ = other-bytes r (d ∷ u) t₂ in
+    let n : ℕ = 256 * (256 * (256 * (256 * 0 + p) + q) + r) + d in
+    envelope-again k e b at (i ∷ x ∷ y ∷ p ∷ q ∷ r ∷ d ∷ u) u longLeast 7 n ih (other-bytes d u t₃)
+    (long-heads b i x y p q r d u n qi qx qy (first-byte p (q ∷ (r ∷ (d ∷ u))) t) (first-byte q (r ∷ (d ∷ u)) t₁) (first-byte r (d ∷ u) t₂) (first-byte d u t₃) (omega arith))
+
+sized-pick : (k : ℕ) (e : Edition) (b : Bool) (at i x y all : ℕ) (u : List ℕ) (z : Bool) → Ih k e → T (areBytes u) → i ≡ pick b 0xfe 0xfd → x < 256 → y < 256 → eqb (256 * (256 * 0 + x) + y) 0 ≡ z
+    → Again (suc k) e at (i ∷ x ∷ y ∷ u) (pick z (longForm e b at all (header k e) (highFirst 4 0 u)) (envelope e b shortLeast at 3 (256 * (256 * 0 + x) + y) u (header k e)))
+sized-pick k e b at i x y all u true ih t qi hx hy q =
+    let c = eqb-true (256 * (256 * 0 + x) + y) 0 q in
+    long-again k e b at i x y all u ih t qi (omega arith) (omega arith)
+sized-pick k e b at i x y all u false ih t qi hx hy q =
+    let n : ℕ = 256 * (256 * 0 + x) + y in
+    envelope-again k e b at (i ∷ x ∷ y ∷ u) u shortLeast 3 n ih t (short-heads b i x y u n qi hx hy (omega arith))
+
+sized-again : (k : ℕ) (e : Edition) (b : Bool) (at i all : ℕ) (s : List ℕ) → Ih k e → T (areBytes s) → i ≡ pick b 0xfe 0xfd → Again (suc k) e at (i ∷ s) (sized e b at all (header k e) (highFirst 2 0 s))
+unfolding highFirst
+sized-again k e b at i all [] ih t qi = tt
+sized-again k e b at i all (x ∷ []) ih t qi = tt
+sized-again k e b at i all (x ∷ (y ∷ u)) ih t qi =
+    let t₁ = other-bytes x (y ∷ u) t in
+    sized-pick k e b at i x y all u (eqb (256 * (256 * 0 + x) + y) 0) ih (other-bytes y u t₁) qi (first-byte x (y ∷ u) t) (first-byte y u t₁) refl
+
+abbrev Identifies : ℕ → Identifier → Type 0
+Identifies b extension = b ≡ 0xfd
+Identifies b base = b ≡ 0xfe
+Identifies b neither = Unit {0}
+
+identifies : (b : ℕ) (x y : Bool) → eqb b 0xfd ≡ x → eqb b 0xfe ≡ y → Identifies b (pick x extension (pick y base neither))
+identifies b true y p q = eqb-true b 0xfd p
+identifies b false true p q = eqb-true b 0xfe q
+identifies b false false p q = tt
+
+identified-again : (k : ℕ) (e : Edition) (at b : ℕ) (s : List ℕ) (i : Identifier) → Ih k e → T (areBytes s) → Identifies b i → Again (suc k) e at (b ∷ s) (identified e at s (header k e) i)
+identified-again k e at b s extension ih t q = sized-again k e false at b (suc (length s)) s ih t q
+identified-again k e at b s base ih t q = sized-again k e true at b (suc (length s)) s ih t q
+identified-again k e at b s neither ih t q = tt
+
+seventeenth-again : (e : Edition) (at : ℕ) (s : List ℕ) (i : Identifier) → Again 0 e at s (seventeenth at i)
+seventeenth-again e at s extension = tt
+seventeenth-again e at s base = tt
+seventeenth-again e at s neither = tt
+
+pub header-written : (k : ℕ) (e : Edition) (at : ℕ) (s : List ℕ) → T (areBytes s) → Again k e at s (header k e at s)
+unfolding header
+header-written zero e at [] t = tt
+header-written zero e at (b ∷ s) t = seventeenth-again e at (b ∷ s) (identifierOf b)
+header-written (suc k) e at [] t = tt
+header-written (suc k) e at (b ∷ s) t = identified-again k e at b s (identifierOf b) (header-written k e) (other-bytes b s t) (identifies b (eqb b 0xfd) (eqb b 0xfe) refl refl)
