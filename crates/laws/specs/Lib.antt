@@ -12,3 +12,4 @@ pub mod ReadWritten
 pub mod Envelopes
 pub mod Views
 pub mod HeaderWritten
+pub mod Plans
