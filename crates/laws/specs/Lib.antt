@@ -13,3 +13,4 @@ pub mod Envelopes
 pub mod Views
 pub mod HeaderWritten
 pub mod Plans
+pub mod Fifteen

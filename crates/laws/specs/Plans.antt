@@ -25,7 +25,7 @@ empty-is : (v : List ℕ) → T (isEmpty v) → v ≡ []
 empty-is [] t = refl
 empty-is (b ∷ v) t = absurd t
 
-abbrev OpensIs : Row → Opens → Type 0
+abbrev pub OpensIs : Row → Opens → Type 0
 OpensIs row innerRow = Unit {0}
 OpensIs row (envelopeRow b) = row ≡ openingRow b
 
@@ -234,47 +234,51 @@ written-writes e room cs w q = subst (WrittenIs e room cs) q (written-is e room 
 
 -- The other way: every table of envelopes is written
 
-abbrev pub Planned : Edition → List Cell → ℕ → Bool → State → List ℕ → List ℕ → ℕ → Type 0
-Planned e cs i b st bs w n = (vs : List Envelope) × (planOf e cs i b st ≡ plan bs vs) × (headerOf vs ≡ w) × (limits n vs ≡ fine)
+-- the rows from row i on make a plan whose envelopes have the property Q
+module _ (e : Edition) (Q : List Envelope → Type 0) where
+  abbrev pub Planned : List Cell → ℕ → Bool → State → List ℕ → Type 0
+  Planned cs i b st bs = (vs : List Envelope) × (planOf e cs i b st ≡ plan bs vs) × Q vs
 
-plan-row : (e : Edition) (row : Row) (cs : List Cell) (i : ℕ) (b : Bool) (st st₁ : State) (xs bs w : List ℕ) (n : ℕ) → fitRow e st row ≡ fits st₁ xs → Planned e cs (suc i) b st₁ bs w n → Planned e (cell row ∷ cs) i b st (xs ++ bs) w n
+  pub plan-row : (row : Row) (cs : List Cell) (i : ℕ) (b : Bool) (st st₁ : State) (xs bs : List ℕ) → fitRow e st row ≡ fits st₁ xs → Planned cs (suc i) b st₁ bs → Planned (cell row ∷ cs) i b st (xs ++ bs)
+  unfolding planOf
+  plan-row row cs i b st st₁ xs bs q (vs, p, h) = (vs, rw (fits-inner e row st st₁ xs q) (ap (rowPlan i (planOf e cs (suc i) b)) q ∙ rw p refl), h)
+
+  -- rows of an envelope, before what its end is planned with
+  pub plan-rows : (rows table : List Row) (b : Bool) → ((i : ℕ) (st st′ : State) (bs : List ℕ) → close e st ≡ fits st′ bs → Planned (map cell table) i b st bs)
+      → (i : ℕ) (st st′ : State) (bs : List ℕ) → fitAll e rows st ≡ fits st′ bs → Planned (map cell (rows ++ table)) i b st bs
+  unfolding fitAll
+  plan-rows [] table b h i st st′ bs q = h i st st′ bs q
+  plan-rows (row ∷ rows) table b h i st st′ bs q =
+      let (st₁, cs, ds, q₁, q₂, q₃) = then-inv (fitRow e st row) (fitAll e rows) st′ bs q in
+      rw q₃ (plan-row row (map cell (rows ++ table)) i b st st₁ cs ds q₁ (plan-rows rows table b h (suc i) st₁ st′ ds q₂))
+
+  pub plan-end : Q [] → (i : ℕ) (st st′ : State) (bs : List ℕ) → close e st ≡ fits st′ bs → Planned [] i true st bs
+  unfolding planOf
+  plan-end z i st st′ bs q = ([], rw q refl, z)
+
+-- an envelope's own row, before an envelope and what follows it
+pub plan-turn : (e : Edition) (Q Q′ : List Envelope → Type 0) (c : Bool) (cs : List Cell) (i : ℕ) (st st₁ : State) (bs ds : List ℕ) → close e st ≡ fits st₁ bs
+    → ((vs : List Envelope) → Q vs → Q′ (envelopeAt i c ds ∷ vs)) → Planned e Q cs (suc i) c (start c) ds → Planned e Q′ (cell (openingRow c) ∷ cs) i false st bs
 unfolding planOf
-plan-row e row cs i b st st₁ xs bs w n q (vs, p, h, l) =
-    (vs, rw (fits-inner e row st st₁ xs q) (ap (rowPlan i (planOf e cs (suc i) b)) q ∙ rw p refl), h, l)
+plan-turn e Q Q′ c cs i st st₁ bs ds q k (vs, p, h) = (envelopeAt i c ds ∷ vs, rw (opens-envelope c) (ap (turnPlan i c (planOf e cs (suc i) c)) q ∙ rw p refl), k vs h)
 
--- rows of an envelope, before what its end is planned with
-pub plan-rows : (e : Edition) (rows table : List Row) (b : Bool) (w : List ℕ) (n : ℕ) → ((i : ℕ) (st st′ : State) (bs : List ℕ) → close e st ≡ fits st′ bs → Planned e (map cell table) i b st bs w n)
-    → (i : ℕ) (st st′ : State) (bs : List ℕ) → fitAll e rows st ≡ fits st′ bs → Planned e (map cell (rows ++ table)) i b st bs w n
-unfolding fitAll
-plan-rows e [] table b w n h i st st′ bs q = h i st st′ bs q
-plan-rows e (row ∷ rows) table b w n h i st st′ bs q =
-    let (st₁, cs, ds, q₁, q₂, q₃) = then-inv (fitRow e st row) (fitAll e rows) st′ bs q in
-    rw q₃ (plan-row e row (map cell (rows ++ table)) i b st st₁ cs ds w n q₁ (plan-rows e rows table b w n h (suc i) st₁ st′ ds q₂))
+-- the plan writes w with at most n envelopes
+abbrev PlanWrites : List ℕ → ℕ → List Envelope → Type 0
+PlanWrites w n vs = (headerOf vs ≡ w) × (limits n vs ≡ fine)
 
-pub plan-end : (e : Edition) (n i : ℕ) (st st′ : State) (bs : List ℕ) → close e st ≡ fits st′ bs → Planned e [] i true st bs [] n
-unfolding planOf
-plan-end e n i st st′ bs q = ([], rw q refl, refl, refl)
+writes-one-more : (c : Bool) (ds w : List ℕ) (n i : ℕ) → withinLimit (length ds) ≡ true → (vs : List Envelope) → PlanWrites w n vs → PlanWrites (wrap c ds ++ w) (suc n) (envelopeAt i c ds ∷ vs)
+writes-one-more c ds w n i small vs (h, l) = (ap (λ (x : List ℕ). wrap c ds ++ x) h, rw small l)
 
-pub plan-turn : (e : Edition) (c : Bool) (cs : List Cell) (i : ℕ) (st st₁ : State) (bs ds w : List ℕ) (n : ℕ) → close e st ≡ fits st₁ bs → withinLimit (length ds) ≡ true → Planned e cs (suc i) c (start c) ds w n
-    → Planned e (cell (openingRow c) ∷ cs) i false st bs (wrap c ds ++ w) (suc n)
-unfolding planOf
-plan-turn e c cs i st st₁ bs ds w n q small (vs, p, h, l) = (
-  envelopeAt i c ds ∷ vs,
-  rw (opens-envelope c) (ap (turnPlan i c (planOf e cs (suc i) c)) q ∙ rw p refl),
-  ap (λ (x : List ℕ). wrap c ds ++ x) h,
-  rw small l,
-)
-
-pub writes-planned : (e : Edition) {k : ℕ} {table : List Row} {w : List ℕ} → Writes e k table w → (n : ℕ) → k ≤ n → (i : ℕ) (st st′ : State) (bs : List ℕ) → close e st ≡ fits st′ bs → Planned e (map cell table) i false st bs w n
+writes-planned : (e : Edition) {k : ℕ} {table : List Row} {w : List ℕ} → Writes e k table w → (n : ℕ) → k ≤ n → (i : ℕ) (st st′ : State) (bs : List ℕ) → close e st ≡ fits st′ bs → Planned e (PlanWrites w n) (map cell table) i false st bs
 writes-planned e (the-base rows st₁ ds f small) zero h i st st′ bs q = absurd (omega arith)
 writes-planned e (the-base rows st₁ ds f small) (suc n) h i st st′ bs q =
-    subst (λ (x : List ℕ). Planned e (cell (openingRow true) ∷ map cell rows) i false st bs x (suc n)) (append-nil (wrap true ds))
-    (plan-turn e true (map cell rows) i st st′ bs ds [] n q small
-    (subst (λ (x : List Row). Planned e (map cell x) (suc i) true (start true) ds [] n) (append-nil rows) (plan-rows e rows [] true [] n (plan-end e n) (suc i) (start true) st₁ ds f)))
+    subst (λ (x : List ℕ). Planned e (PlanWrites x (suc n)) (cell (openingRow true) ∷ map cell rows) i false st bs) (append-nil (wrap true ds))
+    (plan-turn e (PlanWrites [] n) (PlanWrites (wrap true ds ++ []) (suc n)) true (map cell rows) i st st′ bs ds q (writes-one-more true ds [] n i small)
+    (subst (λ (x : List Row). Planned e (PlanWrites [] n) (map cell x) (suc i) true (start true) ds) (append-nil rows) (plan-rows e (PlanWrites [] n) rows [] true (plan-end e (PlanWrites [] n) (refl, refl)) (suc i) (start true) st₁ ds f)))
 writes-planned e (before rows table st₁ ds w k f small more) zero h i st st′ bs q = absurd (omega arith)
 writes-planned e (before rows table st₁ ds w k f small more) (suc n) h i st st′ bs q =
-    plan-turn e false (map cell (rows ++ table)) i st st′ bs ds w n q small
-    (plan-rows e rows table false w n (λ j st₂ st₃ cs r. writes-planned e more n (omega arith) j st₂ st₃ cs r) (suc i) (start false) st₁ ds f)
+    plan-turn e (PlanWrites w n) (PlanWrites (wrap false ds ++ w) (suc n)) false (map cell (rows ++ table)) i st st′ bs ds q (writes-one-more false ds w n i small)
+    (plan-rows e (PlanWrites w n) rows table false (λ j st₂ st₃ cs r. writes-planned e more n (omega arith) j st₂ st₃ cs r) (suc i) (start false) st₁ ds f)
 
 planned-written : (room : ℕ) (vs : List Envelope) (bs w : List ℕ) → headerOf vs ≡ w → limits envelopesMost vs ≡ fine → length w ≤ room → planned room (plan bs vs) ≡ written w
 planned-written room vs bs w h l k = rw (l, h, le-leb (length w) room k) refl
@@ -282,5 +286,5 @@ planned-written room vs bs w h l k = rw (l, h, le-leb (length w) room k) refl
 pub writes-written : (e : Edition) (n : ℕ) (table : List Row) (w : List ℕ) (room : ℕ) → Writes e n table w → n ≤ envelopesMost → length w ≤ room → writeRows e room (map cell table) ≡ written w
 unfolding writeRows
 writes-written e n table w room h few k =
-    let (vs, p, a, l) = writes-planned e h envelopesMost few 0 (state closed 0 false) (state closed 0 false) [] (closed-close e) in
+    let (vs, p, (a, l)) = writes-planned e h envelopesMost few 0 (state closed 0 false) (state closed 0 false) [] (closed-close e) in
     ap (planned room) p ∙ planned-written room vs [] w a l k
