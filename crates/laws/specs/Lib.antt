@@ -14,3 +14,5 @@ pub mod Views
 pub mod HeaderWritten
 pub mod Plans
 pub mod Fifteen
+pub mod WrittenBytes
+pub mod Demands
