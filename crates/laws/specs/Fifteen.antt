@@ -349,7 +349,7 @@ module _ {A : Type 0} (i j : ℕ) (here-stuck : i ≡ j → A) where
   last-stuck e false st p = here-stuck (cc p)
 
 -- a row from i on is named, or the row count
-stuck-between : (e : Edition) (cs : List Cell) (i : ℕ) (b : Bool) (st : State) (j : ℕ) → planOf e cs i b st ≡ stuck j → (i ≤ j) × (j ≤ i + length cs)
+pub stuck-between : (e : Edition) (cs : List Cell) (i : ℕ) (b : Bool) (st : State) (j : ℕ) → planOf e cs i b st ≡ stuck j → (i ≤ j) × (j ≤ i + length cs)
 unfolding planOf
 stuck-between e [] i b st j q = last-stuck i j (λ x. (omega arith, omega arith)) e b st q
 stuck-between e (broken ∷ cs) i b st j q = let x : i ≡ j = cc q in (omega arith, omega arith)

@@ -15,4 +15,6 @@ pub mod HeaderWritten
 pub mod Plans
 pub mod Fifteen
 pub mod WrittenBytes
+pub mod Shape
+pub mod WriterRefusals
 pub mod Demands
