@@ -17,4 +17,5 @@ pub mod Fifteen
 pub mod WrittenBytes
 pub mod Shape
 pub mod WriterRefusals
+pub mod PlainNumbers
 pub mod Demands
