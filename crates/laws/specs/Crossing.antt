@@ -273,7 +273,7 @@ low-next e st agentEnds ok = absurd ok
 
 -- Two dates at one code. An absolute date's bytes are a relative one's
 
-loose : Check → Check
+unfoldable pub loose : Check → Check
 loose (pair lo hi) = anyPair
 loose day = anyPair
 loose half = half
@@ -294,7 +294,7 @@ passes-loose day earlier b t = pair-loose 1 (lastDay earlier) b t
 passes-loose half earlier b t = t
 passes-loose letter earlier b t = t
 
-date-loose : (cs : List Check) (earlier v : List ℕ) → T (dateOk cs earlier v) → T (dateOk (map loose cs) earlier v)
+pub date-loose : (cs : List Check) (earlier v : List ℕ) → T (dateOk cs earlier v) → T (dateOk (map loose cs) earlier v)
 unfolding dateOk
 date-loose [] earlier [] t = t
 date-loose [] earlier (b ∷ v) t = t
@@ -320,7 +320,7 @@ split-last (d ∷ cs) c earlier (b ∷ v) t =
     last-cons d cs c earlier b v (left-of (passes d earlier b) (dateOk (cs ++ (c ∷ [])) (b ∷ earlier) v) t) (split-last cs c (b ∷ earlier) v (right-of (passes d earlier b) (dateOk (cs ++ (c ∷ [])) (b ∷ earlier) v) t))
 
 -- a designator is above every code of a low room, and no such code is one
-letter-high : (earlier : List ℕ) (b : ℕ) → T (passes letter earlier b) → 0x20 ≤ b
+pub letter-high : (earlier : List ℕ) (b : ℕ) → T (passes letter earlier b) → 0x20 ≤ b
 unfolding passes
 letter-high earlier b t = at (either (leb 0x41 b && leb b 0x5a) (leb 0x61 b && leb b 0x7a) t)
   where

@@ -18,4 +18,5 @@ pub mod WrittenBytes
 pub mod Shape
 pub mod WriterRefusals
 pub mod PlainNumbers
+pub mod PlainDates
 pub mod Demands
