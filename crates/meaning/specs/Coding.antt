@@ -5,11 +5,12 @@ use mathlib.Core.Bool.{Bool, true, false, _&&_, not}
 use lib.Dec.{eqb, leb}
 use lib.ListN.{length, take, replicate}
 use Rattle.meaning.specs.Headers.{read}
-use Rattle.meaning.specs.Writing.{envelopeSize, withinLimit}
+use Rattle.meaning.specs.Bytes.{oneByte, twoBytes, fourBytes, past, lengthBytes, blockOk}
+use Rattle.meaning.specs.Writing.{envelopeSize, withinLimit, envelopeLength}
 use Rattle.meaning.specs.Memory.{readAnswer, readRows, writeAnswer, writeOutput}
 use Rattle.meaning.specs.Payload.{payloadStart, payloadEnd, payloadBytes}
 use Rattle.meaning.specs.Plain.{Date, numberEncoded, numberOutput, dateBytes, dateOutput}
-use Rattle.meaning.specs.Listing.{listing}
+use Rattle.meaning.specs.Listing.{rowsLent, viewed, listingOf, listing}
 use Rattle.meaning.specs.Cases.{same, hex, aDate, baseWith, baseRows, replyIs, Writing, writing, unwriting, outcomeIs, Number, number, encodes, DateRead, DateWritten}
 use Rattle.meaning.specs.Accepting.{anExtension, extensionRows, baseRowsAt}
 
@@ -62,8 +63,8 @@ unwritten =
     fifteen 1 (baseRows 5 9 (17 ∷ 1 ∷ 15 ∷ 1 ∷ [])) 3 ∷ fifteen 2 (baseRows 5 9 (13 ∷ 0 ∷ 0 ∷ 0 ∷ 15 ∷ 1 ∷ 15 ∷ 1 ∷ 15 ∷ 1 ∷ 15 ∷ 1 ∷ [])) 5 ∷
     fifteen 1 (baseRows 5 9 (13 ∷ 0 ∷ 0 ∷ 0 ∷ 15 ∷ 1 ∷ 15 ∷ 1 ∷ 18 ∷ 1 ∷ 0 ∷ 0 ∷ 16 ∷ 1 ∷ 0 ∷ 0 ∷ [])) 6 ∷
     -- values: text, number, representation, date; what the edition lacks
-    fifteen 1 (baseRows 5 9 (22 ∷ 0 ∷ 15 ∷ 2 ∷ [])) 3 ∷ fifteen 2 (baseRows 5 9 (22 ∷ 0 ∷ 19 ∷ 1 ∷ [])) 3 ∷ fifteen 1 (baseRows 5 9 (23 ∷ 0 ∷ 18 ∷ 1 ∷ [])) 3 ∷ fifteen 2 (baseRows 5 9 (23 ∷ 0 ∷ 0 ∷ 0 ∷ [])) 3 ∷
-    fifteen 1 (baseRows 5 9 (3 ∷ 0 ∷ 17 ∷ 1 ∷ [])) 3 ∷ fifteen 2 (baseRows 5 9 (3 ∷ 0 ∷ 3 ∷ 2 ∷ [])) 3 ∷ fifteen 1 (2 ∷ 0 ∷ 0 ∷ 0 ∷ 3 ∷ 0 ∷ 3 ∷ 1 ∷ 5 ∷ 0 ∷ 5 ∷ 8 ∷ []) 2 ∷ fifteen 2 (2 ∷ 0 ∷ 0 ∷ 0 ∷ 3 ∷ 0 ∷ 3 ∷ 1 ∷ 5 ∷ 0 ∷ 6 ∷ 9 ∷ []) 2 ∷
+    fifteen 1 (baseRows 5 9 (22 ∷ 0 ∷ 15 ∷ 2 ∷ [])) 3 ∷ fifteen 2 (baseRows 5 9 (22 ∷ 0 ∷ 19 ∷ 1 ∷ [])) 3 ∷ fifteen 1 (baseRows 5 9 (23 ∷ 0 ∷ 18 ∷ 1 ∷ [])) 3 ∷ fifteen 2 (baseRows 5 9 (23 ∷ 0 ∷ 18 ∷ 2 ∷ [])) 3 ∷ fifteen 2 (baseRows 5 9 (23 ∷ 0 ∷ 0 ∷ 0 ∷ [])) 3 ∷
+    fifteen 1 (baseRows 5 9 (3 ∷ 0 ∷ 17 ∷ 1 ∷ [])) 3 ∷ fifteen 2 (baseRows 5 9 (3 ∷ 0 ∷ 3 ∷ 2 ∷ [])) 3 ∷ fifteen 1 (baseRows 5 9 (3 ∷ 0 ∷ 3 ∷ 0 ∷ [])) 3 ∷ fifteen 1 (2 ∷ 0 ∷ 0 ∷ 0 ∷ 3 ∷ 0 ∷ 3 ∷ 1 ∷ 5 ∷ 0 ∷ 5 ∷ 8 ∷ []) 2 ∷ fifteen 2 (2 ∷ 0 ∷ 0 ∷ 0 ∷ 3 ∷ 0 ∷ 3 ∷ 1 ∷ 5 ∷ 0 ∷ 6 ∷ 9 ∷ []) 2 ∷
     fifteen 1 (2 ∷ 0 ∷ 0 ∷ 0 ∷ 3 ∷ 0 ∷ 3 ∷ 1 ∷ 6 ∷ 0 ∷ 5 ∷ 9 ∷ []) 2 ∷ fifteen 2 (baseRows 5 9 (25 ∷ 0 ∷ 0 ∷ 0 ∷ [])) 3 ∷ unwriting 1 (extensionRows 0 ++ (19 ∷ 1 ∷ 3 ∷ 1 ∷ [])) anExtension 1000 15 3 ∷ unwriting 1 (extensionRows 0 ++ (11 ∷ 1 ∷ 3 ∷ 1 ∷ 10 ∷ 1 ∷ 3 ∷ 1 ∷ [])) anExtension 1000 15 4 ∷
     -- agent level 9
     fifteen 1 (baseRows 5 9 (12 ∷ 0 ∷ 0 ∷ 0 ∷ levels 8 1)) 20 ∷ fifteen 2 (baseRows 5 9 (13 ∷ 0 ∷ 0 ∷ 0 ∷ levels 8 1)) 20 ∷
@@ -71,9 +72,14 @@ unwritten =
     unwriting 1 (extensions 16 ++ baseRowsAt 17) (anExtension ++ aBase) 0 5 48 ∷ unwriting 2 (extensions 17 ++ baseRowsAt 17) (anExtension ++ aBase) 0 5 48 ∷ unwriting 1 (extensions 17) (anExtension ++ aBase) 0 15 51 ∷
     unwriting 1 (baseRows 5 9 []) aBase 14 16 15 ∷ unwriting 2 (baseRows 5 9 []) aBase 0 16 15 ∷ []
 
--- the short form up to 65,535 bytes, the limit 1,048,576
+-- the short form up to 65,535 bytes, the limit 1,048,576; a block's length form by its bytes, up to the one that it cannot hold
 abbrev pub sizes : Bool
-sizes = eqb (envelopeSize 65532) 65535 && eqb (envelopeSize 65533) 65540 && withinLimit 1048569 && not (withinLimit 1048570)
+sizes =
+    eqb (envelopeSize 65532) 65535 && eqb (envelopeSize 65533) 65540 && withinLimit 1048569 && not (withinLimit 1048570) &&
+    same (envelopeLength 65532) (hex 0x1_ff_ff) && same (envelopeLength 65533) (hex 0x1_00_00_00_01_00_04) &&
+    same (lengthBytes twoBytes 0x1234) (hex 0x1_12_34) && same (lengthBytes fourBytes 0x12345678) (hex 0x1_12_34_56_78) && eqb (past fourBytes) 4294967296 &&
+    blockOk oneByte (replicate 255 7) && not (blockOk oneByte (replicate 256 7)) && not (blockOk twoBytes (replicate 255 7)) &&
+    blockOk twoBytes (replicate 65535 7) && not (blockOk twoBytes (replicate 65536 7)) && not (blockOk fourBytes (replicate 65535 7)) && blockOk fourBytes (replicate 65536 7)
 
 -- lent memory, and the payload's part
 abbrev lent : ℕ → List ℕ
@@ -94,14 +100,14 @@ payload =
 
 abbrev pub numbersRead : List Number
 numbersRead =
-    number [] 10 0 0 ∷ number (hex 0x1_23) 10 1 0 ∷ number (hex 0x1_80_00) 10 1 0 ∷ number (hex 0x1_23_00_00) 10 2 0 ∷ number (hex 0x1_23_40) 0 2 123 ∷
+    number [] 10 0 0 ∷ number (hex 0x1_23) 10 1 0 ∷ number (hex 0x1_80_00) 10 1 0 ∷ number (hex 0x1_23_00_00) 10 2 0 ∷ number (hex 0x1_23_40) 0 2 123 ∷ number (hex 0x1_21_10) 0 2 100 ∷
     number (hex 0x1_11_00) 10 0 0 ∷ number (hex 0x1_ab) 10 0 0 ∷ number (hex 0x1_53_a5_a7_83_a6_10) 10 5 0 ∷ []
 
 abbrev pub numbersWritten : Bool
 numbersWritten =
     encodes 0 (hex 0x1_10) && encodes 7 (hex 0x1_80) && encodes 12 (hex 0x1_23_00) && encodes 99 (hex 0x1_aa_00) && encodes 100 (hex 0x1_21_10) &&
     encodes 4294967295 (hex 0x1_53_a5_a7_83_a6_00) && outcomeIs 10 0 (numberEncoded 4294967296 99) && outcomeIs 16 2 (numberEncoded 12 1) &&
-    same (numberOutput 12 (lent 3)) (0x23 ∷ 0x00 ∷ 99 ∷ []) && same (numberOutput 12 (lent 1)) (lent 1) && same (numberOutput 4294967296 (lent 9)) (lent 9)
+    same (numberOutput 12 (lent 3)) (0x23 ∷ 0x00 ∷ 99 ∷ []) && same (numberOutput 4294967295 (lent 6)) (hex 0x1_53_a5_a7_83_a6_00) && same (numberOutput 12 (lent 1)) (lent 1) && same (numberOutput 4294967296 (lent 9)) (lent 9)
 
 abbrev decoding : ℕ → List ℕ → ℕ → ℕ → List ℕ → DateRead
 decoding kind s answer place xs = record { kind = kind; bytes = s; answer = answer; place = place; components = xs }
@@ -156,5 +162,6 @@ example =
 
 abbrev pub listings : Bool
 listings =
-    same (listing 2 (baseWith 0x14 0x20 (hex 0x1_03_02_61_00_01_01_28))) example && same (listing 1 (hex 0x1_fe_00)) (hex 0x1_32_09_32_09_30_0a) &&
+    same (listing 2 (baseWith 0x14 0x20 (hex 0x1_03_02_61_00_01_01_28))) example && same (listing 1 (hex 0x1_fe_00)) (hex 0x1_32_09_32_09_30_0a) && eqb rowsLent 4096 &&
+    same (listingOf 2 (read 1 aBase)) (hex 0x1_31_34_09_31_35_09_33_0a) && eqb (length (listingOf 3 (read 1 aBase))) 55 && same (viewed (hex 0x1_9a_f0_0b)) (hex 0x1_39_61_66_30_30_62) &&
     same (listing 1 (replicate 65536 0)) (hex 0x1_33_09_30_09_30_0a) && same (listing 2 (replicate 65537 0)) (hex 0x1_74_6f_6f_20_6c_6f_6e_67_0a)

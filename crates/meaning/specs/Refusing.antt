@@ -102,8 +102,9 @@ values =
     -- text byte 1F and 20; no text goes past the envelope's end, though the input does
     both (hex 0x1_05_1f) 8 1 ∷ both (hex 0x1_05_63_01) 8 2 ∷ (goes 1 (hex 0x1_05_20_00) (22 ∷ 0 ∷ 1 ∷ 1 ∷ []) ∷ goes 2 (hex 0x1_05_ff_00) (22 ∷ 0 ∷ 1 ∷ 1 ∷ []) ∷
     refuses 1 (baseWith 0x10 0x20 (hex 0x1_05_63_00_01)) 6 16 ∷ refuses 2 (baseWith 0x0f 0x20 (hex 0x1_05_00_01)) 6 15 ∷ []) ∷
-    -- payload length
-    (goes 1 (hex 0x1_06_53_a5_a7_83_a6_00) (23 ∷ 0 ∷ 1 ∷ 6 ∷ []) ∷ goes 2 (hex 0x1_06_10) (23 ∷ 0 ∷ 1 ∷ 1 ∷ []) ∷ []) ∷
+    -- payload length; an envelope that ends inside one, and inside a date
+    (goes 1 (hex 0x1_06_21_10) (23 ∷ 0 ∷ 1 ∷ 2 ∷ []) ∷ goes 2 (hex 0x1_06_10) (23 ∷ 0 ∷ 1 ∷ 1 ∷ []) ∷
+    refuses 1 (baseWith 0x10 0x20 (hex 0x1_06_23_00_01)) 6 16 ∷ refuses 2 (baseWith 0x0a 0x20 (hex 0x1_01)) 6 10 ∷ []) ∷
     both (hex 0x1_06_53_a5_a7_83_a7_00) 10 5 ∷ both (hex 0x1_06_53_a5_a7_83_a6_10) 10 6 ∷ both (hex 0x1_06_12) 10 1 ∷ both (hex 0x1_06_00) 10 1 ∷ both (hex 0x1_06_0b) 10 1 ∷ both (hex 0x1_06_b0) 10 1 ∷ both (hex 0x1_06_2b) 10 1 ∷
     -- byte blocks of 255 and 256, of 65,535 and 65,536
     (goes 1 (hex 0x1_0b_16_ff ++ replicate 255 7) (29 ∷ 0 ∷ 0 ∷ 0 ∷ 21 ∷ 0 ∷ 3 ∷ 255 ∷ []) ∷ goes 2 (hex 0x1_0b_16_00) (29 ∷ 0 ∷ 0 ∷ 0 ∷ 21 ∷ 0 ∷ 3 ∷ 0 ∷ []) ∷ []) ∷
@@ -133,7 +134,7 @@ envelopes =
     eitherEdition (hex 0x1_fc) 3 0 ∷ eitherEdition (hex 0x1_ff_00) 3 0 ∷
     eitherEdition (hex 0x1_fe) 2 1 ∷ eitherEdition (hex 0x1_fd_00) 2 2 ∷ eitherEdition (hex 0x1_fe_00_00_00_10) 2 5 ∷
     -- short lengths 1, 2 and 3; the longest short one; long lengths 65,539 and 65,540, 1,048,576 and one more
-    eitherEdition (hex 0x1_fe_00_01) 4 1 ∷ eitherEdition (hex 0x1_fd_00_02) 4 1 ∷ eitherEdition (hex 0x1_fe_00_03) 6 3 ∷ eitherEdition (hex 0x1_fe_ff_ff) 2 3 ∷
+    eitherEdition (hex 0x1_fe_00_01) 4 1 ∷ eitherEdition (hex 0x1_fd_00_02) 4 1 ∷ eitherEdition (hex 0x1_fe_00_03) 6 3 ∷ eitherEdition (hex 0x1_fd_00_03) 6 3 ∷ eitherEdition (hex 0x1_fe_ff_ff) 2 3 ∷
     eitherEdition (hex 0x1_fe_00_00_00_01_00_03) 4 1 ∷ eitherEdition (hex 0x1_fd_00_00_00_01_00_04) 2 7 ∷
     eitherEdition (hex 0x1_fe_00_00_00_10_00_00) 2 7 ∷ eitherEdition (hex 0x1_fe_00_00_00_10_00_01) 5 1 ∷ eitherEdition (hex 0x1_fe_00_00_00_00_00_00) 4 1 ∷
     -- envelope 16 and 17; places count from the input's first byte
