@@ -1,99 +1,38 @@
 -- What the customer buys, over the definitions of `meaning`: each theorem stands under the sentence that it meets.
-use Prim.Native.Nat.{ℕ, zero, suc, _+_, _≤_, _<_}
-use mathlib.Core.List.{List, [], _∷_, _++_, append-nil, map}
-use mathlib.Core.Bool.{Bool, true, false, _&&_, _||_}
+use Prim.Native.Nat.{ℕ, _+_, _≤_}
+use mathlib.Core.List.{List, [], _∷_, _++_, map}
+use mathlib.Core.Bool.{Bool, true, false, _&&_, not}
 use mathlib.Core.Logic.{_⊎_, inl, inr}
-use mathlib.Core.Path.{_≡_, refl, ap, sym, _∙_, subst}
+use mathlib.Core.Path.{_≡_, ap, sym, _∙_, subst}
 use native.Mathlib.Omega.{arith}
-use lib.Dec.{T, eqb, leb, eqb→eq}
-use lib.ListN.{length, take, length-append}
-use lib.Seq.{take-append-seam}
-use borrow.Author.Tests.{le-leb}
-use Rattle.meaning.specs.Basics.{pick, every}
-use Rattle.meaning.specs.Editions.{Edition, B, D, Label, known, unknown, labelOf}
+use lib.Dec.{T}
+use lib.ListN.{length, take, drop, length-append}
+use Rattle.meaning.specs.Basics.{every}
+use Rattle.meaning.specs.Editions.{Edition, Label, known, unknown, labelOf}
 use Rattle.meaning.specs.Reading.{Row}
-use Rattle.meaning.specs.Headers.{Placed, meant, Answer, refused, accepted, header, envelopesMost, labelled, read}
-use Rattle.meaning.specs.Writing.{Cell, cell, broken, Envelope, headerOf, Plan, stuck, plan, wholePlan, Limit, fine, exceeds, limits, Written, written, unwritten, limited, planned, writeRows, writtenUnder}
-use Rattle.meaning.specs.Memory.{tableOf, cellOf, cellsOf, write}
-use Rattle.laws.specs.Logic.{either, areBytes}
-use Rattle.laws.specs.Views.{PlacedIn, AllIn, view-part}
-use Rattle.laws.specs.Envelopes.{Writes, header-read, header-crosses, CrossHeader}
-use Rattle.laws.specs.HeaderWritten.{Whole, Again, header-written}
+use Rattle.meaning.specs.Headers.{Placed, meant, refused, accepted, header, envelopesMost, labelled, read}
+use Rattle.meaning.specs.Writing.{Cell, cell, wholePlan, written, unwritten, writeRows}
+use Rattle.meaning.specs.Memory.{tableOf, cellsOf, write}
+use Rattle.laws.specs.Logic.{areBytes}
+use Rattle.laws.specs.Views.{AllIn, view-part}
+use Rattle.laws.specs.Envelopes.{header-read, header-crosses, CrossHeader}
 use Rattle.laws.specs.Plans.{written-writes, writes-written}
 use Rattle.laws.specs.WrittenBytes.{written-are-bytes}
-use Rattle.laws.specs.Crossing.{other, isPlain, allPlain}
+use Rattle.laws.specs.PlainRows.{other, allPlain}
+use Rattle.meaning.specs.Bytes.{numberMost, textByte, takeText, textOk, turn, takeNumber, numberOk, lastDay, passes, takeDate, dateOk, highFirst, tooWide, takeBytes, blockOf, takeBlock, blockOk}
+use Rattle.meaning.specs.Editions.{shared, own, moves}
+use Rattle.meaning.specs.Reading.{takeValue, find, look, stepMove, step, run, inside}
+use Rattle.meaning.specs.Headers.{Answer, envelope}
+use Rattle.meaning.specs.Writing.{Written, valid, writeValue, wayOf, fit, fitRow, closeWithin, close, planOf}
+use Rattle.meaning.specs.Plain.{decoded, decodeNumber, numberValue, numberBytes, Date, dateOf, dateBytes, decodeDate, dateInRange}
+use Rattle.meaning.specs.Cases.{hex, baseWith, baseRows}
+use Rattle.laws.specs.Refusals.{refused-shape as header-refused}
+use Rattle.laws.specs.RowCounts.{table-few, length-meant}
+use Rattle.laws.specs.WriterRefusals.{WriterRefusal, writer-refusal}
+use Rattle.laws.specs.PlainNumbers.{number-coded-decoded, number-decoded-coded}
+use Rattle.laws.specs.PlainDates.{date-coded-decoded, date-decoded-coded}
+use Rattle.laws.specs.Ties.{only-stuck, whole-front, numberOf, SameMeaning, plainCell, plainTable, read-known, write-known, accepted-known, written-known, read-as, write-as, cells-placed, whole-of, same-meaning, plain-cells, seven-or-nine}
 use Rattle.laws.specs.Fifteen.{BeginsTable, NoneWith, stuck-means}
-
--- an edition's number
-abbrev pub numberOf : Edition → ℕ
-numberOf B = 1
-numberOf D = 2
-
--- "Two tables mean the same .. if they have equal row counts, kinds, levels, lengths and viewed bytes": rows over one pool, and rows over another
-abbrev pub SameMeaning : List ℕ → List ℕ → List ℕ → List ℕ → Type 0
-SameMeaning rows pool rows′ pool′ = cellsOf pool rows ≡ cellsOf pool′ rows′
-
--- "no encrypted list, no relative date, no date with a designator and no extra"
-abbrev pub plainCell : Cell → Bool
-plainCell (cell row) = isPlain row
-plainCell broken = false
-
-abbrev pub plainTable : List ℕ → List ℕ → Bool
-plainTable rows pool = every plainCell (cellsOf pool rows)
-
--- The ties between the entries of `meaning` and an edition
-
-read-known : (e : Edition) (input : List ℕ) → read (numberOf e) input ≡ header envelopesMost e 0 input
-unfolding read
-read-known B input = refl
-read-known D input = refl
-
-write-known : (e : Edition) (rows pool : List ℕ) (room : ℕ) → write (numberOf e) rows pool room ≡ writeRows e room (cellsOf pool rows)
-unfolding write
-write-known B rows pool room = refl
-write-known D rows pool room = refl
-
--- an answer that is accepted is some edition's
-pub accepted-known : (edition : ℕ) (input : List ℕ) (place : ℕ) (rows : List Placed) → read edition input ≡ accepted place rows → (e : Edition) × (labelOf edition ≡ known e) × (header envelopesMost e 0 input ≡ accepted place rows)
-unfolding read
-accepted-known edition input place rows q = at (labelOf edition) refl q
-  where
-    at : (l : Label) → labelOf edition ≡ l → labelled input l ≡ accepted place rows → (e : Edition) × (labelOf edition ≡ known e) × (header envelopesMost e 0 input ≡ accepted place rows)
-    at unknown k r = let z : _≡_ {A = ℕ} 0 1 = cc r in absurd (omega arith)
-    at (known e) k r = (e, k, r)
-
-pub written-known : (edition : ℕ) (rows pool : List ℕ) (room : ℕ) (bytes : List ℕ) → write edition rows pool room ≡ written bytes → (e : Edition) × (labelOf edition ≡ known e) × (writeRows e room (cellsOf pool rows) ≡ written bytes)
-unfolding write
-written-known edition rows pool room bytes q = at (labelOf edition) refl q
-  where
-    at : (l : Label) → labelOf edition ≡ l → writtenUnder room (cellsOf pool rows) l ≡ written bytes → (e : Edition) × (labelOf edition ≡ known e) × (writeRows e room (cellsOf pool rows) ≡ written bytes)
-    at unknown k r = let z : _≡_ {A = ℕ} 0 1 = cc r in absurd (omega arith)
-    at (known e) k r = (e, k, r)
-
-read-as : (edition : ℕ) (e : Edition) (input : List ℕ) → labelOf edition ≡ known e → read edition input ≡ header envelopesMost e 0 input
-unfolding read
-read-as edition e input k = ap (labelled input) k
-
-write-as : (edition : ℕ) (e : Edition) (rows pool : List ℕ) (room : ℕ) → labelOf edition ≡ known e → write edition rows pool room ≡ writeRows e room (cellsOf pool rows)
-unfolding write
-write-as edition e rows pool room k = ap (writtenUnder room (cellsOf pool rows)) k
-
--- rows that view a header's own bytes say what was read
-cell-placed : (w payload : List ℕ) (r : Placed) → PlacedIn 0 w r → cellOf (w ++ payload) (r .kind) (r .level) (r .start) (length (r .view)) ≡ cell (meant r)
-cell-placed w payload r p =
-    let (v, h) = view-part w payload r p in
-    rw (le-leb (r .start + length (r .view)) (length (w ++ payload)) (omega (arith, length-append w payload)), v) refl
-
-pub cells-placed : (w payload : List ℕ) (rows : List Placed) → AllIn 0 w rows → cellsOf (w ++ payload) (tableOf rows) ≡ map cell (map meant rows)
-unfolding cellsOf
-cells-placed w payload [] i = refl
-cells-placed w payload (r ∷ rows) (h, i) = rw (cell-placed w payload r h, cells-placed w payload rows i) refl
-
-from-zero : (n : ℕ) → 0 + n ≡ n
-from-zero n = omega arith
-
-pub whole-of : (e : Edition) (input : List ℕ) (place : ℕ) (rows : List Placed) → T (areBytes input) → header envelopesMost e 0 input ≡ accepted place rows → Whole envelopesMost e 0 input place rows
-whole-of e input place rows t q = subst (Again envelopesMost e 0 input) q (header-written envelopesMost e 0 input t)
 
 -- 1. "Read then written: the same bytes."
 -- Every accepted input's rows, written under the same edition with the input as pool and room for the bytes, give the bytes up to the payload.
@@ -104,9 +43,8 @@ read-then-written edition input place rows t q room h =
     let (e, k, a) = accepted-known edition input place rows q in
     let w = whole-of e input place rows t a in
     let cells : cellsOf input (tableOf rows) ≡ map cell (map meant rows) = ap (λ (x : List ℕ). cellsOf x (tableOf rows)) (w .parts) ∙ cells-placed (w .bytes) (w .payload) rows (w .views) in
-    let front : take place input ≡ w .bytes = ap (λ (x : ℕ). take x input) (w .place ∙ from-zero (length (w .bytes))) ∙ ap (take (length (w .bytes))) (w .parts) ∙ take-append-seam (w .bytes) (w .payload) in
     write-as edition e (tableOf rows) input room k ∙ ap (writeRows e room) cells
-    ∙ writes-written e (w .count) (map meant rows) (w .bytes) room (w .written) (w .few) (omega (arith, w .place)) ∙ ap written (sym front)
+    ∙ writes-written e (w .count) (map meant rows) (w .bytes) room (w .written) (w .few) (omega (arith, w .place)) ∙ ap written (sym (whole-front e input place rows w))
 
 -- 2. "Written then read: the same table."
 -- Every written header, with any payload behind it, is accepted under the same edition, and the table read means the same.
@@ -114,21 +52,6 @@ read-then-written edition input place rows t q room h =
 abbrev pub ReadsSame : ℕ → List ℕ → List ℕ → List ℕ → List ℕ → Type 0
 ReadsSame edition bytes payload rows pool =
     (read-rows : List Placed) × (read edition (bytes ++ payload) ≡ accepted (length bytes) read-rows) × SameMeaning rows pool (tableOf read-rows) (bytes ++ payload)
-
--- the header's own views, whichever edition reads it
-same-meaning : (e : Edition) (bytes payload rows pool : List ℕ) (table : List Row) (read-rows : List Placed) → T (areBytes bytes) → cellsOf pool rows ≡ map cell table → map meant read-rows ≡ table
-    → header envelopesMost e 0 (bytes ++ []) ≡ accepted (0 + length bytes) read-rows → SameMeaning rows pool (tableOf read-rows) (bytes ++ payload)
-same-meaning e bytes payload rows pool table read-rows t c m q =
-    let a : header envelopesMost e 0 bytes ≡ accepted (0 + length bytes) read-rows = ap (header envelopesMost e 0) (sym (append-nil bytes)) ∙ q in
-    let w = whole-of e bytes (0 + length bytes) read-rows t a in
-    let whole : w .bytes ≡ bytes = all-of (w .bytes) (w .payload) (w .parts) (omega (arith, w .place)) in
-    let i : AllIn 0 bytes read-rows = subst (λ (x : List ℕ). AllIn 0 x read-rows) whole (w .views) in
-    c ∙ ap (map cell) (sym m) ∙ sym (cells-placed bytes payload read-rows i)
-  where
-    -- a front as long as the whole is the whole
-    all-of : {whole : List ℕ} (xs ys : List ℕ) → whole ≡ xs ++ ys → length xs ≡ length whole → xs ≡ whole
-    all-of xs [] p h = sym (p ∙ append-nil xs)
-    all-of xs (y ∷ ys) p h = absurd (omega (arith, ap length p, length-append xs (y ∷ ys)))
 
 pub written-then-read : (edition : ℕ) (rows pool : List ℕ) (room : ℕ) (bytes : List ℕ) → T (areBytes pool) → write edition rows pool room ≡ written bytes → (payload : List ℕ) → ReadsSame edition bytes payload rows pool
 written-then-read edition rows pool room bytes t q payload =
@@ -142,17 +65,6 @@ written-then-read edition rows pool room bytes t q payload =
 
 abbrev pub RefusedSevenOrNine : ℕ → List ℕ → Type 0
 RefusedSevenOrNine edition input = (refusal : ℕ) × (place : ℕ) × (read edition input ≡ refused refusal place) × ((refusal ≡ 7) ⊎ (refusal ≡ 9))
-
-plain-cells : (table : List Row) → every plainCell (map cell table) ≡ allPlain table
-plain-cells [] = refl
-plain-cells (row ∷ table) = ap (λ (b : Bool). isPlain row && b) (plain-cells table)
-
-seven-or-nine : (k : ℕ) → T (eqb k 7 || eqb k 9) → (k ≡ 7) ⊎ (k ≡ 9)
-seven-or-nine k t = at (either (eqb k 7) (eqb k 9) t)
-  where
-    at : T (eqb k 7) ⊎ T (eqb k 9) → (k ≡ 7) ⊎ (k ≡ 9)
-    at (inl p) = inl (eqb→eq k 7 p)
-    at (inr p) = inr (eqb→eq k 9 p)
 
 pub label-cannot-lie : (e : Edition) (rows pool : List ℕ) (room : ℕ) (bytes : List ℕ) → T (areBytes pool) → write (numberOf e) rows pool room ≡ written bytes → (payload : List ℕ)
     → ((plainTable rows pool ≡ true) × ReadsSame (numberOf (other e)) bytes payload rows pool) ⊎ ((plainTable rows pool ≡ false) × RefusedSevenOrNine (numberOf (other e)) (bytes ++ payload))
@@ -178,9 +90,8 @@ payload-alters-nothing edition input place rows t q payload =
     let (e, k, a) = accepted-known edition input place rows q in
     let w = whole-of e input place rows t a in
     let (read-rows, f, m) = header-read e (w .written) envelopesMost (w .few) 0 in
-    let front : take place input ≡ w .bytes = ap (λ (x : ℕ). take x input) (w .place ∙ from-zero (length (w .bytes))) ∙ ap (take (length (w .bytes))) (w .parts) ∙ take-append-seam (w .bytes) (w .payload) in
     let same : accepted (0 + length (w .bytes)) read-rows ≡ accepted place rows = sym (f (w .payload)) ∙ ap (header envelopesMost e 0) (sym (w .parts)) ∙ a in
-    read-as edition e (take place input ++ payload) k ∙ ap (λ (x : List ℕ). header envelopesMost e 0 (x ++ payload)) front ∙ f payload ∙ same
+    read-as edition e (take place input ++ payload) k ∙ ap (λ (x : List ℕ). header envelopesMost e 0 (x ++ payload)) (whole-front e input place rows w) ∙ f payload ∙ same
 
 -- 5. "15: rows up to here begin no table of this edition, or start plus length passes the pool, or rows or slice end early"
 -- The rows before the one that 15 names begin a table, its limits aside; with that row none do; where it names the row count, they are no table.
@@ -188,17 +99,79 @@ payload-alters-nothing edition input place rows t q payload =
 pub fifteen-means : (e : Edition) (rows pool : List ℕ) (room i : ℕ) → write (numberOf e) rows pool room ≡ unwritten 15 i
     → (front : List Cell) × (rest : List Cell) × (cellsOf pool rows ≡ front ++ rest) × (length front ≡ i) × BeginsTable e front × NoneWith e front rest
 unfolding writeRows
-fifteen-means e rows pool room i q = at (wholePlan e (cellsOf pool rows)) refl (sym (write-known e rows pool room) ∙ q)
+fifteen-means e rows pool room i q =
+    stuck-means e (cellsOf pool rows) i (only-stuck room i (wholePlan e (cellsOf pool rows)) (sym (write-known e rows pool room) ∙ q))
+
+-- 6. The shape of an answer. Accepted: the place is in the input, every row views bytes of the header, and there are never more rows than bytes.
+
+abbrev pub ViewsHeader : List ℕ → ℕ → List Placed → Type 0
+ViewsHeader input place [] = Unit {0}
+ViewsHeader input place (r ∷ rows) = ((r .start + length (r .view) ≤ place) × (take (length (r .view)) (drop (r .start) input) ≡ r .view)) × ViewsHeader input place rows
+
+pub accepted-shape : (edition : ℕ) (input : List ℕ) (place : ℕ) (rows : List Placed) → T (areBytes input) → read edition input ≡ accepted place rows → (place ≤ length input) × (length rows ≤ place) × ViewsHeader input place rows
+accepted-shape edition input place rows t q =
+    let (e, k, a) = accepted-known edition input place rows q in
+    let w = whole-of e input place rows t a in
+    let few = table-few e (w .written) in (
+      omega (arith, w .place, ap length (w .parts), length-append (w .bytes) (w .payload)),
+      omega (arith, w .place, length-meant rows),
+      subst (λ (x : List ℕ). ViewsHeader x place rows) (sym (w .parts)) (views-header (w .bytes) (w .payload) place rows (omega (arith, w .place)) (w .views)),
+    )
   where
-    sixteen : {A : Type 0} (bytes : List ℕ) (b : Bool) → pick b (written bytes) (unwritten 16 (length bytes)) ≡ unwritten 15 i → A
-    sixteen bytes true r = let z : _≡_ {A = ℕ} 0 1 = cc r in absurd (omega arith)
-    sixteen bytes false r = let z : _≡_ {A = ℕ} 16 15 = cc r in absurd (omega arith)
+    views-header : (bytes payload : List ℕ) (place : ℕ) (rs : List Placed) → length bytes ≡ place → AllIn 0 bytes rs → ViewsHeader (bytes ++ payload) place rs
+    views-header bytes payload place [] l i = tt
+    views-header bytes payload place (r ∷ rs) l (h, i) = let (v, m) = view-part bytes payload r h in ((omega arith, v), views-header bytes payload place rs l i)
 
-    never : {A : Type 0} (vs : List Envelope) (o : Limit) → limited room vs o ≡ unwritten 15 i → A
-    never vs fine r = sixteen (headerOf vs) (leb (length (headerOf vs)) room) r
-    never vs (exceeds j) r = let z : _≡_ {A = ℕ} 5 15 = cc r in absurd (omega arith)
+-- Refused: the number is never 0 and the place never past the input. The writer's refusals name a row, or for 16 the bytes needed (`WriterRefusal`).
 
-    at : (p : Plan) → wholePlan e (cellsOf pool rows) ≡ p → planned room p ≡ unwritten 15 i
-        → (front : List Cell) × (rest : List Cell) × (cellsOf pool rows ≡ front ++ rest) × (length front ≡ i) × BeginsTable e front × NoneWith e front rest
-    at (stuck j) k r = stuck-means e (cellsOf pool rows) i (k ∙ ap stuck (cc r))
-    at (plan bs vs) k r = never vs (limits envelopesMost vs) r
+pub refused-shape : (edition : ℕ) (input : List ℕ) (refusal place : ℕ) → read edition input ≡ refused refusal place → (1 ≤ refusal) × (place ≤ length input)
+unfolding read
+refused-shape edition input refusal place q = at (labelOf edition) q
+  where
+    at : (l : Label) → labelled input l ≡ refused refusal place → (1 ≤ refusal) × (place ≤ length input)
+    at unknown r = let a : 1 ≡ refusal = cc r in let b : 0 ≡ place = cc r in (omega arith, omega arith)
+    at (known e) r = header-refused envelopesMost e input refusal place r
+
+pub unwritten-shape : (edition : ℕ) (rows pool : List ℕ) (room refusal place : ℕ) → write edition rows pool room ≡ unwritten refusal place → WriterRefusal edition rows pool room refusal place
+unwritten-shape edition rows pool room refusal place q = writer-refusal edition rows pool room refusal place q
+
+-- 7. "Coding and decoding of numbers and dates are inverse on what they accept, both ways."
+
+pub number-again : (n : ℕ) → n ≤ numberMost → (decodeNumber (numberBytes n) ≡ decoded (numberBytes n)) × (numberValue 0 (numberBytes n) ≡ n)
+number-again n h = number-coded-decoded n h
+
+pub number-bytes-again : (s v : List ℕ) → decodeNumber s ≡ decoded v → (s ≡ v) × (numberBytes (numberValue 0 v) ≡ s) × (numberValue 0 v ≤ numberMost)
+number-bytes-again s v q = number-decoded-coded s v q
+
+pub date-again : (kind : ℕ) (d : Date) → dateInRange kind d ≡ true → (decodeDate kind (dateBytes d) ≡ decoded (dateBytes d)) × (dateOf (dateBytes d) ≡ d)
+date-again kind d q = date-coded-decoded kind d q
+
+pub date-bytes-again : (kind : ℕ) (s v : List ℕ) → decodeDate kind s ≡ decoded v → (s ≡ v) × (dateInRange kind (dateOf v) ≡ true) × (dateBytes (dateOf v) ≡ s)
+date-bytes-again kind s v q = date-decoded-coded kind s v q
+
+-- No premise above is empty: for each edition, a header that is read; a table that is written; and one that is plain, and one that is not.
+
+abbrev wasAccepted : Answer → Bool
+wasAccepted (accepted place rows) = true
+wasAccepted (refused refusal place) = false
+
+abbrev wasWritten : Written → Bool
+wasWritten (written bytes) = true
+wasWritten (unwritten refusal place) = false
+
+abbrev aHeader : List ℕ
+aHeader = baseWith 0x0f 0x20 (hex 0x1_01)
+
+-- an encrypted list, which D lacks, and a forward date, which B lacks
+abbrev encrypted : List ℕ
+encrypted = baseRows 5 9 (25 ∷ 0 ∷ 14 ∷ 0 ∷ [])
+
+abbrev forwarded : List ℕ
+forwarded = baseRows 6 9 []
+
+pub premises : T (
+    wasAccepted (read 1 aHeader) && wasAccepted (read 2 aHeader) && wasWritten (write 1 (baseRows 5 9 []) aHeader 15) && wasWritten (write 2 (baseRows 5 9 []) aHeader 15) &&
+    plainTable (baseRows 5 9 []) aHeader && wasWritten (write 1 encrypted aHeader 17) && not (plainTable encrypted aHeader) && wasWritten (write 2 forwarded aHeader 15) && not (plainTable forwarded aHeader)
+    )
+unfolding textByte takeText textOk turn takeNumber numberOk lastDay passes takeDate dateOk highFirst tooWide takeBytes blockOf takeBlock blockOk shared own moves takeValue find look stepMove step run inside envelope header read valid writeValue wayOf fit fitRow closeWithin close planOf writeRows cellsOf write
+premises = tt

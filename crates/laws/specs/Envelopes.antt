@@ -1,24 +1,26 @@
 -- Whole headers: `Writes e n table w`: a table of n envelopes is written as the bytes w. Such bytes, with any payload behind them,
 -- are read as that table; and by the other edition as it, or refused with 7 or 9. By induction over the envelopes.
-use Prim.Native.Nat.{ℕ, zero, suc, _+_, _-_, _*_, _≤_, _<_}
-use mathlib.Core.List.{List, [], _∷_, _++_, append-assoc, append-nil, map}
-use mathlib.Core.Bool.{Bool, true, false, _&&_, _||_, not}
+use Prim.Native.Nat.{ℕ, zero, suc, _+_, _-_, _≤_, _<_}
+use mathlib.Core.List.{List, [], _∷_, _++_, append-assoc, map}
+use mathlib.Core.Bool.{Bool, true, false, _&&_, _||_}
 use mathlib.Core.Logic.{_⊎_, inl, inr}
 use mathlib.Core.Path.{_≡_, refl, ap, sym, _∙_, subst}
 use native.Mathlib.Omega.{arith}
-use lib.Dec.{T, eqb, leb, ltb}
-use lib.ListN.{length, take, drop, length-append}
+use lib.Dec.{T, eqb}
+use lib.ListN.{length, length-append}
 use lib.Seq.{take-append-seam, drop-append-seam}
 use borrow.Author.Tests.{ne-eqb, le-ltb, leb-true, leb-false}
-use Rattle.meaning.specs.Basics.{pick, every}
+use Rattle.meaning.specs.Basics.{pick}
 use Rattle.meaning.specs.Bytes.{counted, highFirst, twoBytes, fourBytes, lengthBytes}
 use Rattle.meaning.specs.Editions.{Edition, State}
-use Rattle.meaning.specs.Reading.{Row, Seen, rowOf, Out, dry, fault, done, inside}
-use Rattle.meaning.specs.Headers.{Placed, placedRow, placed, meant, Answer, refused, accepted, behind, envelopeMost, opening, start, Onward, ends, envelope, shortLeast, longLeast, longForm, sized, Identifier, extension, base, neither, identifierOf, identified, header}
-use Rattle.meaning.specs.Writing.{Fit, fits, isShort, envelopeSize, withinLimit, envelopeLength, wrap}
+use Rattle.meaning.specs.Reading.{Row, Seen, rowOf, done, inside}
+use Rattle.meaning.specs.Headers.{Placed, placedRow, placed, meant, Answer, refused, accepted, behind, envelopeMost, opening, start, Onward, ends, envelope, shortLeast, longLeast, sized, header}
+use Rattle.meaning.specs.Writing.{fits, isShort, envelopeSize, withinLimit, envelopeLength, wrap}
 use Rattle.laws.specs.Values.{length-in}
 use Rattle.laws.specs.WrittenRead.{fitAll, ReadsAll, all-written-read}
-use Rattle.laws.specs.Crossing.{other, isPlain, allPlain, Refuses, CrossAll, all-crosses}
+use Rattle.laws.specs.PlainRows.{other, isPlain, allPlain}
+use Rattle.laws.specs.Clashes.{Refuses}
+use Rattle.laws.specs.Crossing.{CrossAll, all-crosses}
 
 -- an envelope's own row
 abbrev pub openingRow : Bool → Row

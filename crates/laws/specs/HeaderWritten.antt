@@ -5,20 +5,20 @@ use mathlib.Core.List.{List, [], _∷_, _++_, append-assoc, append-nil, map}
 use mathlib.Core.Bool.{Bool, true, false}
 use mathlib.Core.Path.{_≡_, refl, ap, sym, _∙_, subst}
 use native.Mathlib.Omega.{arith}
-use lib.Dec.{T, eqb, leb, ltb}
+use lib.Dec.{T, eqb, ltb}
 use lib.ListN.{length, take, drop, length-append, length-take}
 use lib.ListN.{take-append-drop}
 use borrow.Author.Tests.{eqb-true, le-leb, lt-leb, ltb-false}
 use Rattle.meaning.specs.Basics.{pick}
-use Rattle.meaning.specs.Bytes.{Count, counted, short, highFirst}
+use Rattle.meaning.specs.Bytes.{highFirst}
 use Rattle.meaning.specs.Editions.{Edition, State}
 use Rattle.meaning.specs.Reading.{Row, Seen, rowOf, Out, dry, fault, done, inside}
 use Rattle.meaning.specs.Headers.{Placed, placedRow, placed, meant, Answer, refused, accepted, behind, envelopeMost, opening, start, ends, envelope, shortLeast, longLeast, longForm, sized, Identifier, extension, base, neither, identifierOf, identified, seventeenth, header}
-use Rattle.meaning.specs.Writing.{fits, isShort, envelopeSize, withinLimit, envelopeLength, wrap}
+use Rattle.meaning.specs.Writing.{fits, envelopeSize, withinLimit, envelopeLength, wrap}
 use Rattle.laws.specs.Logic.{areBytes, first-byte, other-bytes, bytes-front, bytes-behind}
 use Rattle.laws.specs.WrittenRead.{fitAll}
 use Rattle.laws.specs.ReadWritten.{Back, all-read-written}
-use Rattle.laws.specs.Views.{AllSeen, inside-seen, PlacedIn, AllIn, all-in-append, all-in-behind, all-placed}
+use Rattle.laws.specs.Views.{AllSeen, inside-seen, AllIn, all-in-append, all-in-behind, all-placed}
 use Rattle.laws.specs.Envelopes.{openingRow, Writes, the-base, before, wrap-length, placed-meant, map-append}
 
 -- what stands behind an accepted answer

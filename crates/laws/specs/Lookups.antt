@@ -1,6 +1,6 @@
 -- The tables' one test, and by it: the reader finds a move at its code, the writer a row's own move; no two moves of a room are mistaken for another.
-use Prim.Native.Nat.{ℕ, zero, suc, _≤_, _<_}
-use mathlib.Core.List.{List, [], _∷_, _++_}
+use Prim.Native.Nat.{ℕ, suc, _≤_, _<_}
+use mathlib.Core.List.{List, [], _∷_}
 use mathlib.Core.Bool.{Bool, true, false, _&&_, _||_, not}
 use mathlib.Core.Logic.{_⊎_, inl, inr}
 use mathlib.Core.Path.{_≡_, refl, ap, sym, _∙_, subst}
@@ -9,9 +9,9 @@ use lib.Dec.{T, eqb, leb, ltb, leb→le, ltb→lt, eqb→eq, eqb-refl}
 use lib.ListN.{length}
 use borrow.Author.Tests.{eqb-true, eq-eqb, lt-ltb, le-ltb}
 use Rattle.meaning.specs.Basics.{pick, every}
-use Rattle.meaning.specs.Bytes.{Check, passes, dateOk, dateChecks, Reach, absolute, relative, Width, oneByte, twoBytes, fourBytes, bytesOf, fewest, past, blockOk}
+use Rattle.meaning.specs.Bytes.{Check, passes, dateOk, dateChecks, Width, oneByte, twoBytes, fourBytes, bytesOf, fewest, past, blockOk}
 use Rattle.meaning.specs.Kinds.{agentName}
-use Rattle.meaning.specs.Editions.{Edition, Room, State, Form, text, date, number, block, itself, opens, quiet, isQuiet, Move, noCode, noKind, closing, moves, shared, own}
+use Rattle.meaning.specs.Editions.{Edition, Room, State, Form, text, date, number, block, itself, opens, quiet, isQuiet, Move, noCode, closing, moves, shared, own}
 use Rattle.meaning.specs.Reading.{Row, Found, none, hit, find, orElse, hasCode, look, isClosed, tooDeep}
 use Rattle.meaning.specs.Writing.{isOnly, valid, standsFor, isPass, wayTo, Way, byOwn, byPass, nowhere, ways, atLevel, wayOf}
 use Rattle.laws.specs.Logic.{left-of, right-of, both, either, is-true, is-false, not-both}

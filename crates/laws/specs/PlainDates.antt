@@ -1,19 +1,19 @@
 -- Dates as plain values: coding and decoding undo each other, byte by byte.
-use Prim.Native.Nat.{ℕ, zero, suc, _+_, _-_, _*_, _/_, _%_, _≤_, _<_}
-use mathlib.Core.List.{List, [], _∷_, _++_, append-nil, map}
-use mathlib.Core.Bool.{Bool, true, false, _&&_, _||_, not}
+use Prim.Native.Nat.{ℕ, _+_, _-_, _*_, _/_, _%_, _≤_}
+use mathlib.Core.List.{List, [], _∷_, append-nil}
+use mathlib.Core.Bool.{Bool, true, false, _&&_, not}
 use mathlib.Core.Path.{_≡_, refl, ap, sym, _∙_, subst}
 use native.Mathlib.Omega.{arith}
 use lib.Dec.{T, eqb, leb, ltb, leb→le, le→leb, eqb→eq}
 use lib.ListN.{length, getD}
-use borrow.Author.Tests.{ne-eqb, eqb-true, lt-ltb}
+use borrow.Author.Tests.{ne-eqb, eqb-true}
 use Rattle.meaning.specs.Basics.{pick}
 use Rattle.meaning.specs.Bytes.{Taken, took, failed, isDigit, digitOf, twoDigits, pairWithin, passes, letter, Reach, absolute, relative, dateChecks, takeDate, dateOk}
-use Rattle.meaning.specs.Plain.{Decoded, decoded, undecoded, exactly, Date, dateOf, pairByte, designated, dateBytes, fitsDigits, Reached, dated, noReach, reachOf, decodeReach, decodeDate, reachAllows, dateInRange}
+use Rattle.meaning.specs.Plain.{decoded, exactly, Date, dateOf, pairByte, designated, dateBytes, fitsDigits, Reached, dated, noReach, reachOf, decodeReach, decodeDate, reachAllows, dateInRange}
 use Rattle.laws.specs.Logic.{left-of, right-of, both, is-true}
 use Rattle.laws.specs.Values.{Was, date-in, date-out}
 use Rattle.laws.specs.Lookups.{date-length}
-use Rattle.laws.specs.Crossing.{loose, date-loose, letter-high}
+use Rattle.laws.specs.Clashes.{loose, date-loose, letter-high}
 
 -- One byte
 

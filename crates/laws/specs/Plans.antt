@@ -1,7 +1,7 @@
 -- The writer over a flat table: what it writes is a table of envelopes (`Writes`), and every such table it writes.
-use Prim.Native.Nat.{ℕ, zero, suc, _+_, _≤_, _<_}
-use mathlib.Core.List.{List, [], _∷_, _++_, append-assoc, append-nil, map}
-use mathlib.Core.Bool.{Bool, true, false, _&&_, _||_, not}
+use Prim.Native.Nat.{ℕ, zero, suc, _≤_}
+use mathlib.Core.List.{List, [], _∷_, _++_, append-nil, map}
+use mathlib.Core.Bool.{Bool, true, false, _&&_, _||_}
 use mathlib.Core.Path.{_≡_, refl, ap, sym, _∙_, subst}
 use native.Mathlib.Omega.{arith}
 use lib.Dec.{T, eqb, leb, leb→le, eqb→eq}
@@ -12,11 +12,11 @@ use Rattle.meaning.specs.Kinds.{extensionOpens, baseOpens}
 use Rattle.meaning.specs.Editions.{Edition, B, D, State, state, closed, isQuiet, Move, moves, shared, own, Room}
 use Rattle.meaning.specs.Reading.{Row}
 use Rattle.meaning.specs.Headers.{start, envelopesMost, opening}
-use Rattle.meaning.specs.Writing.{Fit, unfit, fits, fitRow, close, Cell, cell, broken, Opens, envelopeRow, innerRow, opensOf, Envelope, envelopeAt, Plan, stuck, plan, onPlan, newPlan, rowPlan, turnPlan, endPlan, nextRow, lastRow, planOf, wholePlan, withinLimit, wrap, headerOf, Limit, fine, exceeds, limits, Written, written, unwritten, roomed, limited, planned, writeRows}
+use Rattle.meaning.specs.Writing.{Fit, unfit, fits, fitRow, close, Cell, cell, broken, Opens, envelopeRow, innerRow, opensOf, Envelope, envelopeAt, Plan, stuck, plan, onPlan, newPlan, rowPlan, turnPlan, endPlan, nextRow, lastRow, planOf, wholePlan, withinLimit, wrap, headerOf, Limit, fine, exceeds, limits, Written, written, unwritten, limited, planned, writeRows}
 use Rattle.laws.specs.Logic.{left-of, right-of}
 use Rattle.laws.specs.Tables.{In, every-in, allRooms, each-room}
-use Rattle.laws.specs.Fits.{unfit-fits, fit-holds, close-once}
-use Rattle.laws.specs.WrittenRead.{andThen, fitAll, then-inv, then-make}
+use Rattle.laws.specs.Fits.{fit-holds, close-once}
+use Rattle.laws.specs.WrittenRead.{fitAll, then-inv, then-make}
 use Rattle.laws.specs.Envelopes.{openingRow, Writes, the-base, before}
 
 -- Which rows open an envelope

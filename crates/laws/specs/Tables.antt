@@ -3,12 +3,12 @@ use Prim.Native.Nat.{ℕ, zero, suc}
 use mathlib.Core.List.{List, [], _∷_, _++_}
 use mathlib.Core.Bool.{Bool, true, false, _&&_, not}
 use mathlib.Core.Logic.{_⊎_, inl, inr}
-use mathlib.Core.Path.{_≡_, refl, ap, sym, _∙_, subst}
+use mathlib.Core.Path.{_≡_, refl, sym, subst}
 use lib.Dec.{T}
 use Rattle.meaning.specs.Basics.{pick, every}
 use Rattle.meaning.specs.Editions.{Edition, B, D, Room, receivedBegins, headRepresentation, headDate, parameters, ownText, parameterRepresentation, behaviourValue, encryptedTexts, receivedDate, afterDate, afterFrom, afterId, afterVia, receivedExtra, agentList, oneAgent, afterName, addressTexts, afterAddresses, afterResolvers, agentExtra, closed, Move, shared, own, moves}
 use Rattle.meaning.specs.Reading.{Found, none, hit, find}
-use Rattle.laws.specs.Logic.{left-of, right-of, both, is-true, not-both}
+use Rattle.laws.specs.Logic.{left-of, right-of, is-true, not-both}
 
 -- x is a member of the list
 pub data In {A : Type 0} (x : A) : List A → Type 0 where

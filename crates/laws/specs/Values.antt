@@ -1,14 +1,14 @@
 -- A valid value that is written is taken back; and a value that was taken is valid, and was written so. By induction over the bytes.
-use Prim.Native.Nat.{ℕ, zero, suc, _+_, _-_, _*_, _/_, _%_, _≤_, _<_}
+use Prim.Native.Nat.{ℕ, zero, suc, _+_, _*_, _/_, _%_, _≤_, _<_}
 use mathlib.Core.List.{List, [], _∷_, _++_, append-assoc}
-use mathlib.Core.Bool.{Bool, true, false, _&&_}
-use mathlib.Core.Path.{_≡_, refl, ap, sym, _∙_, subst}
+use mathlib.Core.Bool.{Bool, true, false}
+use mathlib.Core.Path.{_≡_, refl, ap, sym, subst}
 use native.Mathlib.Omega.{arith}
 use lib.Dec.{T, eqb, leb, ltb, leb→le, ltb→lt, le→leb, lt→ltb, eqb→eq, eqb-refl}
 use lib.ListN.{length}
-use borrow.Author.Tests.{ne-eqb, le-ltb, lt-ltb, eqb-true, ltb-false}
+use borrow.Author.Tests.{ne-eqb, le-ltb, eqb-true, ltb-false}
 use Rattle.meaning.specs.Basics.{pick, isEmpty}
-use Rattle.meaning.specs.Bytes.{Taken, took, failed, prefixed, textByte, takeText, textOk, Check, passes, takeDate, dateOk, dateChecks, Turn, stop, more, wrong, turn, afterTurn, okTurn, takeNumber, numberOk, takeBytes, highFirst, counted, short, Width, oneByte, twoBytes, fourBytes, bytesOf, fewest, past, tooWide, lengthBytes, blockOf, takeBlock, blockOk}
+use Rattle.meaning.specs.Bytes.{Taken, took, failed, prefixed, textByte, takeText, textOk, Check, passes, takeDate, dateOk, dateChecks, Turn, stop, more, wrong, turn, afterTurn, okTurn, takeNumber, numberOk, takeBytes, highFirst, counted, Width, oneByte, twoBytes, fourBytes, bytesOf, fewest, past, tooWide, lengthBytes, blockOf, takeBlock, blockOk}
 use Rattle.meaning.specs.Editions.{Form, text, date, number, block, itself, opens, quiet}
 use Rattle.meaning.specs.Reading.{takeValue}
 use Rattle.meaning.specs.Writing.{isOnly, valid, writeValue}

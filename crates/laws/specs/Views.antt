@@ -1,5 +1,5 @@
 -- Every row shows bytes of the header itself: where a row starts, its view stands. By induction over the steps of a reading.
-use Prim.Native.Nat.{ℕ, zero, suc, _+_, _-_, _≤_, _<_}
+use Prim.Native.Nat.{ℕ, zero, suc, _+_, _≤_}
 use mathlib.Core.List.{List, [], _∷_, _++_, append-assoc, map}
 use mathlib.Core.Bool.{Bool, true, false}
 use mathlib.Core.Path.{_≡_, refl, ap, sym, _∙_, subst}
@@ -10,8 +10,8 @@ use lib.Seq.{take-append-seam, drop-append-seam}
 use borrow.Author.Tests.{eqb-true}
 use Rattle.meaning.specs.Basics.{pick}
 use Rattle.meaning.specs.Bytes.{lengthBytes}
-use Rattle.meaning.specs.Editions.{Edition, State, Form, text, date, number, block, itself, opens, quiet, isQuiet, Move, noCode}
-use Rattle.meaning.specs.Reading.{Seen, seen, reachBack, seenBy, hasCode, Step, fails, over, next, step, Out, done, withRows, onward, run, inside}
+use Rattle.meaning.specs.Editions.{Edition, State, Form, text, date, number, block, itself, opens, quiet, isQuiet, noCode}
+use Rattle.meaning.specs.Reading.{Seen, seen, reachBack, hasCode, Step, fails, over, next, step, done, onward, run, inside}
 use Rattle.meaning.specs.Headers.{Placed, placed}
 use Rattle.meaning.specs.Writing.{isOnly, valid, writeValue, lead}
 use Rattle.laws.specs.Logic.{areBytes, bytes-behind}

@@ -1,17 +1,17 @@
 -- The writer's refusals: 1 at 0; 15 at a row, or at the row count; 5 at an envelope's row; 16 at the bytes needed, with which it is written.
 use Prim.Native.Nat.{ℕ, zero, suc, _+_, _≤_, _<_}
-use mathlib.Core.List.{List, [], _∷_, _++_}
-use mathlib.Core.Bool.{Bool, true, false, _&&_}
-use mathlib.Core.Path.{_≡_, refl, ap, sym, _∙_, subst}
+use mathlib.Core.List.{List, [], _∷_}
+use mathlib.Core.Bool.{Bool, true, false}
+use mathlib.Core.Path.{_≡_, refl, ap, _∙_, subst}
 use native.Mathlib.Omega.{arith}
-use lib.Dec.{T, leb}
+use lib.Dec.{leb}
 use lib.ListN.{length}
 use borrow.Author.Tests.{le-leb, leb-false}
 use Rattle.meaning.specs.Basics.{pick}
 use Rattle.meaning.specs.Editions.{Edition, State, state, closed, Label, known, unknown, labelOf}
 use Rattle.meaning.specs.Reading.{Row}
 use Rattle.meaning.specs.Headers.{start, envelopesMost}
-use Rattle.meaning.specs.Writing.{Fit, unfit, fits, fitRow, close, Cell, cell, broken, Opens, envelopeRow, innerRow, opensOf, Envelope, envelopeAt, Plan, stuck, plan, onPlan, newPlan, rowPlan, turnPlan, endPlan, nextRow, lastRow, planOf, wholePlan, withinLimit, headerOf, Limit, fine, exceeds, limits, Written, written, unwritten, roomed, limited, planned, writeRows, writtenUnder}
+use Rattle.meaning.specs.Writing.{Fit, unfit, fits, fitRow, close, Cell, cell, broken, Opens, envelopeRow, innerRow, opensOf, Envelope, Plan, stuck, plan, onPlan, newPlan, rowPlan, turnPlan, endPlan, nextRow, planOf, wholePlan, withinLimit, headerOf, Limit, fine, exceeds, limits, Written, written, unwritten, roomed, limited, planned, writeRows, writtenUnder}
 use Rattle.meaning.specs.Memory.{cellsOf, write}
 use Rattle.laws.specs.Fifteen.{stuck-between}
 

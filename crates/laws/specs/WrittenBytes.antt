@@ -1,23 +1,23 @@
 -- What the writer gives are bytes, if the rows view bytes: codes, lengths and values are each below 256.
-use Prim.Native.Nat.{ℕ, zero, suc, _+_, _*_, _/_, _%_, _≤_, _<_}
+use Prim.Native.Nat.{ℕ, zero, suc, _+_, _/_, _%_, _≤_, _<_}
 use mathlib.Core.List.{List, [], _∷_, _++_, map}
-use mathlib.Core.Bool.{Bool, true, false, _&&_, _||_, not}
-use mathlib.Core.Path.{_≡_, refl, ap, sym, _∙_, subst}
+use mathlib.Core.Bool.{Bool, true, false}
+use mathlib.Core.Path.{_≡_, refl, subst}
 use native.Mathlib.Omega.{arith}
-use lib.Dec.{T, eqb, leb, ltb, leb→le, ltb→lt, lt→ltb}
+use lib.Dec.{T, leb, ltb, leb→le, ltb→lt, lt→ltb}
 use lib.ListN.{length, take, drop}
-use borrow.Author.Tests.{eqb-false, leb-true, leb-false}
+use borrow.Author.Tests.{eqb-false, leb-true}
 use Rattle.meaning.specs.Basics.{pick, every}
 use Rattle.meaning.specs.Bytes.{Width, oneByte, twoBytes, fourBytes, fewest, past, lengthBytes, blockOk}
-use Rattle.meaning.specs.Editions.{Edition, Room, State, go, Form, text, date, number, block, itself, opens, quiet, isQuiet, Move, noCode, moves, shared, own}
+use Rattle.meaning.specs.Editions.{Edition, Room, State, Form, text, date, number, block, itself, opens, quiet, isQuiet, Move, noCode, moves, shared, own}
 use Rattle.meaning.specs.Reading.{Row, hasCode}
 use Rattle.meaning.specs.Headers.{envelopeMost}
-use Rattle.meaning.specs.Writing.{valid, writeValue, fits, lead, fitRow, close, Cell, cell, broken, isShort, envelopeSize, withinLimit, envelopeLength, wrap}
+use Rattle.meaning.specs.Writing.{valid, writeValue, fits, lead, fitRow, close, Cell, cell, broken, isShort, withinLimit, envelopeLength, wrap}
 use Rattle.meaning.specs.Memory.{cellOf, cellsOf}
-use Rattle.laws.specs.Logic.{left-of, right-of, both, isByte, areBytes, bytes-front, bytes-behind}
+use Rattle.laws.specs.Logic.{left-of, right-of, both, isByte, areBytes}
 use Rattle.laws.specs.Tables.{In, every-in, allRooms, each-room}
 use Rattle.laws.specs.Lookups.{quiet-coded}
-use Rattle.laws.specs.Fits.{Placing, fit-holds, close-holds}
+use Rattle.laws.specs.Fits.{fit-holds, close-holds}
 use Rattle.laws.specs.WrittenRead.{fitAll, then-inv}
 use Rattle.laws.specs.Envelopes.{Writes, the-base, before, limit-size}
 

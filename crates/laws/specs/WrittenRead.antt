@@ -1,17 +1,17 @@
 -- What the writer gives for the rows of an envelope, the reader reads as those rows: a step for each row, and one for each pass before it.
-use Prim.Native.Nat.{ℕ, zero, suc, _+_, _≤_, _<_}
-use mathlib.Core.List.{List, [], _∷_, _++_, append-assoc, map}
-use mathlib.Core.Bool.{Bool, true, false, _&&_}
-use mathlib.Core.Path.{_≡_, refl, ap, sym, _∙_, subst}
+use Prim.Native.Nat.{ℕ, suc, _+_}
+use mathlib.Core.List.{List, [], _∷_, _++_, map}
+use mathlib.Core.Bool.{Bool, true, false}
+use mathlib.Core.Path.{_≡_, refl, ap, sym, _∙_}
 use native.Mathlib.Omega.{arith}
-use lib.Dec.{T, eqb}
+use lib.Dec.{T}
 use lib.ListN.{length}
 use borrow.Author.Tests.{eqb-true}
 use Rattle.meaning.specs.Basics.{pick}
 use Rattle.meaning.specs.Bytes.{took, textByte, textOk}
-use Rattle.meaning.specs.Editions.{Edition, Room, State, go, Form, text, date, number, block, itself, opens, quiet, isQuiet, Move, noCode, closing, moves}
-use Rattle.meaning.specs.Reading.{Row, Seen, seen, rowOf, takeValue, reachBack, seenBy, hasCode, look, isClosed, tooDeep, next, step, done, withRows, inside}
-use Rattle.meaning.specs.Writing.{valid, writeValue, Fit, unfit, fits, led, lead, fitRow, close}
+use Rattle.meaning.specs.Editions.{Edition, State, go, Form, text, date, number, block, itself, opens, quiet, isQuiet, Move, noCode, closing, moves}
+use Rattle.meaning.specs.Reading.{Row, Seen, seen, rowOf, takeValue, reachBack, seenBy, hasCode, isClosed, tooDeep, next, step, done, withRows, inside}
+use Rattle.meaning.specs.Writing.{valid, writeValue, Fit, unfit, fits, led, fitRow, close}
 use Rattle.laws.specs.Logic.{left-of}
 use Rattle.laws.specs.Values.{text-byte-above, value-in}
 use Rattle.laws.specs.Tables.{In}

@@ -1,9 +1,7 @@
 -- For each move of each edition an input that takes it. Offsets count from the first parameter's byte, at 14 of the envelope.
-use Prim.Native.Nat.{ℕ, zero, suc, _+_, _*_, _/_, _%_}
-use mathlib.Core.List.{List, [], _∷_, _++_, map}
-use mathlib.Core.Bool.{Bool, true, false}
+use Prim.Native.Nat.{ℕ, _+_, _/_, _%_}
+use mathlib.Core.List.{List, [], _∷_, _++_}
 use lib.ListN.{length, replicate}
-use Rattle.meaning.specs.Basics.{pick}
 use Rattle.meaning.specs.Cases.{joined, hex, aDate, baseWith, baseRows, Reading, accepts}
 
 abbrev pub offset : List ℕ → List ℕ

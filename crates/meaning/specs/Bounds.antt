@@ -1,10 +1,7 @@
 -- Our own table: every move of each edition, a refused code for each room, each bound of document 01 at it and one over; in one theorem.
-use Prim.Native.Nat.{ℕ, zero, suc, _+_, _-_, _*_, _/_}
-use mathlib.Core.List.{List, [], _∷_, _++_}
-use mathlib.Core.Bool.{Bool, true, false, _&&_, not}
-use lib.Dec.{T, eqb, leb}
-use lib.ListN.{length, take, replicate}
-use Rattle.meaning.specs.Basics.{pick, every}
+use mathlib.Core.Bool.{Bool, _&&_}
+use lib.Dec.{T}
+use Rattle.meaning.specs.Basics.{every}
 use Rattle.meaning.specs.Bytes.{textByte, takeText, textOk, turn, takeNumber, numberOk, lastDay, passes, takeDate, dateOk, highFirst, tooWide, takeBytes, blockOf, takeBlock, blockOk}
 use Rattle.meaning.specs.Editions.{shared, own, moves}
 use Rattle.meaning.specs.Reading.{takeValue, find, look, stepMove, step, run, inside}

@@ -1,7 +1,7 @@
 -- Document 01, "Bytes": how the values stand among the bytes of an envelope.
 -- A value is taken from the front of the bytes that are left of its envelope. Where they run out a byte is needed at the declared end: 6.
 use Prim.Native.Nat.{ℕ, zero, suc, _+_, _-_, _*_, _/_, _%_}
-use mathlib.Core.List.{List, [], _∷_, _++_}
+use mathlib.Core.List.{List, [], _∷_}
 use mathlib.Core.Bool.{Bool, true, false, _&&_, _||_, not}
 use lib.Dec.{eqb, leb, ltb}
 use lib.ListN.{length}

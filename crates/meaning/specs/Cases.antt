@@ -1,5 +1,5 @@
 -- How an instance is held against the definitions: what each kind of case says, and the test that it passes.
-use Prim.Native.Nat.{ℕ, zero, suc, _+_, _-_, _/_, _%_}
+use Prim.Native.Nat.{ℕ, zero, suc, _-_, _/_, _%_}
 use mathlib.Core.List.{List, [], _∷_, _++_}
 use mathlib.Core.Bool.{Bool, true, false, _&&_}
 use lib.Dec.{eqb, leb}
@@ -8,7 +8,7 @@ use Rattle.meaning.specs.Basics.{pick}
 use Rattle.meaning.specs.Headers.{Placed, Answer, refused, accepted, read}
 use Rattle.meaning.specs.Memory.{tableOf, Reply, readReply, writeReply, write}
 use Rattle.meaning.specs.Writing.{Written, written, unwritten}
-use Rattle.meaning.specs.Plain.{Outcome, Date, numberDecoded, numberPlain, numberEncoded, numberBytes, dateDecoded, datePlain, dateEncoded, dateBytes}
+use Rattle.meaning.specs.Plain.{Outcome, Date, numberDecoded, numberPlain, numberEncoded, numberBytes, dateDecoded, datePlain, dateEncoded}
 
 abbrev pub same : List ℕ → List ℕ → Bool
 same [] [] = true

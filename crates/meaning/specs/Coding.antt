@@ -1,8 +1,8 @@
 -- Tables written, lent memory, the payload's part, plain values and the listing: each at its bounds and one over.
-use Prim.Native.Nat.{ℕ, zero, suc, _+_, _-_, _*_, _/_}
+use Prim.Native.Nat.{ℕ, zero, suc}
 use mathlib.Core.List.{List, [], _∷_, _++_}
-use mathlib.Core.Bool.{Bool, true, false, _&&_, not}
-use lib.Dec.{eqb, leb}
+use mathlib.Core.Bool.{Bool, _&&_, not}
+use lib.Dec.{eqb}
 use lib.ListN.{length, take, replicate}
 use Rattle.meaning.specs.Headers.{read}
 use Rattle.meaning.specs.Bytes.{oneByte, twoBytes, fourBytes, past, lengthBytes, blockOk}

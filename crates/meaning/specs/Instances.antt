@@ -1,7 +1,7 @@
 -- Document 01, "Checked instances": those with *, one table under one theorem.
-use Prim.Native.Nat.{ℕ, zero, suc}
-use mathlib.Core.List.{List, [], _∷_, _++_}
-use mathlib.Core.Bool.{Bool, _&&_}
+use Prim.Native.Nat.{ℕ}
+use mathlib.Core.List.{List, [], _∷_}
+use mathlib.Core.Bool.{_&&_}
 use lib.Dec.{T}
 use Rattle.meaning.specs.Basics.{every}
 use Rattle.meaning.specs.Bytes.{textByte, takeText, turn, takeNumber, lastDay, passes, takeDate, highFirst, tooWide, takeBytes, blockOf, takeBlock}

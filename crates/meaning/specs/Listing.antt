@@ -1,8 +1,7 @@
 -- Document 01, the listing program: "prints answer, place, rows; then, if accepted, per row kind, level, start, length, viewed bytes
 -- in lower-case hex, or `-` if none. Numbers are decimal, fields are parted by tabs, each line ends with byte 0A."
-use Prim.Native.Nat.{ℕ, zero, suc, _+_, _*_, _/_, _%_}
+use Prim.Native.Nat.{ℕ, _+_, _/_, _%_}
 use mathlib.Core.List.{List, [], _∷_, _++_, map}
-use mathlib.Core.Bool.{Bool, true, false}
 use lib.Dec.{leb, ltb}
 use lib.ListN.{length}
 use Rattle.meaning.specs.Basics.{pick}

@@ -1,8 +1,7 @@
 -- Document 01, "Rows lent" and "Answers by number": what a call answers, and what the lent memory holds after it.
 -- "A refused call changes nothing lent; an accepted one changes only its rows or bytes."
-use Prim.Native.Nat.{ℕ, zero, suc, _+_, _*_, _/_}
+use Prim.Native.Nat.{ℕ, _+_, _/_}
 use mathlib.Core.List.{List, [], _∷_, _++_}
-use mathlib.Core.Bool.{Bool, true, false}
 use lib.Dec.{leb}
 use lib.ListN.{length, take, drop}
 use Rattle.meaning.specs.Basics.{pick}

@@ -2,7 +2,7 @@
 -- and on any other refusal it is the empty part at the front."
 use Prim.Native.Nat.{ℕ}
 use mathlib.Core.List.{List, []}
-use lib.ListN.{length, take, drop}
+use lib.ListN.{length, drop}
 use Rattle.meaning.specs.Headers.{Answer, refused, accepted, read}
 
 -- the part's first place and the place behind its last byte

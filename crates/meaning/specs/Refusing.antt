@@ -1,5 +1,5 @@
 -- For each room a code that it refuses; each bound of a reading at it and one over. Offsets count from the first parameter's byte, at 14.
-use Prim.Native.Nat.{ℕ, zero, suc, _+_, _-_, _*_}
+use Prim.Native.Nat.{ℕ, zero, suc, _+_}
 use mathlib.Core.List.{List, [], _∷_, _++_}
 use lib.ListN.{length, take, drop, replicate}
 use Rattle.meaning.specs.Cases.{joined, hex, aDate, baseWith, baseRows, Reading, accepts, refuses}
