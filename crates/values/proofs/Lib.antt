@@ -1,2 +1,4 @@
+pub mod Logic
 pub mod Answers
 pub mod Texts
+pub mod Numbers

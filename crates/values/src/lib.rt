@@ -1,4 +1,6 @@
 // Coded values: the reader's stages that take one off the input, and the coding of numbers and dates to and from plain values.
+mod digits;
+pub mod number;
 pub mod text;
 
 // "either a value with the place after it, or a refusal": a row's kind, start and length, or document 01's number and place.

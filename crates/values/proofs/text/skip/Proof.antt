@@ -1,5 +1,5 @@
 -- `text::skip` passes text alone: the invariant is its promise at the place reached, and a turn is one run of sixteen.
-use Prim.Native.Nat.{ℕ, _+_, _-_}
+use Prim.Native.Nat.{ℕ, _-_}
 use mathlib.Core.Path.{_≡_, ap, sym, _∙_}
 use native.Mathlib.Omega.{arith}
 use Rattle.meaning.specs.Bytes.{takeText}
@@ -35,14 +35,12 @@ loop-less c = omega arith
 
 loop-again : tie.Need-loop-again Inv-loop μ-loop
 loop-again c =
-    let l = c .before .before .before in
-    let a = l .before .before .args in
-    let q : l .loop .i - a .at + 16 ≡ l .loop .i + 16 - a .at = omega arith in
+    let l = c .before .before .before .loop in
+    let a = c .before .before .before .before .before .args in
     record {
       inside = omega arith;
       before = omega arith;
-      is = l .loop .inv .is ∙ text-runs (a .s .now) (a .end) (l .before .before .pre .whole) (l .loop .i) (l .loop .i - a .at) 15 (omega arith) (sym (c .before .sixteen .ensures) ∙ c .if1 .taken)
-      ∙ ap (λ (x : ℕ). span x (takeText (from (a .s .now) (l .loop .i + 16) (a .end)))) q;
+      is = l .inv .is ∙ text-runs (a .s .now) (a .end) (c .before .before .before .before .before .pre .whole) (a .at) (l .i) 15 (l .inv .inside) (omega arith) (sym (c .before .sixteen .ensures) ∙ c .if1 .taken);
     }
 
 returns : tie.Need-returns Inv-loop μ-loop

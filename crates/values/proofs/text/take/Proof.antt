@@ -1,11 +1,9 @@
 -- `text::take`: byte by byte behind the skipped sixteens, and the invariant is still the promise of `skip`.
-use Prim.Native.Nat.{ℕ, _+_, _-_}
-use mathlib.Core.Path.{_≡_, ap, _∙_}
+use Prim.Native.Nat.{_-_}
+use mathlib.Core.Path.{_∙_}
 use native.Mathlib.Omega.{arith}
 use lib.ListN.{getD}
-use Rattle.meaning.specs.Bytes.{takeText}
-use Rattle.laws.specs.From.{from}
-use Rattle.values.specs.Stages.{span, Skipped}
+use Rattle.values.specs.Stages.{Skipped}
 use Rattle.values.proofs.Answers.{answered, refuses}
 use Rattle.values.proofs.Texts.{is-text, text-stops, text-wrong, text-goes, text-ends}
 use Rattle.values.proofs.text.take.Statement.{statement}
@@ -34,15 +32,15 @@ add-t11 c = omega arith
 
 returns : tie.Need-returns Inv-loop μ-loop
 returns c =
-    let l = c .before .before .before in
+    let l = c .before .before .before .loop in
     let a = c .before .before .before .before .before .before .args in
-    answered (l .loop .inv .is ∙ text-stops (a .s .now) (a .end) (c .before .before .before .before .before .before .pre .whole) (l .loop .i) (l .loop .i - a .at) (c .before .before .loop-test .taken) (c .if1 .taken)) (omega arith) (omega arith) (omega arith) (omega arith)
+    answered (l .inv .is ∙ text-stops (a .s .now) (a .end) (c .before .before .before .before .before .before .pre .whole) (a .at) (l .i) (l .inv .inside) (c .before .before .loop-test .taken) (c .if1 .taken)) (omega arith) (omega arith) (omega arith) (omega arith)
 
 returns-2 : tie.Need-returns-2 Inv-loop μ-loop
 returns-2 c =
-    let l = c .before .before .before .before in
+    let l = c .before .before .before .before .loop in
     let a = c .before .before .before .before .before .before .before .args in
-    refuses (l .loop .inv .is ∙ text-wrong (a .s .now) (a .end) (c .before .before .before .before .before .before .before .pre .whole) (l .loop .i) (l .loop .i - a .at) (c .before .before .before .loop-test .taken) (c .before .if1 .left) (c .if2 .taken)) (omega arith)
+    refuses (l .inv .is ∙ text-wrong (a .s .now) (a .end) (c .before .before .before .before .before .before .before .pre .whole) (a .at) (l .i) (l .inv .inside) (c .before .before .before .loop-test .taken) (c .before .if1 .left) (c .if2 .taken)) (omega arith)
 
 add-i : tie.Need-add-i Inv-loop μ-loop
 add-i c = omega arith
@@ -52,21 +50,19 @@ loop-less c = omega arith
 
 loop-again : tie.Need-loop-again Inv-loop μ-loop
 loop-again c =
-    let l = c .before .before .before .before in
+    let l = c .before .before .before .before .loop in
     let a = c .before .before .before .before .before .before .before .args in
-    let q : l .loop .i - a .at + 1 ≡ l .loop .i + 1 - a .at = omega arith in
     record {
       inside = omega arith;
       before = omega arith;
-      is = l .loop .inv .is ∙ text-goes (a .s .now) (a .end) (c .before .before .before .before .before .before .before .pre .whole) (l .loop .i) (l .loop .i - a .at) (c .before .before .before .loop-test .taken) (is-text (getD (a .s .now) (l .loop .i) 0) (c .if2 .left))
-      ∙ ap (λ (x : ℕ). span x (takeText (from (a .s .now) (l .loop .i + 1) (a .end)))) q;
+      is = l .inv .is ∙ text-goes (a .s .now) (a .end) (c .before .before .before .before .before .before .before .pre .whole) (a .at) (l .i) (l .inv .inside) (c .before .before .before .loop-test .taken) (is-text (getD (a .s .now) (l .i) 0) (c .if2 .left));
     }
 
 returns-3 : tie.Need-returns-3 Inv-loop μ-loop
 returns-3 c =
-    let l = c .before in
+    let l = c .before .loop in
     let a = c .before .before .before .before .args in
-    refuses (l .loop .inv .is ∙ text-ends (a .s .now) (a .end) (c .before .before .before .before .pre .whole) (l .loop .i) (l .loop .i - a .at) (omega arith)) (omega arith)
+    refuses (l .inv .is ∙ text-ends (a .s .now) (a .end) (c .before .before .before .before .pre .whole) (a .at) (l .i) (l .inv .inside) (omega arith)) (omega arith)
 
 pub take-spec : {M : Type 1} → statement M
 take-spec =
