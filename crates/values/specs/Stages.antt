@@ -2,10 +2,14 @@
 -- A stage speaks of places in a slice, `meaning` of the bytes that are left; `from s at end` ties the two.
 use Prim.Native.Nat.{ℕ, zero, suc, _+_, _-_, _≤_, _<_}
 use mathlib.Core.List.{List, [], _∷_}
-use mathlib.Core.Bool.{Bool, _&&_}
+use mathlib.Core.Bool.{Bool, false, _&&_}
+use lib.Dec.{eqb}
 use mathlib.Core.Path.{_≡_}
 use lib.ListN.{length, getD}
 use Rattle.meaning.specs.Bytes.{Taken, took, failed, textByte, takeText}
+use Rattle.meaning.specs.Kinds.{agentName}
+use Rattle.meaning.specs.Editions.{Next, Move, Form, isQuiet, noCode, on_▸_▸_▸_}
+use Rattle.meaning.specs.Reading.{look, none, hit, takeValue, reachBack}
 use Rattle.laws.specs.From.{from}
 use Rattle.values.specs.declared.Value.{Value}
 use Rattle.values.specs.declared.Value.the-variants.{Is, Refused}
@@ -34,6 +38,22 @@ Stands end at kind back (Refused refusal place) = place ≤ end
 pub record Valued (s : List ℕ) (end at kind back : ℕ) (taken : Taken) (answer : Value) : Type 0 where
   pub is : span 0 taken ≡ told s end answer
   pub stands : Stands end at kind back answer
+
+-- a move that has a code and a row, and is no agent's
+pub record Bears (code kind : ℕ) (form : Form) : Type 0 where
+  pub coded : eqb code noCode ≡ false
+  pub rowed : isQuiet form ≡ false
+  pub flat : eqb kind agentName ≡ false
+
+-- a stage's answer where a room's moves begin at a code, whichever room is next:
+-- "6: a byte is needed at the declared end"; a code that is in no move, with its refusal; or the code's move and its value
+pub data Coded (moves : Next → List Move) (strange : ℕ) (s : List ℕ) (end at : ℕ) : Value → Type 0 where
+  ended : at ≡ end → Coded moves strange s end at (Refused 6 at)
+  unknown : at < end → ((n : Next) → look (getD s at 0) (moves n) ≡ none) → Coded moves strange s end at (Refused strange at)
+  valued : {answer : Value} (kind : ℕ) (form : Form) → at < end → Bears (getD s at 0) kind form
+      → ((n : Next) → look (getD s at 0) (moves n) ≡ hit (on getD s at 0 ▸ kind ▸ form ▸ n))
+      → Valued s end at kind (reachBack form) (takeValue form (end - at) (getD s at 0) (from s (at + 1) end)) answer
+      → Coded moves strange s end at answer
 
 -- what a stage asks: a place up to the declared end, which is in the input
 pub record Inside (s : List ℕ) (end at : ℕ) : Type 0 where

@@ -1,4 +1,5 @@
 // Coded values: the reader's stages that take one off the input, and the coding of numbers and dates to and from plain values.
+pub mod date;
 mod digits;
 pub mod number;
 pub mod text;
@@ -7,4 +8,9 @@ pub mod text;
 pub enum Value {
     Is { kind: u32, start: usize, length: usize, after: usize },
     Refused { refusal: u32, at: usize },
+}
+
+// What the edition allows, as far as values differ by it: its number, 1 (B) or 2 (D).
+pub struct Allows {
+    pub edition: u32,
 }
