@@ -16,7 +16,7 @@ use Rattle.values.specs.declared.any.Length.the-variants.{Says, Short}
 use Rattle.values.specs.declared.Value.the-variants.{Is, Refused}
 use Rattle.values.specs.Stages.{span, spans, misses, Valued}
 use Rattle.values.specs.Blocks.{said, Behind, LengthRead}
-use Rattle.values.proofs.Answers.{span-prefixed, answered, refuses}
+use Rattle.values.specs.Answers.{span-prefixed, answered, refuses}
 
 -- the numbers of k bytes are below this
 abbrev pub bound : ℕ → ℕ

@@ -17,7 +17,7 @@ use Rattle.values.specs.declared.date.Form.{Form}
 use Rattle.values.specs.declared.date.Form.the-variants.{Dated, Unknown}
 use Rattle.values.specs.Stages.{Span, span, spans, misses, Bears}
 use Rattle.values.specs.Dates.{reaching, dateLength, absoluteCheck, pairCheck, checkAt, earlier, datesOf, DateCode}
-use Rattle.values.proofs.Answers.{span-prefixed}
+use Rattle.values.specs.Answers.{span-prefixed}
 
 -- the checks of n bytes from byte j on
 abbrev checksFrom : Bool → ℕ → ℕ → List Check

@@ -19,7 +19,7 @@ use Rattle.values.specs.declared.Value.the-variants.{Is, Refused}
 use Rattle.values.specs.Stages.{Span, span, spans, misses, Valued}
 use Rattle.values.specs.Numbers.{turned, Worth, Turned, Tally, counts, fails, tally, tallied, Ends, Counted}
 use Rattle.values.proofs.Logic.{both-hold}
-use Rattle.values.proofs.Answers.{answered, refuses}
+use Rattle.values.specs.Answers.{answered, refuses}
 
 -- one byte, with the digits d and e of its halves and whether they are digits
 module _ (number : ℕ) (first : Bool) (b : ℕ) {d e : ℕ} {x y : Bool} (hd : d ≡ digitOf (b / 16)) (he : e ≡ digitOf (b % 16)) (hx : x ≡ isDigit (b / 16)) (hy : y ≡ isDigit (b % 16)) where

@@ -11,7 +11,7 @@ use Rattle.meaning.specs.Bytes.{textByte, takeText}
 use Rattle.laws.specs.From.{from, from-length, from-end, from-cons}
 use Rattle.values.specs.Stages.{spans, misses, span, textRun}
 use Rattle.values.proofs.Logic.{both-hold}
-use Rattle.values.proofs.Answers.{span-prefixed}
+use Rattle.values.specs.Answers.{span-prefixed}
 
 pub is-text : (b : ℕ) → 32 ≤ b → textByte b ≡ true
 unfolding textByte

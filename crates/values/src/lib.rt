@@ -3,6 +3,7 @@ pub mod any;
 pub mod date;
 mod digits;
 pub mod number;
+pub mod plain;
 pub mod representation;
 pub mod text;
 

@@ -7,7 +7,7 @@ use lib.ListN.{length}
 use Rattle.meaning.specs.Bytes.{takeDate, dateChecks}
 use Rattle.laws.specs.From.{from}
 use Rattle.values.specs.Stages.{span}
-use Rattle.values.proofs.Answers.{answered, refuses}
+use Rattle.values.specs.Answers.{answered, refuses}
 use Rattle.values.specs.Dates.{reaching}
 use Rattle.values.proofs.Dates.{dateFrom, date-begins, date-over, date-ends, date-wrong, date-goes, positive}
 use Rattle.values.proofs.date.bytes.Statement.{statement}

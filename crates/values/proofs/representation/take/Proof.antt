@@ -3,7 +3,7 @@ use mathlib.Core.Path.{refl, sym}
 use native.Mathlib.Omega.{arith}
 use borrow.Author.Tests.{ne-eqb}
 use lib.ListN.{getD, take}
-use Rattle.values.proofs.Answers.{answered}
+use Rattle.values.specs.Answers.{answered}
 use Rattle.meaning.specs.Reading.{look, find, takeValue}
 use Rattle.values.specs.Stages.{ended}
 use Rattle.values.proofs.Coded.{code-unknown, code-known, code-before}

@@ -4,7 +4,7 @@ use mathlib.Core.Path.{_∙_}
 use native.Mathlib.Omega.{arith}
 use lib.ListN.{getD}
 use Rattle.values.specs.Stages.{Skipped}
-use Rattle.values.proofs.Answers.{answered, refuses}
+use Rattle.values.specs.Answers.{answered, refuses}
 use Rattle.values.proofs.Texts.{is-text, text-stops, text-wrong, text-goes, text-ends}
 use Rattle.values.proofs.text.take.Statement.{statement}
 use Rattle.values.proofs.text.take.Tie as tie

@@ -1,0 +1,51 @@
+-- What the coding of numbers and dates to and from plain values promises: document 01's outcome and value, for any input at all.
+use Prim.Native.Nat.{ℕ, _≤_}
+use mathlib.Core.List.{List}
+use mathlib.Core.Path.{_≡_}
+use lib.ListN.{getD}
+use Rattle.meaning.specs.Bytes.{twoDigits}
+use Rattle.meaning.specs.Plain.{Outcome, outcome, decodeOutcome, numberDecoded, numberPlain, Date as PlainDate, Reached, decodeReach, componentsOf, dateDecoded, datePlain}
+use Rattle.values.specs.declared.plain.DecodedNumber.{DecodedNumber}
+use Rattle.values.specs.declared.plain.Date.{Date}
+use Rattle.values.specs.declared.plain.DecodedDate.{DecodedDate}
+
+-- the decoder of numbers
+pub record NumberDecodes (bytes : List ℕ) (result : DecodedNumber) : Type 0 where
+  pub is : outcome (result .answer) (result .place) ≡ numberDecoded bytes
+  pub worth : result .value ≡ numberPlain bytes
+
+-- the struct's components, as `meaning` has them
+abbrev pub plainOf : Date → PlainDate
+plainOf d =
+    record {
+      year = d .year;
+      month = d .month;
+      day = d .day;
+      hour = d .hour;
+      minute = d .minute;
+      second = d .second;
+      millisecond = d .millisecond;
+      designator = d .designator;
+    }
+
+-- the decoder of dates
+pub record DateDecodes (kind : ℕ) (bytes : List ℕ) (result : DecodedDate) : Type 0 where
+  pub is : outcome (result .answer) (result .place) ≡ dateDecoded kind bytes
+  pub worth : plainOf (result .date) ≡ datePlain kind bytes
+
+-- .. behind the kind
+pub record DecodesReach (reach : Reached) (bytes : List ℕ) (result : DecodedDate) : Type 0 where
+  pub is : outcome (result .answer) (result .place) ≡ decodeOutcome 9 (decodeReach bytes reach)
+  pub worth : plainOf (result .date) ≡ componentsOf (decodeReach bytes reach)
+
+-- "a refused decoder's values are all 0"
+abbrev pub noComponents : Date
+noComponents = record { year = 0; month = 0; day = 0; hour = 0; minute = 0; second = 0; millisecond = 0; designator = 0 }
+
+abbrev pub undecodedAt : ℕ → DecodedDate
+undecodedAt offset = record { answer = 9; place = offset; date = noComponents }
+
+-- two digits of any byte
+pub record PairAt (bytes : List ℕ) (j two : ℕ) : Type 0 where
+  pub is : two ≡ twoDigits (getD bytes j 0)
+  pub small : two ≤ 154
