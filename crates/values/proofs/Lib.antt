@@ -6,3 +6,4 @@ pub mod Numbers
 pub mod Dates
 pub mod Blocks
 pub mod Decoding
+pub mod Encoding

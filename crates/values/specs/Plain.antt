@@ -2,10 +2,11 @@
 use Prim.Native.Nat.{ℕ, _≤_}
 use mathlib.Core.List.{List}
 use mathlib.Core.Path.{_≡_}
-use lib.ListN.{getD}
+use lib.ListN.{length, getD}
 use Rattle.meaning.specs.Bytes.{twoDigits}
-use Rattle.meaning.specs.Plain.{Outcome, outcome, decodeOutcome, numberDecoded, numberPlain, Date as PlainDate, Reached, decodeReach, componentsOf, dateDecoded, datePlain}
+use Rattle.meaning.specs.Plain.{Outcome, outcome, decodeOutcome, numberDecoded, numberPlain, numberEncoded, numberOutput, Date as PlainDate, Reached, decodeReach, componentsOf, dateDecoded, datePlain}
 use Rattle.values.specs.declared.plain.DecodedNumber.{DecodedNumber}
+use Rattle.values.specs.declared.plain.Encoded.{Encoded}
 use Rattle.values.specs.declared.plain.Date.{Date}
 use Rattle.values.specs.declared.plain.DecodedDate.{DecodedDate}
 
@@ -13,6 +14,11 @@ use Rattle.values.specs.declared.plain.DecodedDate.{DecodedDate}
 pub record NumberDecodes (bytes : List ℕ) (result : DecodedNumber) : Type 0 where
   pub is : outcome (result .answer) (result .place) ≡ numberDecoded bytes
   pub worth : result .value ≡ numberPlain bytes
+
+-- the encoder of numbers
+pub record NumberEncodes (value : ℕ) (before after : List ℕ) (result : Encoded) : Type 0 where
+  pub is : outcome (result .answer) (result .place) ≡ numberEncoded value (length before)
+  pub lays : after ≡ numberOutput value before
 
 -- the struct's components, as `meaning` has them
 abbrev pub plainOf : Date → PlainDate

@@ -3,15 +3,16 @@ use crate::Value;
 use crate::date;
 use crate::digits::{digit, two_digits, wide};
 use crate::number;
-use crate::number::Number;
+use crate::number::{Number, coded_byte};
 
 ghost use mathlib.Core.Path.{_≡_};
 ghost use Prim.Native.Nat.{ℕ, _+_, _≤_, _<_};
 ghost use lib.ListN.{length, getD};
 ghost use Rattle.meaning.specs.Bytes.{absolute};
+ghost use Rattle.meaning.specs.Memory.{laidOver};
 ghost use Rattle.meaning.specs.Plain.{dateOf, dated};
 ghost use Rattle.values.specs.Dates.{reaching};
-ghost use Rattle.values.specs.Plain.{NumberDecodes, DateDecodes, DecodesReach, plainOf, undecodedAt, PairAt};
+ghost use Rattle.values.specs.Plain.{NumberDecodes, NumberEncodes, DateDecodes, DecodesReach, plainOf, undecodedAt, PairAt};
 
 pub struct DecodedNumber {
     pub answer: u32,
@@ -29,6 +30,11 @@ pub struct Date {
     pub second: u32,
     pub millisecond: u32,
     pub designator: u32,
+}
+
+pub struct Encoded {
+    pub answer: u32,
+    pub place: usize,
 }
 
 pub struct DecodedDate {
@@ -51,6 +57,42 @@ pub fn decode_number(bytes: &[u8]) -> DecodedNumber
             }
             DecodedNumber { answer: 0, place: after, value: value }
         }
+    }
+}
+
+// The bytes that code a number. "Encoders answer 9 or 10, place 0, for a value out of range, and then 16 for room."
+pub fn encode_number(value: u64, output: &mut [u8]) -> Encoded
+    ensures { λ r. ⌜ NumberEncodes value (now (output .entry)) (now (output .exit)) r ⌝ }
+{
+    if number::MOST < value {
+        return Encoded { answer: 10, place: 0 };
+    }
+    let n = number::digit_count(value);
+    let many = n / 2 + 1;
+    if output.len() < many {
+        return Encoded { answer: 16, place: many };
+    }
+    let bytes = [
+        coded_byte(value, n, 0),
+        coded_byte(value, n, 1),
+        coded_byte(value, n, 2),
+        coded_byte(value, n, 3),
+        coded_byte(value, n, 4),
+        coded_byte(value, n, 5),
+    ];
+    lay(&bytes[..many], output);
+    Encoded { answer: 0, place: many }
+}
+
+// Over the front of `output`; nothing behind it changes.
+fn lay(bytes: &[u8], output: &mut [u8])
+    requires { ⌜ length (now bytes) ≤ length (now output) ⌝ }
+    ensures { λ _. ⌜ now (output .exit) ≡ laidOver (now (output .entry)) (now (bytes .entry)) ⌝ }
+{
+    let mut j = 0;
+    while j < bytes.len() {
+        output[j] = bytes[j];
+        j += 1;
     }
 }
 
