@@ -27,7 +27,7 @@ use Rattle.values.specs.declared.plain.DecodedDate.{DecodedDate}
 use Rattle.values.specs.Plain.{NumberDecodes, DateDecodes, DecodesReach, plainOf, undecodedAt, PairAt}
 use Rattle.values.proofs.Numbers.{counted-to, counted-fault, counted-is, counted-refused}
 
-from-all : (s : List ℕ) → from s 0 (length s) ≡ s
+pub from-all : (s : List ℕ) → from s 0 (length s) ≡ s
 unfolding from
 from-all s = take-all (length s - 0) s (omega arith)
 

@@ -7,3 +7,4 @@ pub mod Dates
 pub mod Blocks
 pub mod Decoding
 pub mod Encoding
+pub mod EncodingDates

@@ -1,10 +1,12 @@
 -- What the coding of numbers and dates to and from plain values promises: document 01's outcome and value, for any input at all.
-use Prim.Native.Nat.{ℕ, _≤_}
-use mathlib.Core.List.{List}
+use Prim.Native.Nat.{ℕ, _+_, _*_, _/_, _%_, _≤_}
+use mathlib.Core.List.{List, [], _∷_}
+use mathlib.Core.Bool.{Bool, _&&_}
 use mathlib.Core.Path.{_≡_}
+use lib.Dec.{leb}
 use lib.ListN.{length, getD}
 use Rattle.meaning.specs.Bytes.{twoDigits}
-use Rattle.meaning.specs.Plain.{Outcome, outcome, decodeOutcome, numberDecoded, numberPlain, numberEncoded, numberOutput, Date as PlainDate, Reached, decodeReach, componentsOf, dateDecoded, datePlain}
+use Rattle.meaning.specs.Plain.{Outcome, outcome, decodeOutcome, numberDecoded, numberPlain, numberEncoded, numberOutput, Date as PlainDate, Reached, decodeReach, componentsOf, dateDecoded, datePlain, encodeOutcome, encodeMemory, dateBytes, pairByte, fitsDigits, reachAllows, dateEncoded, dateOutput}
 use Rattle.values.specs.declared.plain.DecodedNumber.{DecodedNumber}
 use Rattle.values.specs.declared.plain.Encoded.{Encoded}
 use Rattle.values.specs.declared.plain.Date.{Date}
@@ -55,3 +57,23 @@ undecodedAt offset = record { answer = 9; place = offset; date = noComponents }
 pub record PairAt (bytes : List ℕ) (j two : ℕ) : Type 0 where
   pub is : two ≡ twoDigits (getD bytes j 0)
   pub small : two ≤ 154
+
+-- the encoder of dates
+pub record DateEncodes (kind : ℕ) (date : PlainDate) (before after : List ℕ) (result : Encoded) : Type 0 where
+  pub is : outcome (result .answer) (result .place) ≡ dateEncoded kind date (length before)
+  pub lays : after ≡ dateOutput kind date before
+
+-- .. behind the kind
+pub record EncodesReach (reach : Reached) (date : PlainDate) (before after : List ℕ) (result : Encoded) : Type 0 where
+  pub is : outcome (result .answer) (result .place) ≡ encodeOutcome 9 (reachAllows date reach) (length before) (dateBytes date)
+  pub lays : after ≡ encodeMemory (reachAllows date reach) before (dateBytes date)
+
+-- its bytes are bytes
+abbrev pub Fits : PlainDate → Bool
+Fits d = fitsDigits d && leb (d .designator) 255
+
+-- the bytes of a date, and behind them its designator or 0
+abbrev pub tenBytes : PlainDate → List ℕ
+tenBytes d =
+    pairByte (d .year / 100) ∷ pairByte (d .year % 100) ∷ pairByte (d .month) ∷ pairByte (d .day) ∷ pairByte (d .hour) ∷ pairByte (d .minute) ∷ pairByte (d .second) ∷
+    pairByte (d .millisecond / 10) ∷ 16 * (d .millisecond % 10 + 1) ∷ d .designator ∷ []

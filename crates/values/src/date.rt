@@ -57,7 +57,7 @@ pub fn bytes(s: &[u8], end: usize, at: usize, kind: u32, absolute: bool, designa
     Value::Is { kind: kind, start: at, length: j, after: after }
 }
 
-fn length_of(designated: bool) -> usize
+pub fn length_of(designated: bool) -> usize
     ensures { λ r. ⌜ r ≡ dateLength designated ⌝ }
 {
     if designated {

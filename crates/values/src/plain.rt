@@ -6,13 +6,14 @@ use crate::number;
 use crate::number::{Number, coded_byte};
 
 ghost use mathlib.Core.Path.{_≡_};
+ghost use mathlib.Core.Bool.{true};
 ghost use Prim.Native.Nat.{ℕ, _+_, _≤_, _<_};
 ghost use lib.ListN.{length, getD};
 ghost use Rattle.meaning.specs.Bytes.{absolute};
 ghost use Rattle.meaning.specs.Memory.{laidOver};
-ghost use Rattle.meaning.specs.Plain.{dateOf, dated};
+ghost use Rattle.meaning.specs.Plain.{dateOf, dated, pairByte};
 ghost use Rattle.values.specs.Dates.{reaching};
-ghost use Rattle.values.specs.Plain.{NumberDecodes, NumberEncodes, DateDecodes, DecodesReach, plainOf, undecodedAt, PairAt};
+ghost use Rattle.values.specs.Plain.{NumberDecodes, NumberEncodes, DateDecodes, DateEncodes, DecodesReach, EncodesReach, Fits, tenBytes, plainOf, undecodedAt, PairAt};
 
 pub struct DecodedNumber {
     pub answer: u32,
@@ -123,6 +124,86 @@ fn decode_reach(bytes: &[u8], absolute: bool) -> DecodedDate
             DecodedDate { answer: 0, place: after, date: date_of(bytes) }
         }
     }
+}
+
+// The bytes that code a date of a kind, which as a row has no code. "Another kind is 9 at 0."
+pub fn encode_date(kind: u32, date: Date, output: &mut [u8]) -> Encoded
+    ensures { λ r. ⌜ DateEncodes kind (plainOf date) (now (output .entry)) (now (output .exit)) r ⌝ }
+{
+    match kind {
+        5 => encode_reach(date, true, output),
+        6 => encode_reach(date, false, output),
+        7 => encode_reach(date, false, output),
+        _ => Encoded { answer: 9, place: 0 },
+    }
+}
+
+fn encode_reach(date: Date, absolute: bool, output: &mut [u8]) -> Encoded
+    ensures { λ r. ⌜ EncodesReach (dated (reaching absolute)) (plainOf date) (now (output .entry)) (now (output .exit)) r ⌝ }
+{
+    if fits(date) {
+        return encode_fitting(date, absolute, output);
+    }
+    Encoded { answer: 9, place: 0 }
+}
+
+// The bytes are made first and then checked as a reader would check them.
+fn encode_fitting(date: Date, absolute: bool, output: &mut [u8]) -> Encoded
+    requires { ⌜ Fits (plainOf date) ≡ true ⌝ }
+    ensures { λ r. ⌜ EncodesReach (dated (reaching absolute)) (plainOf date) (now (output .entry)) (now (output .exit)) r ⌝ }
+{
+    let designated = date.designator != 0;
+    let many = date::length_of(designated);
+    let bytes = coded_date(date);
+    let r = date::bytes(&bytes[..many], many, 0, 0, absolute, designated);
+    let Value::Is { kind: _, start: _, length: _, after: _ } = r else {
+        return Encoded { answer: 9, place: 0 };
+    };
+    if output.len() < many {
+        return Encoded { answer: 16, place: many };
+    }
+    lay(&bytes[..many], output);
+    Encoded { answer: 0, place: many }
+}
+
+// Each component within its digits, and the designator within a byte.
+fn fits(date: Date) -> bool
+    ensures { λ r. ⌜ r ≡ Fits (plainOf date) ⌝ }
+{
+    (date.year <= 9999)
+        & (date.month <= 99)
+        & (date.day <= 99)
+        & (date.hour <= 99)
+        & (date.minute <= 99)
+        & (date.second <= 99)
+        & (date.millisecond <= 999)
+        & (date.designator <= 255)
+}
+
+// The nine bytes of a date, and its designator or 0.
+fn coded_date(date: Date) -> [u8; 10]
+    requires { ⌜ Fits (plainOf date) ≡ true ⌝ }
+    ensures { λ r. ⌜ r ≡ tenBytes (plainOf date) ⌝ }
+{
+    [
+        pair_byte(date.year / 100),
+        pair_byte(date.year % 100),
+        pair_byte(date.month),
+        pair_byte(date.day),
+        pair_byte(date.hour),
+        pair_byte(date.minute),
+        pair_byte(date.second),
+        pair_byte(date.millisecond / 10),
+        (16 * (date.millisecond % 10 + 1)) as u8,
+        date.designator as u8,
+    ]
+}
+
+fn pair_byte(x: u32) -> u8
+    requires { ⌜ x ≤ 99 ⌝ }
+    ensures { λ r. ⌜ r ≡ pairByte x ⌝ }
+{
+    (16 * (x / 10 + 1) + (x % 10 + 1)) as u8
 }
 
 // "a refused decoder's values are all 0"
