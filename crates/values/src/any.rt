@@ -1,7 +1,6 @@
 // "Any-value: 14 and a text, or 16, 17, 19 with a length of 1, 2, 4 bytes (high first) and that many bytes."
 use crate::Value;
 use crate::text;
-
 ghost use mathlib.Core.Path.{_≡_};
 ghost use Prim.Native.Nat.{ℕ, _+_, _-_, _≤_, _<_};
 ghost use lib.ListN.{length};
@@ -45,16 +44,30 @@ fn block(s: &[u8], end: usize, at: usize, width: usize) -> Value
     let first = at + 1;
     let n = high_first(s, end, first, width);
     let Length::Says { value, after } = n else {
-        return Value::Refused { refusal: 6, at: end };
+        return Value::Refused {
+            refusal: 6,
+            at: end,
+        };
     };
     if too_wide(width, value) {
-        return Value::Refused { refusal: 11, at: at };
+        return Value::Refused {
+            refusal: 11,
+            at: at,
+        };
     }
     if end - after < value {
-        return Value::Refused { refusal: 6, at: end };
+        return Value::Refused {
+            refusal: 6,
+            at: end,
+        };
     }
     let behind = after + value;
-    Value::Is { kind: 21, start: after, length: value, after: behind }
+    Value::Is {
+        kind: 21,
+        start: after,
+        length: value,
+        after: behind,
+    }
 }
 
 // "The shortest length form is required."
@@ -83,7 +96,10 @@ fn high_first(s: &[u8], end: usize, at: usize, width: usize) -> Length
         k += 1;
     }
     let after = at + k;
-    Length::Says { value: value, after: after }
+    Length::Says {
+        value: value,
+        after: after,
+    }
 }
 
 fn wide(b: u8) -> usize

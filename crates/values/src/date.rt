@@ -1,7 +1,9 @@
 // "Date: a code, then year 4 digits, month, day, hour, minute, second 2 each, millisecond 3 digits and four zero bits."
-use crate::{Allows, Value};
-use crate::digits::{is_digit, two_digits, wide};
-
+use crate::Allows;
+use crate::Value;
+use crate::digits::is_digit;
+use crate::digits::two_digits;
+use crate::digits::wide;
 ghost use mathlib.Core.Path.{_≡_};
 ghost use mathlib.Core.Bool.{Bool};
 ghost use mathlib.Core.List.{List, [], _++_};
@@ -15,7 +17,11 @@ ghost use Rattle.values.specs.Dates.{reaching, absoluteCheck, checkAt, e
 
 // What a date's code says.
 pub enum Form {
-    Dated { kind: u32, absolute: bool, designated: bool },
+    Dated {
+        kind: u32,
+        absolute: bool,
+        designated: bool,
+    },
     Unknown,
 }
 
@@ -28,7 +34,12 @@ pub fn take(s: &[u8], end: usize, at: usize, allows: Allows) -> Value
         return Value::Refused { refusal: 6, at: at };
     }
     let f = form_of(allows, wide(s[at]));
-    let Form::Dated { kind, absolute, designated } = f else {
+    let Form::Dated {
+        kind,
+        absolute,
+        designated,
+    } = f
+    else {
         return Value::Refused { refusal: 9, at: at };
     };
     let first = at + 1;
@@ -44,7 +55,10 @@ pub fn bytes(s: &[u8], end: usize, at: usize, kind: u32, absolute: bool, designa
     let mut j: usize = 0;
     while j < length {
         if end - at <= j {
-            return Value::Refused { refusal: 6, at: end };
+            return Value::Refused {
+                refusal: 6,
+                at: end,
+            };
         }
         let i = at + j;
         if byte_passes(s, at, j, absolute) {
@@ -54,7 +68,12 @@ pub fn bytes(s: &[u8], end: usize, at: usize, kind: u32, absolute: bool, designa
         }
     }
     let after = at + j;
-    Value::Is { kind: kind, start: at, length: j, after: after }
+    Value::Is {
+        kind: kind,
+        start: at,
+        length: j,
+        after: after,
+    }
 }
 
 pub fn length_of(designated: bool) -> usize
@@ -147,8 +166,16 @@ fn form_in_b(code: u32) -> Form
     ensures { λ r. ⌜ DateCode B code r ⌝ }
 {
     match code {
-        0x20 => Form::Dated { kind: 5, absolute: true, designated: false },
-        0x21 => Form::Dated { kind: 5, absolute: true, designated: true },
+        0x20 => Form::Dated {
+            kind: 5,
+            absolute: true,
+            designated: false,
+        },
+        0x21 => Form::Dated {
+            kind: 5,
+            absolute: true,
+            designated: true,
+        },
         _ => Form::Unknown,
     }
 }
@@ -158,12 +185,36 @@ fn form_in_d(code: u32) -> Form
     ensures { λ r. ⌜ DateCode D code r ⌝ }
 {
     match code {
-        0x20 => Form::Dated { kind: 5, absolute: true, designated: false },
-        0x21 => Form::Dated { kind: 6, absolute: false, designated: false },
-        0x22 => Form::Dated { kind: 7, absolute: false, designated: false },
-        0x24 => Form::Dated { kind: 5, absolute: true, designated: true },
-        0x25 => Form::Dated { kind: 6, absolute: false, designated: true },
-        0x26 => Form::Dated { kind: 7, absolute: false, designated: true },
+        0x20 => Form::Dated {
+            kind: 5,
+            absolute: true,
+            designated: false,
+        },
+        0x21 => Form::Dated {
+            kind: 6,
+            absolute: false,
+            designated: false,
+        },
+        0x22 => Form::Dated {
+            kind: 7,
+            absolute: false,
+            designated: false,
+        },
+        0x24 => Form::Dated {
+            kind: 5,
+            absolute: true,
+            designated: true,
+        },
+        0x25 => Form::Dated {
+            kind: 6,
+            absolute: false,
+            designated: true,
+        },
+        0x26 => Form::Dated {
+            kind: 7,
+            absolute: false,
+            designated: true,
+        },
         _ => Form::Unknown,
     }
 }

@@ -1,7 +1,8 @@
 // "Payload length has no identifier byte. It has decimal digits only, no leading zero, and at most 4,294,967,295."
 use crate::Value;
-use crate::digits::{digit, is_digit, wide};
-
+use crate::digits::digit;
+use crate::digits::is_digit;
+use crate::digits::wide;
 ghost use mathlib.Core.Path.{_≡_};
 ghost use mathlib.Core.Bool.{true};
 ghost use Prim.Native.Nat.{_-_, _*_, _%_, _≤_, _<_};
@@ -33,8 +34,16 @@ pub fn take(s: &[u8], end: usize, at: usize) -> Value
 {
     let r = count(s, end, at);
     match r {
-        Number::Counts { value: _, after } => Value::Is { kind: 23, start: at, length: after - at, after: after },
-        Number::Fails { refusal, at: place } => Value::Refused { refusal: refusal, at: place },
+        Number::Counts { value: _, after } => Value::Is {
+            kind: 23,
+            start: at,
+            length: after - at,
+            after: after,
+        },
+        Number::Fails { refusal, at: place } => Value::Refused {
+            refusal: refusal,
+            at: place,
+        },
     }
 }
 
@@ -50,7 +59,10 @@ pub fn count(s: &[u8], end: usize, at: usize) -> Number
         let t = turn(number, first, wide(s[i]));
         match t {
             Turning::Wrong => return Number::Fails { refusal: 10, at: i },
-            Turning::Stop(value) => return Number::Counts { value: value, after: i + 1 },
+            Turning::Stop(value) => return Number::Counts {
+                value: value,
+                after: i + 1,
+            },
             Turning::More(value) => {
                 number = value;
                 first = false;

@@ -1,10 +1,12 @@
 // Plain values of coded bytes: "Number and date decoders answer 9 or 10 with the place in their own slice, which must hold exactly one value."
 use crate::Value;
 use crate::date;
-use crate::digits::{digit, two_digits, wide};
+use crate::digits::digit;
+use crate::digits::two_digits;
+use crate::digits::wide;
 use crate::number;
-use crate::number::{Number, coded_byte};
-
+use crate::number::Number;
+use crate::number::coded_byte;
 ghost use mathlib.Core.Path.{_≡_};
 ghost use mathlib.Core.Bool.{true};
 ghost use Prim.Native.Nat.{ℕ, _+_, _≤_, _<_};
@@ -51,12 +53,24 @@ pub fn decode_number(bytes: &[u8]) -> DecodedNumber
     let end = bytes.len();
     let r = number::count(bytes, end, 0);
     match r {
-        Number::Fails { refusal: _, at } => DecodedNumber { answer: 10, place: at, value: 0 },
+        Number::Fails { refusal: _, at } => DecodedNumber {
+            answer: 10,
+            place: at,
+            value: 0,
+        },
         Number::Counts { value, after } => {
             if after < end {
-                return DecodedNumber { answer: 10, place: after, value: 0 };
+                return DecodedNumber {
+                    answer: 10,
+                    place: after,
+                    value: 0,
+                };
             }
-            DecodedNumber { answer: 0, place: after, value: value }
+            DecodedNumber {
+                answer: 0,
+                place: after,
+                value: value,
+            }
         }
     }
 }
@@ -66,12 +80,18 @@ pub fn encode_number(value: u64, output: &mut [u8]) -> Encoded
     ensures { λ r. ⌜ NumberEncodes value (now (output .entry)) (now (output .exit)) r ⌝ }
 {
     if number::MOST < value {
-        return Encoded { answer: 10, place: 0 };
+        return Encoded {
+            answer: 10,
+            place: 0,
+        };
     }
     let n = number::digit_count(value);
     let many = n / 2 + 1;
     if output.len() < many {
-        return Encoded { answer: 16, place: many };
+        return Encoded {
+            answer: 16,
+            place: many,
+        };
     }
     let bytes = [
         coded_byte(value, n, 0),
@@ -82,7 +102,10 @@ pub fn encode_number(value: u64, output: &mut [u8]) -> Encoded
         coded_byte(value, n, 5),
     ];
     lay(&bytes[..many], output);
-    Encoded { answer: 0, place: many }
+    Encoded {
+        answer: 0,
+        place: many,
+    }
 }
 
 // Over the front of `output`; nothing behind it changes.
@@ -117,11 +140,20 @@ fn decode_reach(bytes: &[u8], absolute: bool) -> DecodedDate
     let r = date::bytes(bytes, end, 0, 0, absolute, 9 < end);
     match r {
         Value::Refused { refusal: _, at } => undecoded(at),
-        Value::Is { kind: _, start: _, length: _, after } => {
+        Value::Is {
+            kind: _,
+            start: _,
+            length: _,
+            after,
+        } => {
             if after < end {
                 return undecoded(after);
             }
-            DecodedDate { answer: 0, place: after, date: date_of(bytes) }
+            DecodedDate {
+                answer: 0,
+                place: after,
+                date: date_of(bytes),
+            }
         }
     }
 }
@@ -134,7 +166,10 @@ pub fn encode_date(kind: u32, date: Date, output: &mut [u8]) -> Encoded
         5 => encode_reach(date, true, output),
         6 => encode_reach(date, false, output),
         7 => encode_reach(date, false, output),
-        _ => Encoded { answer: 9, place: 0 },
+        _ => Encoded {
+            answer: 9,
+            place: 0,
+        },
     }
 }
 
@@ -144,7 +179,10 @@ fn encode_reach(date: Date, absolute: bool, output: &mut [u8]) -> Encoded
     if fits(date) {
         return encode_fitting(date, absolute, output);
     }
-    Encoded { answer: 9, place: 0 }
+    Encoded {
+        answer: 9,
+        place: 0,
+    }
 }
 
 // The bytes are made first and then checked as a reader would check them.
@@ -156,14 +194,29 @@ fn encode_fitting(date: Date, absolute: bool, output: &mut [u8]) -> Encoded
     let many = date::length_of(designated);
     let bytes = coded_date(date);
     let r = date::bytes(&bytes[..many], many, 0, 0, absolute, designated);
-    let Value::Is { kind: _, start: _, length: _, after: _ } = r else {
-        return Encoded { answer: 9, place: 0 };
+    let Value::Is {
+        kind: _,
+        start: _,
+        length: _,
+        after: _,
+    } = r
+    else {
+        return Encoded {
+            answer: 9,
+            place: 0,
+        };
     };
     if output.len() < many {
-        return Encoded { answer: 16, place: many };
+        return Encoded {
+            answer: 16,
+            place: many,
+        };
     }
     lay(&bytes[..many], output);
-    Encoded { answer: 0, place: many }
+    Encoded {
+        answer: 0,
+        place: many,
+    }
 }
 
 // Each component within its digits, and the designator within a byte.
@@ -210,8 +263,21 @@ fn pair_byte(x: u32) -> u8
 fn undecoded(place: usize) -> DecodedDate
     ensures { λ r. ⌜ r ≡ undecodedAt place ⌝ }
 {
-    let none = Date { year: 0, month: 0, day: 0, hour: 0, minute: 0, second: 0, millisecond: 0, designator: 0 };
-    DecodedDate { answer: 9, place: place, date: none }
+    let none = Date {
+        year: 0,
+        month: 0,
+        day: 0,
+        hour: 0,
+        minute: 0,
+        second: 0,
+        millisecond: 0,
+        designator: 0,
+    };
+    DecodedDate {
+        answer: 9,
+        place: place,
+        date: none,
+    }
 }
 
 fn date_of(bytes: &[u8]) -> Date

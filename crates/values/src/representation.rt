@@ -1,7 +1,6 @@
 // "Representation: 10, 11 or 12, or 00 and a text."
 use crate::Value;
 use crate::text;
-
 ghost use Rattle.meaning.specs.Editions.{representations};
 ghost use Rattle.values.specs.Stages.{Inside, Coded};
 
@@ -17,7 +16,12 @@ pub fn take(s: &[u8], end: usize, at: usize) -> Value
     let first = at + 1;
     match code {
         0x00 => text::take(s, end, first, 4),
-        0x10 | 0x11 | 0x12 => Value::Is { kind: 3, start: at, length: 1, after: first },
+        0x10 | 0x11 | 0x12 => Value::Is {
+            kind: 3,
+            start: at,
+            length: 1,
+            after: first,
+        },
         _ => Value::Refused { refusal: 7, at: at },
     }
 }

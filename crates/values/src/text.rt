@@ -1,6 +1,5 @@
 // "Text: bytes 20 to FF (hex), possibly none, then 00."
 use crate::Value;
-
 ghost use mathlib.Core.Path.{_≡_};
 ghost use Prim.Native.Nat.{ℕ, _+_, _-_, _≤_, _<_};
 ghost use lib.ListN.{length};
@@ -17,7 +16,12 @@ pub fn take(s: &[u8], end: usize, at: usize, kind: u32) -> Value
     while i < end {
         let b = s[i];
         if b == 0 {
-            return Value::Is { kind: kind, start: at, length: i - at, after: i + 1 };
+            return Value::Is {
+                kind: kind,
+                start: at,
+                length: i - at,
+                after: i + 1,
+            };
         }
         if b < 0x20 {
             return Value::Refused { refusal: 8, at: i };

@@ -58,9 +58,12 @@ loop-again : tie.Need-loop-again Inv-loop μ-loop
 loop-again c =
     let a = c .before .before .before .before .before .before .args in
     let b : c .wide .result < 256 = omega (arith, c .wide .ensures, c .before .shared-slice-known2 .given (a .at + c .before .before .before .before .loop .k)) in
-    let n = next-bound (c .before .before .before .before .loop .k) in
-    (omega arith, omega arith, omega arith,
-    c .before .before .before .before .loop .inv .3 ∙ length-goes (a .s .now) (a .end) (a .at) (a .width) (c .before .before .before .before .loop .k) (c .before .before .before .before .loop .value) (c .before .before .before .loop-test .taken) (c .before .before .before .before .before .before .pre .0 .whole) (omega arith) (c .wide .ensures))
+    let n = next-bound (c .before .before .before .before .loop .k) in (
+      omega arith,
+      omega arith,
+      omega arith,
+      c .before .before .before .before .loop .inv .3 ∙ length-goes (a .s .now) (a .end) (a .at) (a .width) (c .before .before .before .before .loop .k) (c .before .before .before .before .loop .value) (c .before .before .before .loop-test .taken) (c .before .before .before .before .before .before .pre .0 .whole) (omega arith) (c .wide .ensures),
+    )
 
 add-after : tie.Need-add-after Inv-loop μ-loop
 add-after c = omega arith

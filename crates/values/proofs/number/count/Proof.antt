@@ -73,9 +73,12 @@ loop-less c = omega arith
 loop-again : tie.Need-loop-again Inv-loop μ-loop
 loop-again c =
     let l = c .before .before .before .before .before .before .before .loop in
-    let a = c .before .before .before .before .before .before .before .before .before .args in
-    (omega arith, omega arith, more-fits (c .before .before .before .turn .ensures) (c .before .t2 .given .1),
-    l .inv .3 ∙ number-goes (a .s .now) (a .end) (c .before .before .before .before .before .before .before .before .before .pre .whole) (a .at) (l .i) (l .number) (l .first) (l .inv .0) (c .before .before .before .before .before .before .loop-test .taken) (c .before .before .before .before .wide .ensures) (c .before .before .before .turn .ensures) (c .before .t2 .given .1))
+    let a = c .before .before .before .before .before .before .before .before .before .args in (
+      omega arith,
+      omega arith,
+      more-fits (c .before .before .before .turn .ensures) (c .before .t2 .given .1),
+      l .inv .3 ∙ number-goes (a .s .now) (a .end) (c .before .before .before .before .before .before .before .before .before .pre .whole) (a .at) (l .i) (l .number) (l .first) (l .inv .0) (c .before .before .before .before .before .before .loop-test .taken) (c .before .before .before .before .wide .ensures) (c .before .before .before .turn .ensures) (c .before .t2 .given .1),
+    )
 
 returns-3 : tie.Need-returns-3 Inv-loop μ-loop
 unfolding tallied Ends
