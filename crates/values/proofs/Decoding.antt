@@ -18,12 +18,12 @@ use Rattle.values.specs.declared.Value.{Value}
 use Rattle.values.specs.declared.Value.the-variants.{Is, Refused}
 use Rattle.values.specs.declared.number.Number.{Number}
 use Rattle.values.specs.declared.number.Number.the-variants.{Counts, Fails}
-use Rattle.values.specs.declared.plain.Date.{Date}
+use Rattle.values.specs.declared.date.Date.{Date}
 use Rattle.values.specs.Stages.{span, spans, misses, Valued}
 use Rattle.values.specs.Answers.{valued-at, valued-refused}
 use Rattle.values.specs.Numbers.{Tally, counts, fails, tally, tallied, Counted}
 use Rattle.values.specs.Dates.{reaching}
-use Rattle.values.specs.declared.plain.DecodedDate.{DecodedDate}
+use Rattle.values.specs.declared.decode.DecodedDate.{DecodedDate}
 use Rattle.values.specs.Plain.{NumberDecodes, DateDecodes, DecodesReach, plainOf, undecodedAt, PairAt}
 use Rattle.values.proofs.Numbers.{counted-to, counted-fault, counted-is, counted-refused}
 

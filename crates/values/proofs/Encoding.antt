@@ -12,7 +12,7 @@ use lib.Seq.{paste-suc, take-length}
 use Rattle.meaning.specs.Bytes.{numberMost}
 use Rattle.meaning.specs.Memory.{laidOver}
 use Rattle.meaning.specs.Plain.{outcome, encodeOutcome, encodeMemory, digitsWithin, digitsOf, packed, numberBytes, numberEncoded, numberOutput}
-use Rattle.values.specs.declared.plain.Encoded.{Encoded}
+use Rattle.values.specs.declared.encode.Encoded.{Encoded}
 use Rattle.values.specs.Numbers.{quotient, HasDigits, packedByte}
 use Rattle.values.specs.Plain.{NumberEncodes}
 

@@ -13,7 +13,7 @@ use Rattle.meaning.specs.Plain.{Date, outcome, encodeOutcome, encodeMemory, Rea
 use Rattle.laws.specs.From.{from}
 use Rattle.values.specs.declared.Value.{Value}
 use Rattle.values.specs.declared.Value.the-variants.{Is, Refused}
-use Rattle.values.specs.declared.plain.Encoded.{Encoded}
+use Rattle.values.specs.declared.encode.Encoded.{Encoded}
 use Rattle.values.specs.Stages.{span, spans, misses, Valued}
 use Rattle.values.specs.Answers.{valued-at, valued-refused}
 use Rattle.values.specs.Dates.{reaching, dateLength}

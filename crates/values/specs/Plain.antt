@@ -7,10 +7,10 @@ use lib.Dec.{leb}
 use lib.ListN.{length, getD}
 use Rattle.meaning.specs.Bytes.{twoDigits}
 use Rattle.meaning.specs.Plain.{Outcome, outcome, decodeOutcome, numberDecoded, numberPlain, numberEncoded, numberOutput, Date as PlainDate, Reached, decodeReach, componentsOf, dateDecoded, datePlain, encodeOutcome, encodeMemory, dateBytes, pairByte, fitsDigits, reachAllows, dateEncoded, dateOutput}
-use Rattle.values.specs.declared.plain.DecodedNumber.{DecodedNumber}
-use Rattle.values.specs.declared.plain.Encoded.{Encoded}
-use Rattle.values.specs.declared.plain.Date.{Date}
-use Rattle.values.specs.declared.plain.DecodedDate.{DecodedDate}
+use Rattle.values.specs.declared.decode.DecodedNumber.{DecodedNumber}
+use Rattle.values.specs.declared.encode.Encoded.{Encoded}
+use Rattle.values.specs.declared.date.Date.{Date}
+use Rattle.values.specs.declared.decode.DecodedDate.{DecodedDate}
 
 -- the decoder of numbers
 pub record NumberDecodes (bytes : List ℕ) (result : DecodedNumber) : Type 0 where

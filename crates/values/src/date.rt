@@ -25,6 +25,18 @@ pub enum Form {
     Unknown,
 }
 
+// A plain date: "the seven components and a designator, 0 for none"
+pub struct Date {
+    pub year: u32,
+    pub month: u32,
+    pub day: u32,
+    pub hour: u32,
+    pub minute: u32,
+    pub second: u32,
+    pub millisecond: u32,
+    pub designator: u32,
+}
+
 // A date from its code on.
 pub fn take(s: &[u8], end: usize, at: usize, allows: Allows) -> Value
     requires { ⌜ Inside (now s) end at ⌝ }

@@ -1,9 +1,10 @@
 // Coded values: the reader's stages that take one off the input, and the coding of numbers and dates to and from plain values.
 pub mod any;
 pub mod date;
+pub mod decode;
 mod digits;
+pub mod encode;
 pub mod number;
-pub mod plain;
 pub mod representation;
 pub mod text;
 

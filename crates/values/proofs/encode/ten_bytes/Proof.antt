@@ -1,11 +1,11 @@
--- `plain::coded_date`: byte by byte; each component fits its digits.
+-- `encode::ten_bytes`: byte by byte; each component fits its digits.
 use native.Mathlib.Omega.{arith}
 use borrow.Author.Needs.{needs}
 use Rattle.meaning.specs.Editions.{date}
 use Rattle.values.specs.Plain.{plainOf}
 use Rattle.values.proofs.EncodingDates.{fitting, ten-made}
-use Rattle.values.proofs.plain.coded_date.Statement.{statement}
-use Rattle.values.proofs.plain.coded_date.Tie as tie
+use Rattle.values.proofs.encode.ten_bytes.Statement.{statement}
+use Rattle.values.proofs.encode.ten_bytes.Tie as tie
 
 pair-byte-requires : tie.Need-pair-byte-requires
 pair-byte-requires c κs = let f = fitting (plainOf (c .before .args .date)) (c .before .pre) in omega arith
@@ -48,8 +48,8 @@ returns c =
     ten-made (plainOf (c .before .before .before .before .before .before .before .before .before .before .before .before .before .args .date)) (c .before .before .before .before .before .before .before .before .before .before .before .pair-byte .ensures) (c .before .before .before .before .before .before .before .before .before .pair-byte2 .ensures) (c .before .before .before .before .before .before .before .before .pair-byte3 .ensures) (c .before .before .before .before .before .before .before .pair-byte4 .ensures) (c .before .before .before .before .before .before .pair-byte5 .ensures) (c .before .before .before .before .before .pair-byte6 .ensures)
     (c .before .before .before .before .pair-byte7 .ensures) (c .before .before .pair-byte8 .ensures)
 
-pub coded-date-spec : {M : Type 1} → statement M
-coded-date-spec =
+pub ten-bytes-spec : {M : Type 1} → statement M
+ten-bytes-spec =
     tie.close
     (tie.spec
     pair-byte-requires

@@ -1,4 +1,4 @@
--- `plain::encode_reach`: a date that does not fit its digits or a byte is out of range.
+-- `encode::reached`: a date that does not fit its digits or a byte is out of range.
 use mathlib.Core.Path.{sym, _∙_}
 use borrow.Author.Needs.{needs}
 use Rattle.meaning.specs.Editions.{date}
@@ -7,20 +7,20 @@ use Rattle.values.specs.Plain.{plainOf}
 use Rattle.values.proofs.Encoding.{encodes-out}
 use Rattle.meaning.specs.Plain.{dateBytes, dated}
 use Rattle.values.proofs.EncodingDates.{unfit, reach-encodes}
-use Rattle.values.proofs.plain.encode_reach.Statement.{statement}
-use Rattle.values.proofs.plain.encode_reach.Tie as tie
+use Rattle.values.proofs.encode.reached.Statement.{statement}
+use Rattle.values.proofs.encode.reached.Tie as tie
 
 fits-requires : tie.Need-fits-requires
 fits-requires c κs = search needs
 
-encode-fitting-requires : tie.Need-encode-fitting-requires
-encode-fitting-requires c κs = sym (c .before .before .fits2 .ensures) ∙ c .before .if1 .taken
+fitting-requires : tie.Need-fitting-requires
+fitting-requires c κs = sym (c .before .before .fits2 .ensures) ∙ c .before .if1 .taken
 
 same-length : tie.Need-same-length
 same-length c = search needs
 
 returns : tie.Need-returns
-returns c = c .before .before .encode-fitting .ensures
+returns c = c .before .before .fitting .ensures
 
 returns-2 : tie.Need-returns-2
 returns-2 c =
@@ -28,6 +28,6 @@ returns-2 c =
     let d = plainOf (a .date) in
     reach-encodes (dated (reaching (a .absolute))) d (a .output .now) (a .output .now) (encodes-out 9 (a .output .now) (dateBytes d) (unfit d (a .absolute) (sym (c .before .fits2 .ensures) ∙ c .if1 .left)))
 
-pub encode-reach-spec : {M : Type 1} → statement M
-encode-reach-spec =
-    tie.close (tie.spec fits-requires encode-fitting-requires same-length returns returns-2)
+pub reached-spec : {M : Type 1} → statement M
+reached-spec =
+    tie.close (tie.spec fits-requires fitting-requires same-length returns returns-2)

@@ -1,12 +1,12 @@
--- `plain::lay`: the invariant says that the first j bytes stand over the front.
+-- `encode::lay`: the invariant says that the first j bytes stand over the front.
 use Prim.Native.Nat.{_+_, _-_, _≤_}
 use mathlib.Core.List.{_++_}
 use mathlib.Core.Path.{_≡_, refl, _∙_}
 use native.Mathlib.Omega.{arith}
 use lib.ListN.{length, take, drop, length-set}
 use Rattle.values.proofs.Encoding.{lay-next, lay-all}
-use Rattle.values.proofs.plain.lay.Statement.{statement}
-use Rattle.values.proofs.plain.lay.Tie as tie
+use Rattle.values.proofs.encode.lay.Statement.{statement}
+use Rattle.values.proofs.encode.lay.Tie as tie
 
 abbrev Inv-loop : tie.InvT-loop
 Inv-loop bytes output₀ j₀ output j = (j ≤ length bytes) × (length output ≡ length output₀) × (output ≡ take j bytes ++ drop j output₀)

@@ -1,11 +1,11 @@
--- `plain::date_of`: component by component.
+-- `decode::components`: component by component.
 use Prim.Native.Nat.{ℕ, _/_}
 use mathlib.Core.Path.{ap, _∙_}
 use borrow.Author.Needs.{needs}
 use Rattle.meaning.specs.Bytes.{digitOf}
 use Rattle.values.proofs.Decoding.{date-components}
-use Rattle.values.proofs.plain.date_of.Statement.{statement}
-use Rattle.values.proofs.plain.date_of.Tie as tie
+use Rattle.values.proofs.decode.components.Statement.{statement}
+use Rattle.values.proofs.decode.components.Tie as tie
 
 pair-at-requires : tie.Need-pair-at-requires
 pair-at-requires c κs = search needs
@@ -60,8 +60,8 @@ returns c =
     date-components (c .before .before .before .before .before .before .before .before .before .before .before .before .before .args .bytes .now) (c .before .before .before .before .before .before .before .before .before .before .before .pair-at .ensures) (c .before .before .before .before .before .before .before .before .before .before .pair-at2 .ensures) (c .before .before .before .before .before .before .before .before .before .pair-at3 .ensures) (c .before .before .before .before .before .before .before .before .pair-at4 .ensures) (c .before .before .before .before .before .before .before .pair-at5 .ensures) (c .before .before .before .before .before .before .pair-at6 .ensures)
     (c .before .before .before .before .before .pair-at7 .ensures) (c .before .before .before .before .pair-at8 .ensures) (c .before .digit .ensures ∙ ap (λ (x : ℕ). digitOf (x / 16)) (c .before .before .wide .ensures)) (c .designator-of .ensures)
 
-pub date-of-spec : {M : Type 1} → statement M
-date-of-spec =
+pub components-spec : {M : Type 1} → statement M
+components-spec =
     tie.close
     (tie.spec
     pair-at-requires

@@ -1,10 +1,10 @@
--- `plain::designator_of`: past the end stands nothing, 0.
+-- `decode::designator_of`: past the end stands nothing, 0.
 use mathlib.Core.List.{List}
 use mathlib.Core.Path.{sym}
 use borrow.Author.Needs.{needs}
 use lib.ListN.{List·getD-eq-default}
-use Rattle.values.proofs.plain.designator_of.Statement.{statement}
-use Rattle.values.proofs.plain.designator_of.Tie as tie
+use Rattle.values.proofs.decode.designator_of.Statement.{statement}
+use Rattle.values.proofs.decode.designator_of.Tie as tie
 
 shared-slice-read-wide : tie.Need-shared-slice-read-wide
 shared-slice-read-wide c = search needs

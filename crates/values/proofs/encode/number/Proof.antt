@@ -1,4 +1,4 @@
--- `plain::encode_number`: the digits counted, the bytes made, and laid over the front where there is room.
+-- `encode::number`: the digits counted, the bytes made, and laid over the front where there is room.
 use Prim.Native.Nat.{_+_, _/_, _≤_}
 use mathlib.Core.List.{[], _∷_}
 use mathlib.Core.Path.{ap, _∙_}
@@ -9,8 +9,8 @@ use Rattle.meaning.specs.Bytes.{numberMost}
 use Rattle.meaning.specs.Memory.{laidOver}
 use Rattle.meaning.specs.Plain.{numberBytes}
 use Rattle.values.proofs.Encoding.{bytes-of, encodes-out, encodes-short, encodes-laid, number-encodes, bytes-made, part-long}
-use Rattle.values.proofs.plain.encode_number.Statement.{statement}
-use Rattle.values.proofs.plain.encode_number.Tie as tie
+use Rattle.values.proofs.encode.number.Statement.{statement}
+use Rattle.values.proofs.encode.number.Tie as tie
 
 returns : tie.Need-returns
 returns c =
@@ -72,8 +72,8 @@ returns-3 c =
     number-encodes (a .value) (a .output .now) (c .before .before .lay .last .1 .0)
     (encodes-laid 10 (a .output .now) (numberBytes (a .value)) (le-leb (a .value) numberMost (c .before .before .before .before .before .before .before .before .before .before .before .before .before .if1 .left)) (bytes-of (a .value) n (d .0) (d .1) (d .2) .1) (c .before .before .before .before .before .before .before .before .before .before .before .if2 .left) (c .before .before .lay .ensures ∙ ap (laidOver (a .output .now)) made))
 
-pub encode-number-spec : {M : Type 1} → statement M
-encode-number-spec =
+pub number-spec : {M : Type 1} → statement M
+number-spec =
     tie.close
     (tie.spec
     returns
