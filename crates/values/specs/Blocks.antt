@@ -9,7 +9,7 @@ use Rattle.values.specs.declared.any.Length.{Length}
 use Rattle.values.specs.declared.any.Length.the-variants.{Says, Short}
 
 -- what a block of bytes asks: a code before the declared end, and a width that some code has
-pub record Blocky (s : List ℕ) (end at width : ℕ) : Type 0 where
+pub record BlockAt (s : List ℕ) (end at width : ℕ) : Type 0 where
   pub whole : end ≤ length s
   pub before : at < end
   pub some : 1 ≤ width

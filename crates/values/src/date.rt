@@ -1,9 +1,14 @@
 // "Date: a code, then year 4 digits, month, day, hour, minute, second 2 each, millisecond 3 digits and four zero bits."
 use crate::Allows;
+use crate::BYTE_NEEDED;
+use crate::DATE_WRONG;
 use crate::Value;
 use crate::digits::is_digit;
 use crate::digits::two_digits;
 use crate::digits::wide;
+use crate::kinds::DATE_ABSOLUTE;
+use crate::kinds::DATE_BACKWARD;
+use crate::kinds::DATE_FORWARD;
 ghost use mathlib.Core.Path.{_≡_};
 ghost use mathlib.Core.Bool.{Bool};
 ghost use mathlib.Core.List.{List, [], _++_};
@@ -15,13 +20,9 @@ ghost use Rattle.laws.specs.From.{from};
 ghost use Rattle.values.specs.Stages.{Inside, Valued, Coded};
 ghost use Rattle.values.specs.Dates.{reaching, absoluteCheck, checkAt, earlier, dateLength, DateCode, datesOf};
 
-// What a date's code says.
+// What a date's code says: its kind, whether it is absolute, and whether a designator follows.
 pub enum Form {
-    Dated {
-        kind: u32,
-        absolute: bool,
-        designated: bool,
-    },
+    Dated(u32, bool, bool),
     Unknown,
 }
 
@@ -43,16 +44,17 @@ pub fn take(s: &[u8], end: usize, at: usize, allows: Allows) -> Value
     ensures { λ r. ⌜ ((e : Edition) → labelOf (allows .edition) ≡ known e → Coded (datesOf e) 9 (now (s .entry)) end at r) ⌝ }
 {
     if end <= at {
-        return Value::Refused { refusal: 6, at: at };
+        return Value::Refused {
+            refusal: BYTE_NEEDED,
+            at: at,
+        };
     }
     let f = form_of(allows, wide(s[at]));
-    let Form::Dated {
-        kind,
-        absolute,
-        designated,
-    } = f
-    else {
-        return Value::Refused { refusal: 9, at: at };
+    let Form::Dated(kind, absolute, designated) = f else {
+        return Value::Refused {
+            refusal: DATE_WRONG,
+            at: at,
+        };
     };
     let first = at + 1;
     bytes(s, end, first, kind, absolute, designated)
@@ -68,7 +70,7 @@ pub fn bytes(s: &[u8], end: usize, at: usize, kind: u32, absolute: bool, designa
     while j < length {
         if end - at <= j {
             return Value::Refused {
-                refusal: 6,
+                refusal: BYTE_NEEDED,
                 at: end,
             };
         }
@@ -76,7 +78,10 @@ pub fn bytes(s: &[u8], end: usize, at: usize, kind: u32, absolute: bool, designa
         if byte_passes(s, at, j, absolute) {
             j += 1;
         } else {
-            return Value::Refused { refusal: 9, at: i };
+            return Value::Refused {
+                refusal: DATE_WRONG,
+                at: i,
+            };
         }
     }
     let after = at + j;
@@ -178,16 +183,8 @@ fn form_in_b(code: u32) -> Form
     ensures { λ r. ⌜ DateCode B code r ⌝ }
 {
     match code {
-        0x20 => Form::Dated {
-            kind: 5,
-            absolute: true,
-            designated: false,
-        },
-        0x21 => Form::Dated {
-            kind: 5,
-            absolute: true,
-            designated: true,
-        },
+        0x20 => Form::Dated(DATE_ABSOLUTE, true, false),
+        0x21 => Form::Dated(DATE_ABSOLUTE, true, true),
         _ => Form::Unknown,
     }
 }
@@ -197,36 +194,12 @@ fn form_in_d(code: u32) -> Form
     ensures { λ r. ⌜ DateCode D code r ⌝ }
 {
     match code {
-        0x20 => Form::Dated {
-            kind: 5,
-            absolute: true,
-            designated: false,
-        },
-        0x21 => Form::Dated {
-            kind: 6,
-            absolute: false,
-            designated: false,
-        },
-        0x22 => Form::Dated {
-            kind: 7,
-            absolute: false,
-            designated: false,
-        },
-        0x24 => Form::Dated {
-            kind: 5,
-            absolute: true,
-            designated: true,
-        },
-        0x25 => Form::Dated {
-            kind: 6,
-            absolute: false,
-            designated: true,
-        },
-        0x26 => Form::Dated {
-            kind: 7,
-            absolute: false,
-            designated: true,
-        },
+        0x20 => Form::Dated(DATE_ABSOLUTE, true, false),
+        0x21 => Form::Dated(DATE_FORWARD, false, false),
+        0x22 => Form::Dated(DATE_BACKWARD, false, false),
+        0x24 => Form::Dated(DATE_ABSOLUTE, true, true),
+        0x25 => Form::Dated(DATE_FORWARD, false, true),
+        0x26 => Form::Dated(DATE_BACKWARD, false, true),
         _ => Form::Unknown,
     }
 }

@@ -1,10 +1,15 @@
 // Plain values of coded bytes: "Number and date decoders answer 9 or 10 with the place in their own slice, which must hold exactly one value;
 // an early end or a byte left over is refused at that offset."
+use crate::DATE_WRONG;
+use crate::NUMBER_WRONG;
 use crate::Value;
 use crate::date::Date;
 use crate::digits::digit;
 use crate::digits::two_digits;
 use crate::digits::wide;
+use crate::kinds::DATE_ABSOLUTE;
+use crate::kinds::DATE_BACKWARD;
+use crate::kinds::DATE_FORWARD;
 use crate::number::Number;
 use crate::number::count;
 ghost use mathlib.Core.Path.{_≡_};
@@ -34,14 +39,14 @@ pub fn number(bytes: &[u8]) -> DecodedNumber
     let r = count(bytes, end, 0);
     match r {
         Number::Fails { refusal: _, at } => DecodedNumber {
-            answer: 10,
+            answer: NUMBER_WRONG,
             place: at,
             value: 0,
         },
         Number::Counts { value, after } => {
             if after < end {
                 return DecodedNumber {
-                    answer: 10,
+                    answer: NUMBER_WRONG,
                     place: after,
                     value: 0,
                 };
@@ -60,9 +65,9 @@ pub fn date(kind: u32, bytes: &[u8]) -> DecodedDate
     ensures { λ r. ⌜ DateDecodes kind (now (bytes .entry)) r ⌝ }
 {
     match kind {
-        5 => reached(bytes, true),
-        6 => reached(bytes, false),
-        7 => reached(bytes, false),
+        DATE_ABSOLUTE => reached(bytes, true),
+        DATE_FORWARD => reached(bytes, false),
+        DATE_BACKWARD => reached(bytes, false),
         _ => undecoded(0),
     }
 }
@@ -108,7 +113,7 @@ fn undecoded(place: usize) -> DecodedDate
         designator: 0,
     };
     DecodedDate {
-        answer: 9,
+        answer: DATE_WRONG,
         place: place,
         date: none,
     }

@@ -1,7 +1,13 @@
 // Coded bytes of plain values: "Encoders answer 9 or 10, place 0, for a value out of range, and then 16 for room."
+use crate::DATE_WRONG;
+use crate::NUMBER_WRONG;
+use crate::OUTPUT_SHORT;
 use crate::Value;
 use crate::date::Date;
 use crate::date::length_of;
+use crate::kinds::DATE_ABSOLUTE;
+use crate::kinds::DATE_BACKWARD;
+use crate::kinds::DATE_FORWARD;
 use crate::number::MOST;
 use crate::number::coded_byte;
 use crate::number::digit_count;
@@ -19,13 +25,13 @@ pub struct Encoded {
     pub place: usize,
 }
 
-// The bytes that code a number. "Encoders answer 9 or 10, place 0, for a value out of range, and then 16 for room."
+// The bytes that code a number, over the front of `output`.
 pub fn number(value: u64, output: &mut [u8]) -> Encoded
     ensures { λ r. ⌜ NumberEncodes value (now (output .entry)) (now (output .exit)) r ⌝ }
 {
     if MOST < value {
         return Encoded {
-            answer: 10,
+            answer: NUMBER_WRONG,
             place: 0,
         };
     }
@@ -33,7 +39,7 @@ pub fn number(value: u64, output: &mut [u8]) -> Encoded
     let many = n / 2 + 1;
     if output.len() < many {
         return Encoded {
-            answer: 16,
+            answer: OUTPUT_SHORT,
             place: many,
         };
     }
@@ -52,16 +58,16 @@ pub fn number(value: u64, output: &mut [u8]) -> Encoded
     }
 }
 
-// The bytes that code a date of a kind, which as a row has no code. "Another kind is 9 at 0."
+// The bytes that code a date of a kind, over the front of `output`; as in a row, its code is not among them.
 pub fn date(kind: u32, date: Date, output: &mut [u8]) -> Encoded
     ensures { λ r. ⌜ DateEncodes kind (plainOf date) (now (output .entry)) (now (output .exit)) r ⌝ }
 {
     match kind {
-        5 => reached(date, true, output),
-        6 => reached(date, false, output),
-        7 => reached(date, false, output),
+        DATE_ABSOLUTE => reached(date, true, output),
+        DATE_FORWARD => reached(date, false, output),
+        DATE_BACKWARD => reached(date, false, output),
         _ => Encoded {
-            answer: 9,
+            answer: DATE_WRONG,
             place: 0,
         },
     }
@@ -74,7 +80,7 @@ fn reached(date: Date, absolute: bool, output: &mut [u8]) -> Encoded
         return fitting(date, absolute, output);
     }
     Encoded {
-        answer: 9,
+        answer: DATE_WRONG,
         place: 0,
     }
 }
@@ -96,13 +102,13 @@ fn fitting(date: Date, absolute: bool, output: &mut [u8]) -> Encoded
     } = r
     else {
         return Encoded {
-            answer: 9,
+            answer: DATE_WRONG,
             place: 0,
         };
     };
     if output.len() < many {
         return Encoded {
-            answer: 16,
+            answer: OUTPUT_SHORT,
             place: many,
         };
     }

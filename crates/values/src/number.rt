@@ -1,8 +1,11 @@
 // "Payload length has no identifier byte. It has decimal digits only, no leading zero, and at most 4,294,967,295."
+use crate::BYTE_NEEDED;
+use crate::NUMBER_WRONG;
 use crate::Value;
 use crate::digits::digit;
 use crate::digits::is_digit;
 use crate::digits::wide;
+use crate::kinds::PAYLOAD_LENGTH;
 ghost use mathlib.Core.Path.{_≡_};
 ghost use mathlib.Core.Bool.{true};
 ghost use Prim.Native.Nat.{_-_, _*_, _%_, _≤_, _<_};
@@ -35,7 +38,7 @@ pub fn take(s: &[u8], end: usize, at: usize) -> Value
     let r = count(s, end, at);
     match r {
         Number::Counts { value: _, after } => Value::Is {
-            kind: 23,
+            kind: PAYLOAD_LENGTH,
             start: at,
             length: after - at,
             after: after,
@@ -58,7 +61,10 @@ pub fn count(s: &[u8], end: usize, at: usize) -> Number
     while i < end {
         let t = turn(number, first, wide(s[i]));
         match t {
-            Turning::Wrong => return Number::Fails { refusal: 10, at: i },
+            Turning::Wrong => return Number::Fails {
+                refusal: NUMBER_WRONG,
+                at: i,
+            },
             Turning::Stop(value) => return Number::Counts {
                 value: value,
                 after: i + 1,
@@ -70,7 +76,10 @@ pub fn count(s: &[u8], end: usize, at: usize) -> Number
             }
         }
     }
-    Number::Fails { refusal: 6, at: i }
+    Number::Fails {
+        refusal: BYTE_NEEDED,
+        at: i,
+    }
 }
 
 // "An odd digit count ends with four zero bits, an even one with a byte 00."

@@ -1,5 +1,9 @@
 // "Representation: 10, 11 or 12, or 00 and a text."
+use crate::BYTE_NEEDED;
+use crate::CODE_NOT_ALLOWED;
 use crate::Value;
+use crate::kinds::OWN_REPRESENTATION;
+use crate::kinds::STANDARD_REPRESENTATION;
 use crate::text;
 ghost use Rattle.meaning.specs.Editions.{representations};
 ghost use Rattle.values.specs.Stages.{Inside, Coded};
@@ -10,18 +14,24 @@ pub fn take(s: &[u8], end: usize, at: usize) -> Value
     ensures { λ r. ⌜ Coded representations 7 (now (s .entry)) end at r ⌝ }
 {
     if end <= at {
-        return Value::Refused { refusal: 6, at: at };
+        return Value::Refused {
+            refusal: BYTE_NEEDED,
+            at: at,
+        };
     }
     let code = s[at];
     let first = at + 1;
     match code {
-        0x00 => text::take(s, end, first, 4),
+        0x00 => text::take(s, end, first, OWN_REPRESENTATION),
         0x10 | 0x11 | 0x12 => Value::Is {
-            kind: 3,
+            kind: STANDARD_REPRESENTATION,
             start: at,
             length: 1,
             after: first,
         },
-        _ => Value::Refused { refusal: 7, at: at },
+        _ => Value::Refused {
+            refusal: CODE_NOT_ALLOWED,
+            at: at,
+        },
     }
 }

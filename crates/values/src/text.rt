@@ -1,4 +1,6 @@
 // "Text: bytes 20 to FF (hex), possibly none, then 00."
+use crate::BYTE_NEEDED;
+use crate::TEXT_WRONG;
 use crate::Value;
 ghost use mathlib.Core.Path.{_≡_};
 ghost use Prim.Native.Nat.{ℕ, _+_, _-_, _≤_, _<_};
@@ -6,6 +8,9 @@ ghost use lib.ListN.{length};
 ghost use Rattle.meaning.specs.Bytes.{takeText};
 ghost use Rattle.laws.specs.From.{from};
 ghost use Rattle.values.specs.Stages.{Inside, Valued, Skipped, textRun};
+
+// The least byte that is text.
+const FIRST_TEXT: u8 = 0x20;
 
 // A text from its first byte on.
 pub fn take(s: &[u8], end: usize, at: usize, kind: u32) -> Value
@@ -23,12 +28,18 @@ pub fn take(s: &[u8], end: usize, at: usize, kind: u32) -> Value
                 after: i + 1,
             };
         }
-        if b < 0x20 {
-            return Value::Refused { refusal: 8, at: i };
+        if b < FIRST_TEXT {
+            return Value::Refused {
+                refusal: TEXT_WRONG,
+                at: i,
+            };
         }
         i += 1;
     }
-    Value::Refused { refusal: 6, at: i }
+    Value::Refused {
+        refusal: BYTE_NEEDED,
+        at: i,
+    }
 }
 
 // Past sixteen bytes at a time while all of them are text.
@@ -52,20 +63,20 @@ fn sixteen(s: &[u8], i: usize) -> bool
     requires { ⌜ i + 16 ≤ length (now s) ⌝ }
     ensures { λ r. ⌜ r ≡ textRun (now (s .entry)) i 15 ⌝ }
 {
-    (s[i] >= 0x20)
-        & (s[i + 1] >= 0x20)
-        & (s[i + 2] >= 0x20)
-        & (s[i + 3] >= 0x20)
-        & (s[i + 4] >= 0x20)
-        & (s[i + 5] >= 0x20)
-        & (s[i + 6] >= 0x20)
-        & (s[i + 7] >= 0x20)
-        & (s[i + 8] >= 0x20)
-        & (s[i + 9] >= 0x20)
-        & (s[i + 10] >= 0x20)
-        & (s[i + 11] >= 0x20)
-        & (s[i + 12] >= 0x20)
-        & (s[i + 13] >= 0x20)
-        & (s[i + 14] >= 0x20)
-        & (s[i + 15] >= 0x20)
+    (s[i] >= FIRST_TEXT)
+        & (s[i + 1] >= FIRST_TEXT)
+        & (s[i + 2] >= FIRST_TEXT)
+        & (s[i + 3] >= FIRST_TEXT)
+        & (s[i + 4] >= FIRST_TEXT)
+        & (s[i + 5] >= FIRST_TEXT)
+        & (s[i + 6] >= FIRST_TEXT)
+        & (s[i + 7] >= FIRST_TEXT)
+        & (s[i + 8] >= FIRST_TEXT)
+        & (s[i + 9] >= FIRST_TEXT)
+        & (s[i + 10] >= FIRST_TEXT)
+        & (s[i + 11] >= FIRST_TEXT)
+        & (s[i + 12] >= FIRST_TEXT)
+        & (s[i + 13] >= FIRST_TEXT)
+        & (s[i + 14] >= FIRST_TEXT)
+        & (s[i + 15] >= FIRST_TEXT)
 }
