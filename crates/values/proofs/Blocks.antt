@@ -5,12 +5,12 @@ use mathlib.Core.Bool.{Bool, true, false}
 use mathlib.Core.Path.{_≡_, refl, ap, sym, _∙_}
 use native.Mathlib.Numerals.{add-one}
 use native.Mathlib.Omega.{arith}
-use borrow.Author.Tests.{ltb-true, ltb-false, lt-ltb, le-ltb}
+use borrow.Author.Tests.{ltb-true, ltb-false, le-ltb}
 use lib.Dec.{ltb}
 use lib.ListN.{length, getD}
 use Rattle.meaning.specs.Bytes.{Count, counted, short, highFirst, Width, oneByte, twoBytes, fourBytes, bytesOf, tooWide, takeBytes, blockOf, takeBlock}
 use Rattle.meaning.specs.Kinds.{anyBytes}
-use Rattle.laws.specs.From.{from, from-length, from-end, from-cons}
+use Rattle.laws.specs.From.{from, from-end, from-cons}
 use Rattle.values.specs.declared.any.Length.{Length}
 use Rattle.values.specs.declared.any.Length.the-variants.{Says, Short}
 use Rattle.values.specs.declared.Value.the-variants.{Is, Refused}

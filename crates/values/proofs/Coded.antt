@@ -1,10 +1,9 @@
 -- A value behind its code, from the code's move and the value's own stage.
-use Prim.Native.Nat.{ℕ, _+_, _-_, _≤_, _<_}
+use Prim.Native.Nat.{ℕ, _+_, _-_, _<_}
 use mathlib.Core.List.{List}
-use mathlib.Core.Path.{_≡_, refl, ap, sym, _∙_}
+use mathlib.Core.Path.{_≡_, sym}
 use native.Mathlib.Omega.{arith}
 use lib.ListN.{length, getD}
-use Rattle.meaning.specs.Bytes.{Taken}
 use Rattle.meaning.specs.Editions.{Next, Move, Form, on_▸_▸_▸_}
 use Rattle.meaning.specs.Reading.{look, none, hit, takeValue, reachBack}
 use Rattle.laws.specs.From.{from}

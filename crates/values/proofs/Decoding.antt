@@ -1,5 +1,5 @@
 -- A slice that must hold exactly one value: what a decoder answers, from the span of the value at its front.
-use Prim.Native.Nat.{ℕ, zero, suc, _+_, _-_, _*_, _/_, _≤_, _<_}
+use Prim.Native.Nat.{ℕ, suc, _+_, _-_, _*_, _/_, _≤_, _<_}
 use mathlib.Core.List.{List, [], _∷_, _++_, append-nil}
 use mathlib.Core.Bool.{Bool, true, false}
 use mathlib.Core.Path.{_≡_, refl, ap, sym, _∙_}
@@ -10,8 +10,8 @@ use lib.Dec.{ltb}
 use lib.ListN.{length, getD, length-append}
 use lib.Seq.{take-all}
 use Rattle.meaning.specs.Basics.{pick}
-use Rattle.meaning.specs.Bytes.{Taken, took, failed, prefixed, Check, passes, Reach, dateChecks, takeDate, takeNumber, digitOf, twoDigits}
-use Rattle.meaning.specs.Plain.{Decoded, decoded, undecoded, exactly, outcome, decodeOutcome, Reached, noReach, reachOf, numberValue, decodeNumber, numberDecoded, numberPlain, dateOf, dated, decodeReach, componentsOf, decodeDate, dateDecoded, datePlain}
+use Rattle.meaning.specs.Bytes.{Taken, took, failed, prefixed, Check, passes, dateChecks, takeDate, takeNumber, digitOf, twoDigits}
+use Rattle.meaning.specs.Plain.{decoded, undecoded, exactly, Reached, noReach, reachOf, numberValue, decodeNumber, numberDecoded, numberPlain, dateOf, dated, decodeDate, dateDecoded, datePlain}
 use Rattle.meaning.specs.Kinds.{dateAbsolute, dateForward, dateBackward}
 use Rattle.laws.specs.From.{from, from-length, from-end, from-cons}
 use Rattle.values.specs.declared.Value.{Value}
@@ -21,11 +21,11 @@ use Rattle.values.specs.declared.number.Number.the-variants.{Counts, Fai
 use Rattle.values.specs.declared.date.Date.{Date}
 use Rattle.values.specs.Stages.{span, spans, misses, Valued}
 use Rattle.values.specs.Answers.{valued-at, valued-refused}
-use Rattle.values.specs.Numbers.{Tally, counts, fails, tally, tallied, Counted}
+use Rattle.values.specs.Numbers.{counts, tally, tallied, Counted}
 use Rattle.values.specs.Dates.{reaching}
 use Rattle.values.specs.declared.decode.DecodedDate.{DecodedDate}
 use Rattle.values.specs.Plain.{NumberDecodes, DateDecodes, DecodesReach, plainOf, undecodedAt, PairAt}
-use Rattle.values.proofs.Numbers.{counted-to, counted-fault, counted-is, counted-refused}
+use Rattle.values.proofs.Numbers.{counted-is, counted-refused}
 
 pub from-all : (s : List ℕ) → from s 0 (length s) ≡ s
 unfolding from

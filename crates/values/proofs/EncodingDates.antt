@@ -1,15 +1,15 @@
 -- A plain date to its coded bytes: it is in range exactly if its bytes, once made, are taken as a date.
-use Prim.Native.Nat.{ℕ, zero, suc, _+_, _-_, _*_, _/_, _%_, _≤_, _<_}
+use Prim.Native.Nat.{ℕ, suc, _+_, _*_, _/_, _%_, _≤_, _<_}
 use mathlib.Core.List.{List, [], _∷_, _++_}
-use mathlib.Core.Bool.{Bool, true, false, _&&_, not}
+use mathlib.Core.Bool.{Bool, true, false, _&&_}
 use mathlib.Core.Path.{_≡_, refl, ap, sym, _∙_}
 use native.Mathlib.Omega.{arith}
 use borrow.Author.Tests.{leb-true, leb-false, lt-leb, ne-eqb}
 use lib.Dec.{leb}
 use lib.ListN.{length, take}
 use Rattle.meaning.specs.Basics.{pick}
-use Rattle.meaning.specs.Bytes.{Taken, took, failed, prefixed, Check, letter, passes, Reach, absolute, relative, dateChecks, takeDate, dateOk}
-use Rattle.meaning.specs.Plain.{Date, outcome, encodeOutcome, encodeMemory, Reached, dated, noReach, reachOf, reachAllows, designated, fitsDigits, pairByte, dateBytes, dateInRange, dateEncoded, dateOutput}
+use Rattle.meaning.specs.Bytes.{Taken, took, failed, prefixed, Check, letter, passes, absolute, relative, dateChecks, takeDate, dateOk}
+use Rattle.meaning.specs.Plain.{Date, outcome, encodeOutcome, encodeMemory, Reached, dated, reachOf, reachAllows, designated, fitsDigits, pairByte, dateBytes, dateInRange, dateEncoded, dateOutput}
 use Rattle.laws.specs.From.{from}
 use Rattle.values.specs.declared.Value.{Value}
 use Rattle.values.specs.declared.Value.the-variants.{Is, Refused}

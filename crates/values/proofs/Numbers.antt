@@ -1,5 +1,5 @@
 -- A payload length at a place in the input, by what its next byte does; and what a byte does, from the code's tests.
-use Prim.Native.Nat.{ℕ, zero, suc, _+_, _-_, _*_, _/_, _%_, _≤_, _<_}
+use Prim.Native.Nat.{ℕ, suc, _+_, _-_, _*_, _/_, _%_, _≤_, _<_}
 use mathlib.Core.List.{List, [], _∷_}
 use mathlib.Core.Bool.{Bool, true, false, _&&_, not}
 use mathlib.Core.Path.{_≡_, refl, ap, sym, _∙_}
@@ -7,7 +7,7 @@ use native.Mathlib.Omega.{arith}
 use borrow.Author.Tests.{eq-eqb, ne-eqb, leb-true}
 use lib.Dec.{eqb, leb}
 use lib.ListN.{length, getD}
-use Rattle.meaning.specs.Bytes.{Taken, took, failed, prefixed, isDigit, digitOf, numberMost, Turn, turn, stop, more, wrong, takeNumber}
+use Rattle.meaning.specs.Bytes.{Taken, took, failed, prefixed, isDigit, digitOf, numberMost, turn, takeNumber}
 use Rattle.meaning.specs.Kinds.{payloadLength}
 use Rattle.meaning.specs.Plain.{numberValue}
 use Rattle.laws.specs.From.{from, from-length, from-end, from-cons}

@@ -1,14 +1,14 @@
 -- A stage's two answers, from the span of the value that it took, and back.
 use Prim.Native.Nat.{ℕ, suc, _+_, _-_, _≤_, _<_}
 use mathlib.Core.List.{List}
-use mathlib.Core.Path.{_≡_, refl, ap, sym, _∙_}
+use mathlib.Core.Path.{_≡_, refl, ap, _∙_}
 use native.Mathlib.Omega.{arith}
 use lib.ListN.{length}
 use Rattle.meaning.specs.Bytes.{Taken, took, failed, prefixed}
 use Rattle.laws.specs.From.{from}
 use Rattle.values.specs.declared.Value.{Value}
 use Rattle.values.specs.declared.Value.the-variants.{Is, Refused}
-use Rattle.values.specs.Stages.{Span, spans, misses, span, told, Stands, Valued}
+use Rattle.values.specs.Stages.{spans, misses, span, told, Stands, Valued}
 
 pub span-prefixed : (k b : ℕ) (t : Taken) → span k (prefixed b t) ≡ span (k + 1) t
 span-prefixed k b (took v rest) = let q : k + suc (length v) ≡ k + 1 + length v = omega arith in ap (λ (x : ℕ). spans x rest) q

@@ -6,7 +6,7 @@ use mathlib.Core.Path.{_≡_}
 use lib.Dec.{leb}
 use lib.ListN.{length, getD}
 use Rattle.meaning.specs.Bytes.{twoDigits}
-use Rattle.meaning.specs.Plain.{Outcome, outcome, decodeOutcome, numberDecoded, numberPlain, numberEncoded, numberOutput, Date as PlainDate, Reached, decodeReach, componentsOf, dateDecoded, datePlain, encodeOutcome, encodeMemory, dateBytes, pairByte, fitsDigits, reachAllows, dateEncoded, dateOutput}
+use Rattle.meaning.specs.Plain.{outcome, decodeOutcome, numberDecoded, numberPlain, numberEncoded, numberOutput, Date as PlainDate, Reached, decodeReach, componentsOf, dateDecoded, datePlain, encodeOutcome, encodeMemory, dateBytes, pairByte, fitsDigits, reachAllows, dateEncoded, dateOutput}
 use Rattle.values.specs.declared.decode.DecodedNumber.{DecodedNumber}
 use Rattle.values.specs.declared.encode.Encoded.{Encoded}
 use Rattle.values.specs.declared.date.Date.{Date}

@@ -1,7 +1,7 @@
 -- What a stage of the reader promises of a value, over the definitions of `meaning`.
 -- A stage speaks of places in a slice, `meaning` of the bytes that are left; `from s at end` ties the two.
 use Prim.Native.Nat.{ℕ, zero, suc, _+_, _-_, _≤_, _<_}
-use mathlib.Core.List.{List, [], _∷_}
+use mathlib.Core.List.{List}
 use mathlib.Core.Bool.{Bool, false, _&&_}
 use lib.Dec.{eqb}
 use mathlib.Core.Path.{_≡_}

@@ -3,7 +3,7 @@ use crate::BYTE_NEEDED;
 use crate::TEXT_WRONG;
 use crate::Value;
 ghost use mathlib.Core.Path.{_≡_};
-ghost use Prim.Native.Nat.{ℕ, _+_, _-_, _≤_, _<_};
+ghost use Prim.Native.Nat.{_+_, _-_, _≤_, _<_};
 ghost use lib.ListN.{length};
 ghost use Rattle.meaning.specs.Bytes.{takeText};
 ghost use Rattle.laws.specs.From.{from};

@@ -1,7 +1,6 @@
 -- `any::take`: each code against the table of moves, and its value behind it.
 use mathlib.Core.Path.{refl, sym}
 use native.Mathlib.Omega.{arith}
-use lib.ListN.{take}
 use Rattle.meaning.specs.Reading.{look, find, takeValue}
 use Rattle.values.specs.Stages.{ended}
 use Rattle.values.proofs.Coded.{code-unknown, code-before}

@@ -1,5 +1,4 @@
 -- `any::too_wide`: each width against its fewest.
-use borrow.Author.Needs.{needs}
 use Rattle.values.proofs.Blocks.{one-never, two-below, four-below}
 use Rattle.values.proofs.any.too_wide.Statement.{statement}
 use Rattle.values.proofs.any.too_wide.Tie as tie

@@ -1,7 +1,7 @@
 -- `date::bytes`: the invariant says that the date is what is left of it from byte j on; each turn is one law.
 use Prim.Native.Nat.{_+_, _-_, _≤_}
 use mathlib.Core.List.{[]}
-use mathlib.Core.Path.{_≡_, sym, _∙_}
+use mathlib.Core.Path.{_≡_, _∙_}
 use native.Mathlib.Omega.{arith}
 use lib.ListN.{length}
 use Rattle.meaning.specs.Bytes.{takeDate, dateChecks}

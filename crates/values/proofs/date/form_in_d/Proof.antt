@@ -1,6 +1,5 @@
 -- `date::form_in_d`: each code against the edition's table of moves.
 use mathlib.Core.Path.{refl, sym}
-use borrow.Author.Needs.{needs}
 use borrow.Author.Tests.{ne-eqb}
 use Rattle.meaning.specs.Reading.{look, find}
 use Rattle.values.specs.Dates.{DateCode}

@@ -1,6 +1,5 @@
 -- `date::is_letter` is its check.
 use mathlib.Core.Path.{refl}
-use borrow.Author.Needs.{needs}
 use Rattle.meaning.specs.Bytes.{passes}
 use Rattle.values.proofs.date.is_letter.Statement.{statement}
 use Rattle.values.proofs.date.is_letter.Tie as tie

@@ -1,6 +1,5 @@
 -- `date::last_day`: the last day is the same after any month.
 use mathlib.Core.Path.{refl}
-use borrow.Author.Needs.{needs}
 use Rattle.meaning.specs.Bytes.{lastDay}
 use Rattle.values.proofs.date.last_day.Statement.{statement}
 use Rattle.values.proofs.date.last_day.Tie as tie

@@ -1,5 +1,4 @@
 -- `decode::designator_of`: past the end stands nothing, 0.
-use mathlib.Core.List.{List}
 use mathlib.Core.Path.{sym}
 use borrow.Author.Needs.{needs}
 use lib.ListN.{List·getD-eq-default}

@@ -1,7 +1,6 @@
 -- `encode::date`: the reach of each kind.
 use mathlib.Core.Path.{refl}
 use borrow.Author.Needs.{needs}
-use Rattle.meaning.specs.Editions.{date}
 use Rattle.values.specs.Plain.{plainOf}
 use Rattle.values.proofs.Decoding.{another-kind}
 use Rattle.values.proofs.Encoding.{encodes-out}

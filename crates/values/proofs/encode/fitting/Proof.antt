@@ -2,7 +2,6 @@
 use mathlib.Core.Path.{ap, _∙_}
 use native.Mathlib.Omega.{arith}
 use borrow.Author.Needs.{needs}
-use Rattle.meaning.specs.Editions.{date}
 use Rattle.values.specs.Dates.{reaching}
 use Rattle.values.specs.Plain.{plainOf}
 use Rattle.meaning.specs.Memory.{laidOver}

@@ -1,7 +1,6 @@
 -- `encode::reached`: a date that does not fit its digits or a byte is out of range.
 use mathlib.Core.Path.{sym, _∙_}
 use borrow.Author.Needs.{needs}
-use Rattle.meaning.specs.Editions.{date}
 use Rattle.values.specs.Dates.{reaching}
 use Rattle.values.specs.Plain.{plainOf}
 use Rattle.values.proofs.Encoding.{encodes-out}

@@ -1,7 +1,6 @@
 -- `encode::ten_bytes`: byte by byte; each component fits its digits.
 use native.Mathlib.Omega.{arith}
 use borrow.Author.Needs.{needs}
-use Rattle.meaning.specs.Editions.{date}
 use Rattle.values.specs.Plain.{plainOf}
 use Rattle.values.proofs.EncodingDates.{fitting, ten-made}
 use Rattle.values.proofs.encode.ten_bytes.Statement.{statement}

@@ -2,7 +2,7 @@
 use mathlib.Core.Path.{refl, sym}
 use native.Mathlib.Omega.{arith}
 use borrow.Author.Tests.{ne-eqb}
-use lib.ListN.{getD, take}
+use lib.ListN.{getD}
 use Rattle.values.specs.Answers.{answered}
 use Rattle.meaning.specs.Reading.{look, find, takeValue}
 use Rattle.values.specs.Stages.{ended}
