@@ -26,6 +26,7 @@ pub enum Form {
 }
 
 // A plain date: "the seven components and a designator, 0 for none"
+#[repr(C)]
 pub struct Date {
     pub year: u32,
     pub month: u32,

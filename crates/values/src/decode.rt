@@ -19,12 +19,14 @@ ghost use Rattle.meaning.specs.Plain.{dateOf, dated};
 ghost use Rattle.values.specs.Dates.{reaching};
 ghost use Rattle.values.specs.Plain.{NumberDecodes, DateDecodes, DecodesReach, plainOf, undecodedAt, PairAt};
 
+#[repr(C)]
 pub struct DecodedNumber {
     pub answer: u32,
     pub place: usize,
     pub value: u64,
 }
 
+#[repr(C)]
 pub struct DecodedDate {
     pub answer: u32,
     pub place: usize,

@@ -20,6 +20,7 @@ ghost use Rattle.meaning.specs.Plain.{dated, pairByte};
 ghost use Rattle.values.specs.Dates.{reaching};
 ghost use Rattle.values.specs.Plain.{NumberEncodes, DateEncodes, EncodesReach, Fits, tenBytes, plainOf};
 
+#[repr(C)]
 pub struct Encoded {
     pub answer: u32,
     pub place: usize,

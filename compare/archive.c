@@ -1,0 +1,37 @@
+/* The archive's entries in the second program's shape, so that both run the same cases. */
+#include "gamulisyan.h"
+
+#include "archive.h"
+#include "second.h"
+
+static struct second_answer answer_of(struct gamulisyan_coded coded)
+{
+    return (struct second_answer){coded.answer, coded.place};
+}
+
+struct second_answer archive_number_decode(const uint8_t *bytes, size_t length, uint64_t *value)
+{
+    struct gamulisyan_number number = gamulisyan_number_decode(bytes, length);
+    *value = number.value;
+    return (struct second_answer){number.answer, number.place};
+}
+
+struct second_answer archive_number_encode(uint64_t value, uint8_t *output, size_t room)
+{
+    return answer_of(gamulisyan_number_encode(value, output, room));
+}
+
+struct second_answer archive_date_decode(uint32_t kind, const uint8_t *bytes, size_t length, struct second_date *date)
+{
+    struct gamulisyan_dated dated = gamulisyan_date_decode(kind, bytes, length);
+    *date = (struct second_date){dated.date.year,   dated.date.month,  dated.date.day,         dated.date.hour,
+                                 dated.date.minute, dated.date.second, dated.date.millisecond, dated.date.designator};
+    return (struct second_answer){dated.answer, dated.place};
+}
+
+struct second_answer archive_date_encode(uint32_t kind, const struct second_date *date, uint8_t *output, size_t room)
+{
+    struct gamulisyan_date plain = {date->year,   date->month,  date->day,         date->hour,
+                                    date->minute, date->second, date->millisecond, date->designator};
+    return answer_of(gamulisyan_date_encode(kind, plain, output, room));
+}
