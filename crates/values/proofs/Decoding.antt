@@ -178,9 +178,10 @@ pub another-kind : (kind : ℕ) → (kind ≡ dateAbsolute → ⊥) → (kind �
 another-kind kind h i j = rw (ne-eqb kind 5 h, ne-eqb kind 6 i, ne-eqb kind 7 j) refl
 
 -- the components of a slice
-pub date-components : (s : List ℕ) {y z mo d h mi se ms e l : ℕ} → PairAt s 0 y → PairAt s 1 z → PairAt s 2 mo → PairAt s 3 d → PairAt s 4 h → PairAt s 5 mi → PairAt s 6 se → PairAt s 7 ms
-    → e ≡ digitOf (getD s 8 0 / 16) → l ≡ getD s 9 0
-    → plainOf (record { year = 100 * y + z; month = mo; day = d; hour = h; minute = mi; second = se; millisecond = 10 * ms + e; designator = l }) ≡ dateOf s
+pub date-components : (s : List ℕ) {century yearIn month day hour minute second hundredths thousandth letter : ℕ}
+    → PairAt s 0 century → PairAt s 1 yearIn → PairAt s 2 month → PairAt s 3 day → PairAt s 4 hour → PairAt s 5 minute → PairAt s 6 second → PairAt s 7 hundredths
+    → thousandth ≡ digitOf (getD s 8 0 / 16) → letter ≡ getD s 9 0
+    → plainOf (record { year = 100 * century + yearIn; month = month; day = day; hour = hour; minute = minute; second = second; millisecond = 10 * hundredths + thousandth; designator = letter }) ≡ dateOf s
 date-components s a b c d e f g h i j = rw (a .is, b .is, c .is, d .is, e .is, f .is, g .is, h .is, i, j) refl
 
 pub pair-small : (s : List ℕ) (j : ℕ) {b two : ℕ} → b < 256 → b ≡ getD s j 0 → two ≡ twoDigits b → PairAt s j two

@@ -35,14 +35,14 @@ pub record Fitting (d : Date) : Type 0 where
 eight : (a b c d e f g h : Bool) → (a && b && c && d && e && f && g && h) ≡ true
     → (a ≡ true) × (b ≡ true) × (c ≡ true) × (d ≡ true) × (e ≡ true) × (f ≡ true) × (g ≡ true) × (h ≡ true)
 eight a b c d e f g h q =
-    let (q7, r7) = both-hold (a && b && c && d && e && f && g) h q in
-    let (q6, r6) = both-hold (a && b && c && d && e && f) g q7 in
-    let (q5, r5) = both-hold (a && b && c && d && e) f q6 in
-    let (q4, r4) = both-hold (a && b && c && d) e q5 in
-    let (q3, r3) = both-hold (a && b && c) d q4 in
-    let (q2, r2) = both-hold (a && b) c q3 in
-    let (q1, r1) = both-hold a b q2 in
-    (q1, r1, r2, r3, r4, r5, r6, r7)
+    let (to-g, is-h) = both-hold (a && b && c && d && e && f && g) h q in
+    let (to-f, is-g) = both-hold (a && b && c && d && e && f) g to-g in
+    let (to-e, is-f) = both-hold (a && b && c && d && e) f to-f in
+    let (to-d, is-e) = both-hold (a && b && c && d) e to-e in
+    let (to-c, is-d) = both-hold (a && b && c) d to-d in
+    let (to-b, is-c) = both-hold (a && b) c to-c in
+    let (is-a, is-b) = both-hold a b to-b in
+    (is-a, is-b, is-c, is-d, is-e, is-f, is-g, is-h)
 
 pub fitting : (d : Date) → Fits d ≡ true → Fitting d
 fitting d q =
@@ -58,8 +58,9 @@ fitting d q =
       designator = leb-true (d .designator) 255 (p .7);
     }
 
-pub ten-made : (d : Date) {a b c e f g h i : ℕ} → a ≡ pairByte (d .year / 100) → b ≡ pairByte (d .year % 100) → c ≡ pairByte (d .month) → e ≡ pairByte (d .day) → f ≡ pairByte (d .hour) → g ≡ pairByte (d .minute)
-    → h ≡ pairByte (d .second) → i ≡ pairByte (d .millisecond / 10) → (a ∷ b ∷ c ∷ e ∷ f ∷ g ∷ h ∷ i ∷ 16 * (d .millisecond % 10 + 1) ∷ d .designator ∷ []) ≡ tenBytes d
+pub ten-made : (d : Date) {century year month day hour minute second hundredths : ℕ} → century ≡ pairByte (d .year / 100) → year ≡ pairByte (d .year % 100) → month ≡ pairByte (d .month) → day ≡ pairByte (d .day)
+    → hour ≡ pairByte (d .hour) → minute ≡ pairByte (d .minute) → second ≡ pairByte (d .second) → hundredths ≡ pairByte (d .millisecond / 10)
+    → (century ∷ year ∷ month ∷ day ∷ hour ∷ minute ∷ second ∷ hundredths ∷ 16 * (d .millisecond % 10 + 1) ∷ d .designator ∷ []) ≡ tenBytes d
 ten-made d a b c e f g h i = rw (a, b, c, e, f, g, h, i) refl
 
 -- a test of bytes is the same as taking them

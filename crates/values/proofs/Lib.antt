@@ -1,3 +1,4 @@
+-- The laws that the proofs of several functions share.
 pub mod Logic
 pub mod Coded
 pub mod Tables

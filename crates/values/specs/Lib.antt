@@ -1,3 +1,4 @@
+-- What the promises of this crate cite, and the laws of its answers that a caller cites.
 pub mod Stages
 pub mod Answers
 pub mod Numbers

@@ -27,8 +27,10 @@ sub-if1 c = c .before .before .before .pre .0 .before
 returns : tie.Need-returns Inv-loop μ-loop
 unfolding said Behind
 returns c =
-    let a = c .before .before .before .before .args in
-    record { is = c .before .before .loop .inv .3 ∙ length-short (a .s .now) (a .end) (a .at) (a .width) (c .before .before .loop .k) (c .before .before .loop .value) (c .before .loop-test .taken) (omega arith); ends = tt }
+    let start = c .before .before .before .before in
+    let at-loop = c .before .before in
+    let a = start .args in
+    record { is = at-loop .loop .inv .3 ∙ length-short (a .s .now) (a .end) (a .at) (a .width) (at-loop .loop .k) (at-loop .loop .value) (c .before .loop-test .taken) (omega arith); ends = tt }
 
 add-i : tie.Need-add-i Inv-loop μ-loop
 add-i c = omega arith
@@ -44,8 +46,10 @@ wide-requires c κs = search needs
 
 add-value : tie.Need-add-value Inv-loop μ-loop
 add-value c =
-    let h = small-bound (c .before .before .before .before .loop .k) (omega arith) in
-    let b : c .wide .result < 256 = omega (arith, c .wide .ensures, c .before .shared-slice-known2 .given (c .before .before .before .before .before .before .args .at + c .before .before .before .before .loop .k)) in
+    let start = c .before .before .before .before .before .before in
+    let at-loop = c .before .before .before .before in
+    let h = small-bound (at-loop .loop .k) (omega arith) in
+    let b : c .wide .result < 256 = omega (arith, c .wide .ensures, c .before .shared-slice-known2 .given (start .args .at + at-loop .loop .k)) in
     omega arith
 
 add-k : tie.Need-add-k Inv-loop μ-loop
@@ -56,13 +60,16 @@ loop-less c = omega arith
 
 loop-again : tie.Need-loop-again Inv-loop μ-loop
 loop-again c =
-    let a = c .before .before .before .before .before .before .args in
-    let b : c .wide .result < 256 = omega (arith, c .wide .ensures, c .before .shared-slice-known2 .given (a .at + c .before .before .before .before .loop .k)) in
-    let n = next-bound (c .before .before .before .before .loop .k) in (
+    let start = c .before .before .before .before .before .before in
+    let at-loop = c .before .before .before .before in
+    let at-loop-test = c .before .before .before in
+    let a = start .args in
+    let b : c .wide .result < 256 = omega (arith, c .wide .ensures, c .before .shared-slice-known2 .given (a .at + at-loop .loop .k)) in
+    let n = next-bound (at-loop .loop .k) in (
       omega arith,
       omega arith,
       omega arith,
-      c .before .before .before .before .loop .inv .3 ∙ length-goes (a .s .now) (a .end) (a .at) (a .width) (c .before .before .before .before .loop .k) (c .before .before .before .before .loop .value) (c .before .before .before .loop-test .taken) (c .before .before .before .before .before .before .pre .0 .whole) (omega arith) (c .wide .ensures),
+      at-loop .loop .inv .3 ∙ length-goes (a .s .now) (a .end) (a .at) (a .width) (at-loop .loop .k) (at-loop .loop .value) (at-loop-test .loop-test .taken) (start .pre .0 .whole) (omega arith) (c .wide .ensures),
     )
 
 add-after : tie.Need-add-after Inv-loop μ-loop

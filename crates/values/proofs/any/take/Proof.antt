@@ -33,19 +33,27 @@ block-requires-3 c κs = record { whole = c .before .before .before .before .pre
 
 returns-2 : tie.Need-returns-2
 unfolding takeValue look find
-returns-2 c = code-before (c .before .before .before .if1 .left) (sym (c .before .match .keys1)) text (record { coded = refl; rowed = refl; flat = refl }) (λ n. refl) (c .take .ensures)
+returns-2 c =
+    let at-if1 = c .before .before .before in
+    code-before (at-if1 .if1 .left) (sym (c .before .match .keys1)) text (record { coded = refl; rowed = refl; flat = refl }) (λ n. refl) (c .take .ensures)
 
 returns-3 : tie.Need-returns-3
 unfolding takeValue look find
-returns-3 c = code-before (c .before .before .before .if1 .left) (sym (c .before .match .keys2)) (block oneByte) (record { coded = refl; rowed = refl; flat = refl }) (λ n. refl) (c .block .ensures oneByte refl)
+returns-3 c =
+    let at-if1 = c .before .before .before in
+    code-before (at-if1 .if1 .left) (sym (c .before .match .keys2)) (block oneByte) (record { coded = refl; rowed = refl; flat = refl }) (λ n. refl) (c .block .ensures oneByte refl)
 
 returns-4 : tie.Need-returns-4
 unfolding takeValue look find
-returns-4 c = code-before (c .before .before .before .if1 .left) (sym (c .before .match .keys3)) (block twoBytes) (record { coded = refl; rowed = refl; flat = refl }) (λ n. refl) (c .block2 .ensures twoBytes refl)
+returns-4 c =
+    let at-if1 = c .before .before .before in
+    code-before (at-if1 .if1 .left) (sym (c .before .match .keys3)) (block twoBytes) (record { coded = refl; rowed = refl; flat = refl }) (λ n. refl) (c .block2 .ensures twoBytes refl)
 
 returns-5 : tie.Need-returns-5
 unfolding takeValue look find
-returns-5 c = code-before (c .before .before .before .if1 .left) (sym (c .before .match .keys4)) (block fourBytes) (record { coded = refl; rowed = refl; flat = refl }) (λ n. refl) (c .block3 .ensures fourBytes refl)
+returns-5 c =
+    let at-if1 = c .before .before .before in
+    code-before (at-if1 .if1 .left) (sym (c .before .match .keys4)) (block fourBytes) (record { coded = refl; rowed = refl; flat = refl }) (λ n. refl) (c .block3 .ensures fourBytes refl)
 
 returns-6 : tie.Need-returns-6
 returns-6 c = let r = c .match .rest in code-unknown (c .before .before .if1 .left) refl (no-any _ (r .0 .0 .0 .1) (r .0 .0 .1) (r .0 .1) (r .1))

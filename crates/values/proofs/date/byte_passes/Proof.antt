@@ -33,7 +33,11 @@ returns-2 c =
     check-letter (a .s .now) (a .at) (a .j) (a .absolute) (c .before .before .before .wide .ensures) (c .before .before .if1 .left) (c .before .if2 .taken) (c .is-letter .ensures)
 
 in-calendar-requires : tie.Need-in-calendar-requires
-in-calendar-requires c κs = (c .before .before .before .before .before .before .pre, omega (arith, c .before .before .before .wide .ensures, c .before .before .before .before .shared-slice-known2 .given (c .before .before .before .before .before .before .args .at + c .before .before .before .before .before .before .args .j)))
+in-calendar-requires c κs =
+    let start = c .before .before .before .before .before .before in
+    let at-shared-slice-known2 = c .before .before .before .before in
+    let at-wide = c .before .before .before in
+    (start .pre, omega (arith, at-wide .wide .ensures, at-shared-slice-known2 .shared-slice-known2 .given (start .args .at + start .args .j)))
 
 returns-3 : tie.Need-returns-3
 returns-3 c =
@@ -42,7 +46,11 @@ returns-3 c =
     (check-absolute (a .j) (c .before .before .before .before .wide .result) (earlier (a .s .now) (a .at) (a .j)) (c .before .if3 .taken) (c .in-calendar .ensures))
 
 within-requires : tie.Need-within-requires
-within-requires c κs = omega (arith, c .before .before .before .wide .ensures, c .before .before .before .before .shared-slice-known2 .given (c .before .before .before .before .before .before .args .at + c .before .before .before .before .before .before .args .j))
+within-requires c κs =
+    let start = c .before .before .before .before .before .before in
+    let at-shared-slice-known2 = c .before .before .before .before in
+    let at-wide = c .before .before .before in
+    omega (arith, at-wide .wide .ensures, at-shared-slice-known2 .shared-slice-known2 .given (start .args .at + start .args .j))
 
 returns-4 : tie.Need-returns-4
 returns-4 c =

@@ -24,16 +24,20 @@ length-of-requires c κs = tt
 
 loop-holds : tie.Need-loop-holds Inv-loop μ-loop
 loop-holds c =
-    let a = c .before .before .args in
-    (omega arith, omega (arith, c .before .before .pre .before), date-begins (a .s .now) (a .end) (a .at) (a .absolute) (c .length-of .result) (a .designated) (c .length-of .ensures))
+    let start = c .before .before in
+    let a = start .args in
+    (omega arith, omega (arith, start .pre .before), date-begins (a .s .now) (a .end) (a .at) (a .absolute) (c .length-of .result) (a .designated) (c .length-of .ensures))
 
 sub-if1 : tie.Need-sub-if1 Inv-loop μ-loop
 sub-if1 c = c .before .before .before .before .pre .before
 
 returns : tie.Need-returns Inv-loop μ-loop
 returns c =
-    let a = c .before .before .before .before .before .args in
-    refuses (c .before .before .loop .inv .2 ∙ date-ends (a .s .now) (a .end) (a .at) (a .absolute) (c .before .before .before .length-of .result) (c .before .before .loop .j) (c .before .loop-test .taken) (omega arith)) (omega arith)
+    let start = c .before .before .before .before .before in
+    let at-length-of = c .before .before .before in
+    let at-loop = c .before .before in
+    let a = start .args in
+    refuses (at-loop .loop .inv .2 ∙ date-ends (a .s .now) (a .end) (a .at) (a .absolute) (at-length-of .length-of .result) (at-loop .loop .j) (c .before .loop-test .taken) (omega arith)) (omega arith)
 
 add-i : tie.Need-add-i Inv-loop μ-loop
 add-i c = omega arith
@@ -49,22 +53,32 @@ loop-less c = omega arith
 
 loop-again : tie.Need-loop-again Inv-loop μ-loop
 loop-again c =
-    let a = c .before .before .before .before .before .before .before .args in
-    (omega arith, omega arith, c .before .before .before .before .loop .inv .2 ∙ date-goes (a .s .now) (a .end) (a .at) (a .absolute) (c .before .before .before .before .before .length-of .result) (c .before .before .before .before .loop .j) (c .before .before .before .loop-test .taken) (c .before .before .before .before .before .before .before .pre .whole) (omega arith) (c .before .byte-passes .ensures) (c .if2 .taken))
+    let start = c .before .before .before .before .before .before .before in
+    let at-length-of = c .before .before .before .before .before in
+    let at-loop = c .before .before .before .before in
+    let at-loop-test = c .before .before .before in
+    let a = start .args in
+    (omega arith, omega arith, at-loop .loop .inv .2 ∙ date-goes (a .s .now) (a .end) (a .at) (a .absolute) (at-length-of .length-of .result) (at-loop .loop .j) (at-loop-test .loop-test .taken) (start .pre .whole) (omega arith) (c .before .byte-passes .ensures) (c .if2 .taken))
 
 returns-2 : tie.Need-returns-2 Inv-loop μ-loop
 returns-2 c =
-    let a = c .before .before .before .before .before .before .before .args in
-    refuses (c .before .before .before .before .loop .inv .2 ∙ date-wrong (a .s .now) (a .end) (a .at) (a .absolute) (c .before .before .before .before .before .length-of .result) (c .before .before .before .before .loop .j) (c .before .before .before .loop-test .taken) (c .before .before .before .before .before .before .before .pre .whole) (omega arith) (c .before .byte-passes .ensures) (c .if2 .left)) (omega arith)
+    let start = c .before .before .before .before .before .before .before in
+    let at-length-of = c .before .before .before .before .before in
+    let at-loop = c .before .before .before .before in
+    let at-loop-test = c .before .before .before in
+    let a = start .args in
+    refuses (at-loop .loop .inv .2 ∙ date-wrong (a .s .now) (a .end) (a .at) (a .absolute) (at-length-of .length-of .result) (at-loop .loop .j) (at-loop-test .loop-test .taken) (start .pre .whole) (omega arith) (c .before .byte-passes .ensures) (c .if2 .left)) (omega arith)
 
 add-after : tie.Need-add-after Inv-loop μ-loop
 add-after c = omega arith
 
 returns-3 : tie.Need-returns-3 Inv-loop μ-loop
 returns-3 c =
-    let a = c .before .before .before .before .args in
+    let start = c .before .before .before .before in
+    let at-length-of = c .before .before in
+    let a = start .args in
     let k = positive (a .designated) in
-    answered (c .before .loop .inv .2 ∙ date-over (a .s .now) (a .end) (a .at) (a .absolute) (c .before .before .length-of .result) (c .before .loop .j) (omega arith)) (omega arith) (omega arith) (omega (arith, c .before .before .length-of .ensures)) (omega arith)
+    answered (c .before .loop .inv .2 ∙ date-over (a .s .now) (a .end) (a .at) (a .absolute) (at-length-of .length-of .result) (c .before .loop .j) (omega arith)) (omega arith) (omega arith) (omega (arith, at-length-of .length-of .ensures)) (omega arith)
 
 pub bytes-spec : {M : Type 1} → statement M
 bytes-spec =

@@ -27,7 +27,11 @@ enum-told : tie.Need-enum-told
 enum-told c = search needs
 
 returns-2 : tie.Need-returns-2
-returns-2 c e q = code-unknown (c .before .before .before .before .before .if1 .left) (c .before .before .before .wide .ensures) (undated e (c .before .before .before .wide .result) (c .before .before .form-of .ensures e q) (c .enum-told .given .1))
+returns-2 c e q =
+    let at-if1 = c .before .before .before .before .before in
+    let at-wide = c .before .before .before in
+    let at-form-of = c .before .before in
+    code-unknown (at-if1 .if1 .left) (at-wide .wide .ensures) (undated e (at-wide .wide .result) (at-form-of .form-of .ensures e q) (c .enum-told .given .1))
 
 add-first : tie.Need-add-first
 add-first c = search needs
@@ -38,8 +42,12 @@ bytes-requires c κs = search needs
 returns-3 : tie.Need-returns-3
 unfolding takeValue
 returns-3 c e q =
-    let f = dated-at e (c .before .before .before .before .before .wide .result) (c .before .before .before .before .form-of .ensures e q) (c .before .before .f .given .1) in
-    code-before (c .before .before .before .before .before .before .before .if1 .left) (c .before .before .before .before .before .wide .ensures) _ (f .0) (f .1) (c .bytes .ensures)
+    let at-if1 = c .before .before .before .before .before .before .before in
+    let at-wide = c .before .before .before .before .before in
+    let at-form-of = c .before .before .before .before in
+    let at-f = c .before .before in
+    let f = dated-at e (at-wide .wide .result) (at-form-of .form-of .ensures e q) (at-f .f .given .1) in
+    code-before (at-if1 .if1 .left) (at-wide .wide .ensures) _ (f .0) (f .1) (c .bytes .ensures)
 
 pub take-spec : {M : Type 1} → statement M
 take-spec =

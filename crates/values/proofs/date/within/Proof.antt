@@ -14,7 +14,10 @@ is-digit-requires-2 : tie.Need-is-digit-requires-2
 is-digit-requires-2 c κs = search needs
 
 returns : tie.Need-returns
-returns c = within-is (c .before .before .before .args .least) (c .before .before .before .args .most) (c .before .before .before .args .b) (c .before .before .two-digits .ensures) (c .before .is-digit .ensures) (c .is-digit2 .ensures)
+returns c =
+    let start = c .before .before .before in
+    let at-two-digits = c .before .before in
+    within-is (start .args .least) (start .args .most) (start .args .b) (at-two-digits .two-digits .ensures) (c .before .is-digit .ensures) (c .is-digit2 .ensures)
 
 pub within-spec : {M : Type 1} → statement M
 within-spec =

@@ -57,8 +57,18 @@ designator-of-requires c κs = search needs
 
 returns : tie.Need-returns
 returns c =
-    date-components (c .before .before .before .before .before .before .before .before .before .before .before .before .before .args .bytes .now) (c .before .before .before .before .before .before .before .before .before .before .before .pair-at .ensures) (c .before .before .before .before .before .before .before .before .before .before .pair-at2 .ensures) (c .before .before .before .before .before .before .before .before .before .pair-at3 .ensures) (c .before .before .before .before .before .before .before .before .pair-at4 .ensures) (c .before .before .before .before .before .before .before .pair-at5 .ensures) (c .before .before .before .before .before .before .pair-at6 .ensures)
-    (c .before .before .before .before .before .pair-at7 .ensures) (c .before .before .before .before .pair-at8 .ensures) (c .before .digit .ensures ∙ ap (λ (x : ℕ). digitOf (x / 16)) (c .before .before .wide .ensures)) (c .designator-of .ensures)
+    let start = c .before .before .before .before .before .before .before .before .before .before .before .before .before in
+    let at-pair-at = c .before .before .before .before .before .before .before .before .before .before .before in
+    let at-pair-at2 = c .before .before .before .before .before .before .before .before .before .before in
+    let at-pair-at3 = c .before .before .before .before .before .before .before .before .before in
+    let at-pair-at4 = c .before .before .before .before .before .before .before .before in
+    let at-pair-at5 = c .before .before .before .before .before .before .before in
+    let at-pair-at6 = c .before .before .before .before .before .before in
+    let at-pair-at7 = c .before .before .before .before .before in
+    let at-pair-at8 = c .before .before .before .before in
+    let at-wide = c .before .before in
+    date-components (start .args .bytes .now) (at-pair-at .pair-at .ensures) (at-pair-at2 .pair-at2 .ensures) (at-pair-at3 .pair-at3 .ensures) (at-pair-at4 .pair-at4 .ensures) (at-pair-at5 .pair-at5 .ensures) (at-pair-at6 .pair-at6 .ensures)
+    (at-pair-at7 .pair-at7 .ensures) (at-pair-at8 .pair-at8 .ensures) (c .before .digit .ensures ∙ ap (λ (x : ℕ). digitOf (x / 16)) (at-wide .wide .ensures)) (c .designator-of .ensures)
 
 pub components-spec : {M : Type 1} → statement M
 components-spec =

@@ -28,8 +28,9 @@ returns-3 c = kind-decodes (c .before .before .before .args .kind) (c .before .b
 
 returns-4 : tie.Need-returns-4
 returns-4 c =
+    let start = c .before .before .before in
     let r = c .before .match .rest in
-    kind-decodes (c .before .before .before .args .kind) (c .before .before .before .args .bytes .now) (another-kind (c .before .before .before .args .kind) (r .0 .0 .1) (r .0 .1) (r .1)) (rw (c .undecoded .ensures) (record { is = refl; worth = refl }))
+    kind-decodes (start .args .kind) (start .args .bytes .now) (another-kind (start .args .kind) (r .0 .0 .1) (r .0 .1) (r .1)) (rw (c .undecoded .ensures) (record { is = refl; worth = refl }))
 
 pub date-spec : {M : Type 1} → statement M
 date-spec =

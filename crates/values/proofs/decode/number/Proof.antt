@@ -15,13 +15,21 @@ enum-known-r-2 : tie.Need-enum-known-r-2
 enum-known-r-2 c = search needs
 
 returns : tie.Need-returns
-returns c = number-left (c .before .before .before .before .before .before .args .bytes .now) (c .before .before .before .before .count .ensures) (c .before .before .r2 .given .1) (c .if1 .taken)
+returns c =
+    let start = c .before .before .before .before .before .before in
+    let at-count = c .before .before .before .before in
+    let at-r2 = c .before .before in
+    number-left (start .args .bytes .now) (at-count .count .ensures) (at-r2 .r2 .given .1) (c .if1 .taken)
 
 returns-2 : tie.Need-returns-2
 returns-2 c = number-refused (c .before .before .before .before .before .args .bytes .now) (c .before .before .before .count .ensures) (c .before .r .given .1)
 
 returns-3 : tie.Need-returns-3
-returns-3 c = number-whole (c .before .before .before .before .before .before .args .bytes .now) (c .before .before .before .before .count .ensures) (c .before .before .r2 .given .1) (c .if1 .left)
+returns-3 c =
+    let start = c .before .before .before .before .before .before in
+    let at-count = c .before .before .before .before in
+    let at-r2 = c .before .before in
+    number-whole (start .args .bytes .now) (at-count .count .ensures) (at-r2 .r2 .given .1) (c .if1 .left)
 
 pub number-spec : {M : Type 1} → statement M
 number-spec =

@@ -21,16 +21,32 @@ undecoded-requires-2 : tie.Need-undecoded-requires-2
 undecoded-requires-2 c κs = search needs
 
 returns : tie.Need-returns
-returns c = rw (c .undecoded2 .ensures) (date-left (c .before .before .before .before .before .before .before .args .bytes .now) (c .before .before .before .before .before .before .before .args .absolute) (c .before .before .before .before .before .bytes .ensures) (c .before .before .before .r2 .given .1) (c .before .if1 .taken))
+returns c =
+    let start = c .before .before .before .before .before .before .before in
+    let at-bytes = c .before .before .before .before .before in
+    let at-r2 = c .before .before .before in
+    rw (c .undecoded2 .ensures) (date-left (start .args .bytes .now) (start .args .absolute) (at-bytes .bytes .ensures) (at-r2 .r2 .given .1) (c .before .if1 .taken))
 
 components-requires : tie.Need-components-requires
-components-requires c κs = date-long (c .before .before .before .before .before .before .args .bytes .now) (c .before .before .before .before .before .before .args .absolute) (c .before .before .before .before .bytes .ensures) (c .before .before .r2 .given .1) (c .if1 .left)
+components-requires c κs =
+    let start = c .before .before .before .before .before .before in
+    let at-bytes = c .before .before .before .before in
+    let at-r2 = c .before .before in
+    date-long (start .args .bytes .now) (start .args .absolute) (at-bytes .bytes .ensures) (at-r2 .r2 .given .1) (c .if1 .left)
 
 returns-2 : tie.Need-returns-2
-returns-2 c = rw (c .undecoded .ensures) (date-refused (c .before .before .before .before .before .before .args .bytes .now) (c .before .before .before .before .before .before .args .absolute) (c .before .before .before .before .bytes .ensures) (c .before .before .r .given .1))
+returns-2 c =
+    let start = c .before .before .before .before .before .before in
+    let at-bytes = c .before .before .before .before in
+    let at-r = c .before .before in
+    rw (c .undecoded .ensures) (date-refused (start .args .bytes .now) (start .args .absolute) (at-bytes .bytes .ensures) (at-r .r .given .1))
 
 returns-3 : tie.Need-returns-3
-returns-3 c = date-whole (c .before .before .before .before .before .before .before .args .bytes .now) (c .before .before .before .before .before .before .before .args .absolute) (c .before .before .before .before .before .bytes .ensures) (c .before .before .before .r2 .given .1) (c .before .if1 .left) (c .components .ensures)
+returns-3 c =
+    let start = c .before .before .before .before .before .before .before in
+    let at-bytes = c .before .before .before .before .before in
+    let at-r2 = c .before .before .before in
+    date-whole (start .args .bytes .now) (start .args .absolute) (at-bytes .bytes .ensures) (at-r2 .r2 .given .1) (c .before .if1 .left) (c .components .ensures)
 
 pub reached-spec : {M : Type 1} → statement M
 reached-spec =

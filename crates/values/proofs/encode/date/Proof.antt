@@ -22,24 +22,37 @@ same-length : tie.Need-same-length
 same-length c = search needs
 
 returns : tie.Need-returns
-returns c = kind-encodes (c .before .before .before .before .before .before .args .kind) (plainOf (c .before .before .before .before .before .before .args .date)) (c .before .before .before .before .before .before .args .output .now) (c .before .before .reached .last .1 .1 .0) (rw (c .before .before .before .before .match .keys1) refl) (c .before .before .reached .ensures)
+returns c =
+    let start = c .before .before .before .before .before .before in
+    let at-match = c .before .before .before .before in
+    let at-reached = c .before .before in
+    kind-encodes (start .args .kind) (plainOf (start .args .date)) (start .args .output .now) (at-reached .reached .last .1 .1 .0) (rw (at-match .match .keys1) refl) (at-reached .reached .ensures)
 
 same-length-2 : tie.Need-same-length-2
 same-length-2 c = search needs
 
 returns-2 : tie.Need-returns-2
-returns-2 c = kind-encodes (c .before .before .before .before .before .before .args .kind) (plainOf (c .before .before .before .before .before .before .args .date)) (c .before .before .before .before .before .before .args .output .now) (c .before .before .reached2 .last .1 .1 .0) (rw (c .before .before .before .before .match .keys2) refl) (c .before .before .reached2 .ensures)
+returns-2 c =
+    let start = c .before .before .before .before .before .before in
+    let at-match = c .before .before .before .before in
+    let at-reached2 = c .before .before in
+    kind-encodes (start .args .kind) (plainOf (start .args .date)) (start .args .output .now) (at-reached2 .reached2 .last .1 .1 .0) (rw (at-match .match .keys2) refl) (at-reached2 .reached2 .ensures)
 
 same-length-3 : tie.Need-same-length-3
 same-length-3 c = search needs
 
 returns-3 : tie.Need-returns-3
-returns-3 c = kind-encodes (c .before .before .before .before .before .before .args .kind) (plainOf (c .before .before .before .before .before .before .args .date)) (c .before .before .before .before .before .before .args .output .now) (c .before .before .reached3 .last .1 .1 .0) (rw (c .before .before .before .before .match .keys3) refl) (c .before .before .reached3 .ensures)
+returns-3 c =
+    let start = c .before .before .before .before .before .before in
+    let at-match = c .before .before .before .before in
+    let at-reached3 = c .before .before in
+    kind-encodes (start .args .kind) (plainOf (start .args .date)) (start .args .output .now) (at-reached3 .reached3 .last .1 .1 .0) (rw (at-match .match .keys3) refl) (at-reached3 .reached3 .ensures)
 
 returns-4 : tie.Need-returns-4
 returns-4 c =
+    let start = c .before .before in
     let r = c .match .rest in
-    let a = c .before .before .args in
+    let a = start .args in
     let d = plainOf (a .date) in
     kind-encodes (a .kind) d (a .output .now) (a .output .now) (another-kind (a .kind) (r .0 .0 .1) (r .0 .1) (r .1)) (reach-encodes noReach d (a .output .now) (a .output .now) (encodes-out 9 (a .output .now) (dateBytes d) refl))
 

@@ -18,14 +18,21 @@ ten-bytes-requires : tie.Need-ten-bytes-requires
 ten-bytes-requires c κs = c .before .before .before .pre
 
 array-share-prefix-bytes : tie.Need-array-share-prefix-bytes
-array-share-prefix-bytes c = many-fits (plainOf (c .before .before .before .before .args .date)) (c .before .before .before .before .args .absolute) (c .before .length-of .ensures) (c .ten-bytes .ensures)
+array-share-prefix-bytes c =
+    let start = c .before .before .before .before in
+    many-fits (plainOf (start .args .date)) (start .args .absolute) (c .before .length-of .ensures) (c .ten-bytes .ensures)
 
 slice-aggregate-bytes : tie.Need-slice-aggregate-bytes
-slice-aggregate-bytes c = many-part (plainOf (c .before .before .before .before .before .args .date)) (c .before .before .before .before .before .args .absolute) (c .before .before .length-of .ensures) (c .before .ten-bytes .ensures)
+slice-aggregate-bytes c =
+    let start = c .before .before .before .before .before in
+    let at-length-of = c .before .before in
+    many-part (plainOf (start .args .date)) (start .args .absolute) (at-length-of .length-of .ensures) (c .before .ten-bytes .ensures)
 
 bytes-requires : tie.Need-bytes-requires
 bytes-requires c κs =
-    let k = many-part (plainOf (c .before .before .before .before .before .args .date)) (c .before .before .before .before .before .args .absolute) (c .before .before .length-of .ensures) (c .before .ten-bytes .ensures) in
+    let start = c .before .before .before .before .before in
+    let at-length-of = c .before .before in
+    let k = many-part (plainOf (start .args .date)) (start .args .absolute) (at-length-of .length-of .ensures) (c .before .ten-bytes .ensures) in
     record { whole = omega arith; before = omega arith }
 
 enum-told : tie.Need-enum-told
@@ -36,42 +43,69 @@ enum-told-2 c = search needs
 
 returns : tie.Need-returns
 returns c =
-    let a = c .before .before .before .before .before .before .before .before .args in
+    let start = c .before .before .before .before .before .before .before .before in
+    let at-length-of = c .before .before .before .before .before in
+    let at-ten-bytes = c .before .before .before .before in
+    let at-bytes2 = c .before .before in
+    let a = start .args in
     let d = plainOf (a .date) in
-    let denied = date-denied d (a .absolute) (c .before .before .before .before .before .length-of .ensures) (c .before .before .before .before .ten-bytes .ensures) (c .before .before .bytes2 .ensures) (c .before .before .before .before .before .before .before .before .pre) (c .enum-told2 .given .1) in
+    let denied = date-denied d (a .absolute) (at-length-of .length-of .ensures) (at-ten-bytes .ten-bytes .ensures) (at-bytes2 .bytes2 .ensures) (start .pre) (c .enum-told2 .given .1) in
     reach-encodes (dated (reaching (a .absolute))) d (a .output .now) (a .output .now) (encodes-out 9 (a .output .now) (dateBytes d) denied)
 
 returns-2 : tie.Need-returns-2
 returns-2 c =
-    let a = c .before .before .before .before .before .before .before .before .before .args in
+    let start = c .before .before .before .before .before .before .before .before .before in
+    let at-length-of = c .before .before .before .before .before .before in
+    let at-ten-bytes = c .before .before .before .before .before in
+    let at-bytes2 = c .before .before .before in
+    let a = start .args in
     let d = plainOf (a .date) in
-    let allowed = date-allowed d (a .absolute) (c .before .before .before .before .before .before .length-of .ensures) (c .before .before .before .before .before .ten-bytes .ensures) (c .before .before .before .bytes2 .ensures) (c .before .before .before .before .before .before .before .before .before .pre) (c .before .enum-told .given .1) in
-    let long = many-long d (a .absolute) (c .before .before .before .before .before .before .length-of .ensures) (c .before .before .before .before .before .ten-bytes .ensures) in
+    let allowed = date-allowed d (a .absolute) (at-length-of .length-of .ensures) (at-ten-bytes .ten-bytes .ensures) (at-bytes2 .bytes2 .ensures) (start .pre) (c .before .enum-told .given .1) in
+    let long = many-long d (a .absolute) (at-length-of .length-of .ensures) (at-ten-bytes .ten-bytes .ensures) in
     reach-encodes (dated (reaching (a .absolute))) d (a .output .now) (a .output .now) (encodes-short 9 (a .output .now) (dateBytes d) allowed long (c .if1 .taken))
 
 array-share-prefix-bytes-2 : tie.Need-array-share-prefix-bytes-2
-array-share-prefix-bytes-2 c = many-fits (plainOf (c .before .before .before .before .before .before .before .before .before .args .date)) (c .before .before .before .before .before .before .before .before .before .args .absolute) (c .before .before .before .before .before .before .length-of .ensures) (c .before .before .before .before .before .ten-bytes .ensures)
+array-share-prefix-bytes-2 c =
+    let start = c .before .before .before .before .before .before .before .before .before in
+    let at-length-of = c .before .before .before .before .before .before in
+    let at-ten-bytes = c .before .before .before .before .before in
+    many-fits (plainOf (start .args .date)) (start .args .absolute) (at-length-of .length-of .ensures) (at-ten-bytes .ten-bytes .ensures)
 
 slice-aggregate-lay : tie.Need-slice-aggregate-lay
-slice-aggregate-lay c = many-part (plainOf (c .before .before .before .before .before .before .before .before .before .before .args .date)) (c .before .before .before .before .before .before .before .before .before .before .args .absolute) (c .before .before .before .before .before .before .before .length-of .ensures) (c .before .before .before .before .before .before .ten-bytes .ensures)
+slice-aggregate-lay c =
+    let start = c .before .before .before .before .before .before .before .before .before .before in
+    let at-length-of = c .before .before .before .before .before .before .before in
+    let at-ten-bytes = c .before .before .before .before .before .before in
+    many-part (plainOf (start .args .date)) (start .args .absolute) (at-length-of .length-of .ensures) (at-ten-bytes .ten-bytes .ensures)
 
 lay-requires : tie.Need-lay-requires
 lay-requires c κs =
-    let k = many-part (plainOf (c .before .before .before .before .before .before .before .before .before .before .before .args .date)) (c .before .before .before .before .before .before .before .before .before .before .before .args .absolute) (c .before .before .before .before .before .before .before .before .length-of .ensures) (c .before .before .before .before .before .before .before .ten-bytes .ensures) in
-    omega (arith, c .before .before .if1 .left)
+    let start = c .before .before .before .before .before .before .before .before .before .before .before in
+    let at-length-of = c .before .before .before .before .before .before .before .before in
+    let at-ten-bytes = c .before .before .before .before .before .before .before in
+    let at-if1 = c .before .before in
+    let k = many-part (plainOf (start .args .date)) (start .args .absolute) (at-length-of .length-of .ensures) (at-ten-bytes .ten-bytes .ensures) in
+    omega (arith, at-if1 .if1 .left)
 
 same-length : tie.Need-same-length
 same-length c = search needs
 
 returns-3 : tie.Need-returns-3
 returns-3 c =
-    let a = c .before .before .before .before .before .before .before .before .before .before .before .before .before .before .args in
+    let start = c .before .before .before .before .before .before .before .before .before .before .before .before .before .before in
+    let at-length-of = c .before .before .before .before .before .before .before .before .before .before .before in
+    let at-ten-bytes = c .before .before .before .before .before .before .before .before .before .before in
+    let at-bytes2 = c .before .before .before .before .before .before .before .before in
+    let at-enum-told = c .before .before .before .before .before .before in
+    let at-if1 = c .before .before .before .before .before in
+    let at-lay = c .before .before in
+    let a = start .args in
     let d = plainOf (a .date) in
-    let allowed = date-allowed d (a .absolute) (c .before .before .before .before .before .before .before .before .before .before .before .length-of .ensures) (c .before .before .before .before .before .before .before .before .before .before .ten-bytes .ensures) (c .before .before .before .before .before .before .before .before .bytes2 .ensures) (c .before .before .before .before .before .before .before .before .before .before .before .before .before .before .pre) (c .before .before .before .before .before .before .enum-told .given .1) in
-    let long = many-long d (a .absolute) (c .before .before .before .before .before .before .before .before .before .before .before .length-of .ensures) (c .before .before .before .before .before .before .before .before .before .before .ten-bytes .ensures) in
-    let here = bytes-here d (a .absolute) (c .before .before .before .before .before .before .before .before .before .before .before .length-of .ensures) (c .before .before .before .before .before .before .before .before .before .before .ten-bytes .ensures) in
-    reach-encodes (dated (reaching (a .absolute))) d (a .output .now) (c .before .before .lay .last .1 .0)
-    (encodes-laid 9 (a .output .now) (dateBytes d) allowed long (c .before .before .before .before .before .if1 .left) (c .before .before .lay .ensures ∙ ap (laidOver (a .output .now)) here))
+    let allowed = date-allowed d (a .absolute) (at-length-of .length-of .ensures) (at-ten-bytes .ten-bytes .ensures) (at-bytes2 .bytes2 .ensures) (start .pre) (at-enum-told .enum-told .given .1) in
+    let long = many-long d (a .absolute) (at-length-of .length-of .ensures) (at-ten-bytes .ten-bytes .ensures) in
+    let here = bytes-here d (a .absolute) (at-length-of .length-of .ensures) (at-ten-bytes .ten-bytes .ensures) in
+    reach-encodes (dated (reaching (a .absolute))) d (a .output .now) (at-lay .lay .last .1 .0)
+    (encodes-laid 9 (a .output .now) (dateBytes d) allowed long (at-if1 .if1 .left) (at-lay .lay .ensures ∙ ap (laidOver (a .output .now)) here))
 
 pub fitting-spec : {M : Type 1} → statement M
 fitting-spec =

@@ -31,9 +31,11 @@ loop-less c = omega arith
 
 loop-again : tie.Need-loop-again Inv-loop μ-loop
 loop-again c =
-    let l = c .before .before .loop in
-    let a = c .before .before .before .args in
-    (omega arith, length-set (l .output) (l .j) _ ∙ l .inv .1, lay-next (a .bytes .now) (a .output .now) (l .j) (c .before .loop-test .taken) (omega (arith, c .before .before .before .pre)) (l .inv .2))
+    let start = c .before .before .before in
+    let at-loop = c .before .before in
+    let l = at-loop .loop in
+    let a = start .args in
+    (omega arith, length-set (l .output) (l .j) _ ∙ l .inv .1, lay-next (a .bytes .now) (a .output .now) (l .j) (c .before .loop-test .taken) (omega (arith, start .pre)) (l .inv .2))
 
 same-length : tie.Need-same-length Inv-loop μ-loop
 same-length c = c .before .loop .inv .1

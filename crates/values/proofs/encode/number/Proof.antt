@@ -25,10 +25,12 @@ add-many c = search needs
 
 returns-2 : tie.Need-returns-2
 returns-2 c =
-    let a = c .before .before .before .before .args in
+    let start = c .before .before .before .before in
+    let at-if1 = c .before .before in
+    let a = start .args in
     let d = c .before .digit-count .ensures in
     number-encodes (a .value) (a .output .now) (a .output .now)
-    (encodes-short 10 (a .output .now) (numberBytes (a .value)) (le-leb (a .value) numberMost (c .before .before .if1 .left)) (bytes-of (a .value) (c .before .digit-count .result) (d .0) (d .1) (d .2) .1) (c .if2 .taken))
+    (encodes-short 10 (a .output .now) (numberBytes (a .value)) (le-leb (a .value) numberMost (at-if1 .if1 .left)) (bytes-of (a .value) (c .before .digit-count .result) (d .0) (d .1) (d .2) .1) (c .if2 .taken))
 
 coded-byte-requires : tie.Need-coded-byte-requires
 coded-byte-requires c κs = search needs
@@ -52,25 +54,46 @@ array-share-prefix-bytes : tie.Need-array-share-prefix-bytes
 array-share-prefix-bytes c = search needs
 
 slice-aggregate-lay : tie.Need-slice-aggregate-lay
-slice-aggregate-lay c = let d = c .before .before .before .before .before .before .before .before .digit-count .ensures in part-long (c .before .before .before .before .before .before .before .before .digit-count .result / 2 + 1) _ (omega arith)
+slice-aggregate-lay c =
+    let at-digit-count = c .before .before .before .before .before .before .before .before in
+    let d = at-digit-count .digit-count .ensures in part-long (at-digit-count .digit-count .result / 2 + 1) _ (omega arith)
 
 lay-requires : tie.Need-lay-requires
 lay-requires c κs =
-    let d = c .before .before .before .before .before .before .before .before .before .digit-count .ensures in
-    let k : c .before .before .before .before .before .before .before .before .before .digit-count .result / 2 + 1 ≤ 6 = omega arith in
-    omega (arith, part-long (c .before .before .before .before .before .before .before .before .before .digit-count .result / 2 + 1) (c .before .before .before .before .before .before .before .coded-byte .result ∷ c .before .before .before .before .before .before .coded-byte2 .result ∷ c .before .before .before .before .before .coded-byte3 .result ∷ c .before .before .before .before .coded-byte4 .result ∷ c .before .before .before .coded-byte5 .result ∷ c .before .before .coded-byte6 .result ∷ []) k, c .before .before .before .before .before .before .before .before .if2 .left)
+    let at-digit-count = c .before .before .before .before .before .before .before .before .before in
+    let at-if2 = c .before .before .before .before .before .before .before .before in
+    let at-coded-byte = c .before .before .before .before .before .before .before in
+    let at-coded-byte2 = c .before .before .before .before .before .before in
+    let at-coded-byte3 = c .before .before .before .before .before in
+    let at-coded-byte4 = c .before .before .before .before in
+    let at-coded-byte5 = c .before .before .before in
+    let at-coded-byte6 = c .before .before in
+    let d = at-digit-count .digit-count .ensures in
+    let k : at-digit-count .digit-count .result / 2 + 1 ≤ 6 = omega arith in
+    omega (arith, part-long (at-digit-count .digit-count .result / 2 + 1) (at-coded-byte .coded-byte .result ∷ at-coded-byte2 .coded-byte2 .result ∷ at-coded-byte3 .coded-byte3 .result ∷ at-coded-byte4 .coded-byte4 .result ∷ at-coded-byte5 .coded-byte5 .result ∷ at-coded-byte6 .coded-byte6 .result ∷ []) k, at-if2 .if2 .left)
 
 same-length : tie.Need-same-length
 same-length c = search needs
 
 returns-3 : tie.Need-returns-3
 returns-3 c =
-    let a = c .before .before .before .before .before .before .before .before .before .before .before .before .before .before .before .args in
-    let n = c .before .before .before .before .before .before .before .before .before .before .before .before .digit-count .result in
-    let d = c .before .before .before .before .before .before .before .before .before .before .before .before .digit-count .ensures in
-    let made = bytes-made (a .value) n (d .0) (d .1) (d .2) (c .before .before .before .before .before .before .before .before .before .before .coded-byte .ensures) (c .before .before .before .before .before .before .before .before .before .coded-byte2 .ensures) (c .before .before .before .before .before .before .before .before .coded-byte3 .ensures) (c .before .before .before .before .before .before .before .coded-byte4 .ensures) (c .before .before .before .before .before .before .coded-byte5 .ensures) (c .before .before .before .before .before .coded-byte6 .ensures) in
-    number-encodes (a .value) (a .output .now) (c .before .before .lay .last .1 .0)
-    (encodes-laid 10 (a .output .now) (numberBytes (a .value)) (le-leb (a .value) numberMost (c .before .before .before .before .before .before .before .before .before .before .before .before .before .if1 .left)) (bytes-of (a .value) n (d .0) (d .1) (d .2) .1) (c .before .before .before .before .before .before .before .before .before .before .before .if2 .left) (c .before .before .lay .ensures ∙ ap (laidOver (a .output .now)) made))
+    let start = c .before .before .before .before .before .before .before .before .before .before .before .before .before .before .before in
+    let at-if1 = c .before .before .before .before .before .before .before .before .before .before .before .before .before in
+    let at-digit-count = c .before .before .before .before .before .before .before .before .before .before .before .before in
+    let at-if2 = c .before .before .before .before .before .before .before .before .before .before .before in
+    let at-coded-byte = c .before .before .before .before .before .before .before .before .before .before in
+    let at-coded-byte2 = c .before .before .before .before .before .before .before .before .before in
+    let at-coded-byte3 = c .before .before .before .before .before .before .before .before in
+    let at-coded-byte4 = c .before .before .before .before .before .before .before in
+    let at-coded-byte5 = c .before .before .before .before .before .before in
+    let at-coded-byte6 = c .before .before .before .before .before in
+    let at-lay = c .before .before in
+    let a = start .args in
+    let n = at-digit-count .digit-count .result in
+    let d = at-digit-count .digit-count .ensures in
+    let made = bytes-made (a .value) n (d .0) (d .1) (d .2) (at-coded-byte .coded-byte .ensures) (at-coded-byte2 .coded-byte2 .ensures) (at-coded-byte3 .coded-byte3 .ensures) (at-coded-byte4 .coded-byte4 .ensures) (at-coded-byte5 .coded-byte5 .ensures) (at-coded-byte6 .coded-byte6 .ensures) in
+    number-encodes (a .value) (a .output .now) (at-lay .lay .last .1 .0)
+    (encodes-laid 10 (a .output .now) (numberBytes (a .value)) (le-leb (a .value) numberMost (at-if1 .if1 .left)) (bytes-of (a .value) n (d .0) (d .1) (d .2) .1) (at-if2 .if2 .left) (at-lay .lay .ensures ∙ ap (laidOver (a .output .now)) made))
 
 pub number-spec : {M : Type 1} → statement M
 number-spec =

@@ -23,7 +23,8 @@ returns c = c .before .before .fitting .ensures
 
 returns-2 : tie.Need-returns-2
 returns-2 c =
-    let a = c .before .before .before .args in
+    let start = c .before .before .before in
+    let a = start .args in
     let d = plainOf (a .date) in
     reach-encodes (dated (reaching (a .absolute))) d (a .output .now) (a .output .now) (encodes-out 9 (a .output .now) (dateBytes d) (unfit d (a .absolute) (sym (c .before .fits2 .ensures) ∙ c .if1 .left)))
 

@@ -19,16 +19,24 @@ pair-byte-requires-4 : tie.Need-pair-byte-requires-4
 pair-byte-requires-4 c κs = let f = fitting (plainOf (c .before .before .before .before .before .args .date)) (c .before .before .before .before .before .pre) in omega arith
 
 pair-byte-requires-5 : tie.Need-pair-byte-requires-5
-pair-byte-requires-5 c κs = let f = fitting (plainOf (c .before .before .before .before .before .before .args .date)) (c .before .before .before .before .before .before .pre) in omega arith
+pair-byte-requires-5 c κs =
+    let start = c .before .before .before .before .before .before in
+    let f = fitting (plainOf (start .args .date)) (start .pre) in omega arith
 
 pair-byte-requires-6 : tie.Need-pair-byte-requires-6
-pair-byte-requires-6 c κs = let f = fitting (plainOf (c .before .before .before .before .before .before .before .args .date)) (c .before .before .before .before .before .before .before .pre) in omega arith
+pair-byte-requires-6 c κs =
+    let start = c .before .before .before .before .before .before .before in
+    let f = fitting (plainOf (start .args .date)) (start .pre) in omega arith
 
 pair-byte-requires-7 : tie.Need-pair-byte-requires-7
-pair-byte-requires-7 c κs = let f = fitting (plainOf (c .before .before .before .before .before .before .before .before .args .date)) (c .before .before .before .before .before .before .before .before .pre) in omega arith
+pair-byte-requires-7 c κs =
+    let start = c .before .before .before .before .before .before .before .before in
+    let f = fitting (plainOf (start .args .date)) (start .pre) in omega arith
 
 pair-byte-requires-8 : tie.Need-pair-byte-requires-8
-pair-byte-requires-8 c κs = let f = fitting (plainOf (c .before .before .before .before .before .before .before .before .before .before .args .date)) (c .before .before .before .before .before .before .before .before .before .before .pre) in omega arith
+pair-byte-requires-8 c κs =
+    let start = c .before .before .before .before .before .before .before .before .before .before in
+    let f = fitting (plainOf (start .args .date)) (start .pre) in omega arith
 
 add-t14 : tie.Need-add-t14
 add-t14 c = search needs
@@ -40,12 +48,23 @@ cast-t16 : tie.Need-cast-t16
 cast-t16 c = search needs
 
 cast-t17 : tie.Need-cast-t17
-cast-t17 c = let f = fitting (plainOf (c .before .before .before .before .before .before .before .before .before .before .before .before .before .args .date)) (c .before .before .before .before .before .before .before .before .before .before .before .before .before .pre) in omega arith
+cast-t17 c =
+    let start = c .before .before .before .before .before .before .before .before .before .before .before .before .before in
+    let f = fitting (plainOf (start .args .date)) (start .pre) in omega arith
 
 returns : tie.Need-returns
 returns c =
-    ten-made (plainOf (c .before .before .before .before .before .before .before .before .before .before .before .before .before .args .date)) (c .before .before .before .before .before .before .before .before .before .before .before .pair-byte .ensures) (c .before .before .before .before .before .before .before .before .before .pair-byte2 .ensures) (c .before .before .before .before .before .before .before .before .pair-byte3 .ensures) (c .before .before .before .before .before .before .before .pair-byte4 .ensures) (c .before .before .before .before .before .before .pair-byte5 .ensures) (c .before .before .before .before .before .pair-byte6 .ensures)
-    (c .before .before .before .before .pair-byte7 .ensures) (c .before .before .pair-byte8 .ensures)
+    let start = c .before .before .before .before .before .before .before .before .before .before .before .before .before in
+    let at-pair-byte = c .before .before .before .before .before .before .before .before .before .before .before in
+    let at-pair-byte2 = c .before .before .before .before .before .before .before .before .before in
+    let at-pair-byte3 = c .before .before .before .before .before .before .before .before in
+    let at-pair-byte4 = c .before .before .before .before .before .before .before in
+    let at-pair-byte5 = c .before .before .before .before .before .before in
+    let at-pair-byte6 = c .before .before .before .before .before in
+    let at-pair-byte7 = c .before .before .before .before in
+    let at-pair-byte8 = c .before .before in
+    ten-made (plainOf (start .args .date)) (at-pair-byte .pair-byte .ensures) (at-pair-byte2 .pair-byte2 .ensures) (at-pair-byte3 .pair-byte3 .ensures) (at-pair-byte4 .pair-byte4 .ensures) (at-pair-byte5 .pair-byte5 .ensures) (at-pair-byte6 .pair-byte6 .ensures)
+    (at-pair-byte7 .pair-byte7 .ensures) (at-pair-byte8 .pair-byte8 .ensures)
 
 pub ten-bytes-spec : {M : Type 1} → statement M
 ten-bytes-spec =

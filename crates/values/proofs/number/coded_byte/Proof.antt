@@ -31,7 +31,9 @@ cast-result : tie.Need-cast-result
 cast-result c = search needs
 
 returns-2 : tie.Need-returns-2
-returns-2 c = byte-odd (c .before .before .before .args .value) (c .before .before .before .args .n - 2 * c .before .before .before .args .j) (c .if2 .taken) (c .before .digit-at .ensures)
+returns-2 c =
+    let start = c .before .before .before in
+    byte-odd (start .args .value) (start .args .n - 2 * start .args .j) (c .if2 .taken) (c .before .digit-at .ensures)
 
 sub-digit-at-2 : tie.Need-sub-digit-at-2
 sub-digit-at-2 c = search needs
@@ -49,7 +51,10 @@ cast-result-2 : tie.Need-cast-result-2
 cast-result-2 c = search needs
 
 returns-3 : tie.Need-returns-3
-returns-3 c = byte-even (c .before .before .before .before .args .value) (c .before .before .before .before .args .n - 2 * c .before .before .before .before .args .j) (omega arith) (c .before .before .digit-at .ensures) (c .digit-at2 .ensures)
+returns-3 c =
+    let start = c .before .before .before .before in
+    let at-digit-at = c .before .before in
+    byte-even (start .args .value) (start .args .n - 2 * start .args .j) (omega arith) (at-digit-at .digit-at .ensures) (c .digit-at2 .ensures)
 
 pub coded-byte-spec : {M : Type 1} → statement M
 coded-byte-spec =

@@ -38,10 +38,15 @@ enum-told c = search needs
 returns : tie.Need-returns Inv-loop μ-loop
 unfolding tallied Ends
 returns c =
-    let l = c .before .before .before .before .before .before .loop in
-    let a = c .before .before .before .before .before .before .before .before .args in
+    let start = c .before .before .before .before .before .before .before .before in
+    let at-loop = c .before .before .before .before .before .before in
+    let at-loop-test = c .before .before .before .before .before in
+    let at-wide = c .before .before .before in
+    let at-turn = c .before .before in
+    let l = at-loop .loop in
+    let a = start .args in
     record {
-      is = l .inv .3 ∙ number-wrong (a .s .now) (a .end) (c .before .before .before .before .before .before .before .before .pre .whole) (a .at) (l .i) (l .number) (l .first) (l .inv .0) (c .before .before .before .before .before .loop-test .taken) (c .before .before .before .wide .ensures) (c .before .before .turn .ensures) (c .enum-told .given .1);
+      is = l .inv .3 ∙ number-wrong (a .s .now) (a .end) (start .pre .whole) (a .at) (l .i) (l .number) (l .first) (l .inv .0) (at-loop-test .loop-test .taken) (at-wide .wide .ensures) (at-turn .turn .ensures) (c .enum-told .given .1);
       ends = l .inv .1;
     }
 
@@ -54,10 +59,15 @@ add-t14 c = omega arith
 returns-2 : tie.Need-returns-2 Inv-loop μ-loop
 unfolding tallied Ends
 returns-2 c =
-    let l = c .before .before .before .before .before .before .before .loop in
-    let a = c .before .before .before .before .before .before .before .before .before .args in
+    let start = c .before .before .before .before .before .before .before .before .before in
+    let at-loop = c .before .before .before .before .before .before .before in
+    let at-loop-test = c .before .before .before .before .before .before in
+    let at-wide = c .before .before .before .before in
+    let at-turn = c .before .before .before in
+    let l = at-loop .loop in
+    let a = start .args in
     record {
-      is = l .inv .3 ∙ number-stops (a .s .now) (a .end) (c .before .before .before .before .before .before .before .before .before .pre .whole) (a .at) (l .i) (l .number) (l .first) (l .inv .0) (c .before .before .before .before .before .before .loop-test .taken) (c .before .before .before .before .wide .ensures) (c .before .before .before .turn .ensures) (c .before .t .given .1);
+      is = l .inv .3 ∙ number-stops (a .s .now) (a .end) (start .pre .whole) (a .at) (l .i) (l .number) (l .first) (l .inv .0) (at-loop-test .loop-test .taken) (at-wide .wide .ensures) (at-turn .turn .ensures) (c .before .t .given .1);
       ends = (omega arith, omega arith);
     }
 
@@ -72,12 +82,17 @@ loop-less c = omega arith
 
 loop-again : tie.Need-loop-again Inv-loop μ-loop
 loop-again c =
-    let l = c .before .before .before .before .before .before .before .loop in
-    let a = c .before .before .before .before .before .before .before .before .before .args in (
+    let start = c .before .before .before .before .before .before .before .before .before in
+    let at-loop = c .before .before .before .before .before .before .before in
+    let at-loop-test = c .before .before .before .before .before .before in
+    let at-wide = c .before .before .before .before in
+    let at-turn = c .before .before .before in
+    let l = at-loop .loop in
+    let a = start .args in (
       omega arith,
       omega arith,
-      more-fits (c .before .before .before .turn .ensures) (c .before .t2 .given .1),
-      l .inv .3 ∙ number-goes (a .s .now) (a .end) (c .before .before .before .before .before .before .before .before .before .pre .whole) (a .at) (l .i) (l .number) (l .first) (l .inv .0) (c .before .before .before .before .before .before .loop-test .taken) (c .before .before .before .before .wide .ensures) (c .before .before .before .turn .ensures) (c .before .t2 .given .1),
+      more-fits (at-turn .turn .ensures) (c .before .t2 .given .1),
+      l .inv .3 ∙ number-goes (a .s .now) (a .end) (start .pre .whole) (a .at) (l .i) (l .number) (l .first) (l .inv .0) (at-loop-test .loop-test .taken) (at-wide .wide .ensures) (at-turn .turn .ensures) (c .before .t2 .given .1),
     )
 
 returns-3 : tie.Need-returns-3 Inv-loop μ-loop

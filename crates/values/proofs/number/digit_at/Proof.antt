@@ -26,7 +26,9 @@ loop-again : tie.Need-loop-again Inv-loop μ-loop
 loop-again c = (omega arith, quotient-next (c .before .loop .k) (c .before .before .args .value) (c .before .loop .inv .1))
 
 returns : tie.Need-returns Inv-loop μ-loop
-returns c = let q : c .before .loop .k ≡ c .before .before .args .behind = omega arith in ap (λ (x : ℕ). x % 10) (c .before .loop .inv .1 ∙ ap (λ (x : ℕ). quotient x (c .before .before .args .value)) q)
+returns c =
+    let start = c .before .before in
+    let q : c .before .loop .k ≡ start .args .behind = omega arith in ap (λ (x : ℕ). x % 10) (c .before .loop .inv .1 ∙ ap (λ (x : ℕ). quotient x (start .args .value)) q)
 
 pub digit-at-spec : {M : Type 1} → statement M
 digit-at-spec = tie.close (tie.spec Inv-loop μ-loop loop-holds add-k loop-less loop-again returns)

@@ -35,22 +35,55 @@ is-digit-requires-2 : tie.Need-is-digit-requires-2
 is-digit-requires-2 c κs = search needs
 
 returns : tie.Need-returns
-returns c = zero-wrong (c .before .before .before .before .before .before .args .number) (c .before .before .before .before .before .before .args .b) (c .before .before .before .before .before .before .args .first) (c .before .if1 .taken) (c .if2 .taken)
+returns c =
+    let start = c .before .before .before .before .before .before in
+    zero-wrong (start .args .number) (start .args .b) (start .args .first) (c .before .if1 .taken) (c .if2 .taken)
 
 returns-2 : tie.Need-returns-2
-returns-2 c = zero-ends (c .before .before .before .before .before .before .args .number) (c .before .before .before .before .before .before .args .b) (c .before .before .before .before .before .before .args .first) (c .before .if1 .taken) (c .if2 .left)
+returns-2 c =
+    let start = c .before .before .before .before .before .before in
+    zero-ends (start .args .number) (start .args .b) (start .args .first) (c .before .if1 .taken) (c .if2 .left)
 
 returns-3 : tie.Need-returns-3
-returns-3 c = odd-ends (c .before .before .before .before .before .before .before .args .number) (c .before .before .before .before .before .before .before .args .first) (c .before .before .before .before .before .before .before .args .b) (c .before .before .before .before .before .before .digit .ensures) (c .before .before .before .before .before .digit2 .ensures) (c .before .before .before .before .is-digit .ensures) (c .before .before .before .is-digit2 .ensures) (c .before .before .if1 .left) (c .before .if3 .taken) (c .if4 .taken)
+returns-3 c =
+    let start = c .before .before .before .before .before .before .before in
+    let at-digit = c .before .before .before .before .before .before in
+    let at-digit2 = c .before .before .before .before .before in
+    let at-is-digit = c .before .before .before .before in
+    let at-is-digit2 = c .before .before .before in
+    let at-if1 = c .before .before in
+    odd-ends (start .args .number) (start .args .first) (start .args .b) (at-digit .digit .ensures) (at-digit2 .digit2 .ensures) (at-is-digit .is-digit .ensures) (at-is-digit2 .is-digit2 .ensures) (at-if1 .if1 .left) (c .before .if3 .taken) (c .if4 .taken)
 
 returns-4 : tie.Need-returns-4
-returns-4 c = even-goes (c .before .before .before .before .before .before .before .before .args .number) (c .before .before .before .before .before .before .before .before .args .first) (c .before .before .before .before .before .before .before .before .args .b) (c .before .before .before .before .before .before .before .digit .ensures) (c .before .before .before .before .before .before .digit2 .ensures) (c .before .before .before .before .before .is-digit .ensures) (c .before .before .before .before .is-digit2 .ensures) (c .before .before .before .if1 .left) (c .before .before .if3 .taken) (c .before .if4 .left) (c .if5 .taken)
+returns-4 c =
+    let start = c .before .before .before .before .before .before .before .before in
+    let at-digit = c .before .before .before .before .before .before .before in
+    let at-digit2 = c .before .before .before .before .before .before in
+    let at-is-digit = c .before .before .before .before .before in
+    let at-is-digit2 = c .before .before .before .before in
+    let at-if1 = c .before .before .before in
+    let at-if3 = c .before .before in
+    even-goes (start .args .number) (start .args .first) (start .args .b) (at-digit .digit .ensures) (at-digit2 .digit2 .ensures) (at-is-digit .is-digit .ensures) (at-is-digit2 .is-digit2 .ensures) (at-if1 .if1 .left) (at-if3 .if3 .taken) (c .before .if4 .left) (c .if5 .taken)
 
 returns-5 : tie.Need-returns-5
-returns-5 c = even-wrong (c .before .before .before .before .before .before .before .before .args .number) (c .before .before .before .before .before .before .before .before .args .first) (c .before .before .before .before .before .before .before .before .args .b) (c .before .before .before .before .before .before .before .digit .ensures) (c .before .before .before .before .before .before .digit2 .ensures) (c .before .before .before .before .before .is-digit .ensures) (c .before .before .before .before .is-digit2 .ensures) (c .before .before .before .if1 .left) (c .before .before .if3 .taken) (c .before .if4 .left) (c .if5 .left)
+returns-5 c =
+    let start = c .before .before .before .before .before .before .before .before in
+    let at-digit = c .before .before .before .before .before .before .before in
+    let at-digit2 = c .before .before .before .before .before .before in
+    let at-is-digit = c .before .before .before .before .before in
+    let at-is-digit2 = c .before .before .before .before in
+    let at-if1 = c .before .before .before in
+    let at-if3 = c .before .before in
+    even-wrong (start .args .number) (start .args .first) (start .args .b) (at-digit .digit .ensures) (at-digit2 .digit2 .ensures) (at-is-digit .is-digit .ensures) (at-is-digit2 .is-digit2 .ensures) (at-if1 .if1 .left) (at-if3 .if3 .taken) (c .before .if4 .left) (c .if5 .left)
 
 returns-6 : tie.Need-returns-6
-returns-6 c = odd-wrong (c .before .before .before .before .before .before .args .number) (c .before .before .before .before .before .before .args .first) (c .before .before .before .before .before .before .args .b) (c .before .before .before .before .before .digit .ensures) (c .before .before .before .before .digit2 .ensures) (c .before .before .before .is-digit .ensures) (c .before .before .is-digit2 .ensures) (c .before .if1 .left) (c .if3 .left)
+returns-6 c =
+    let start = c .before .before .before .before .before .before in
+    let at-digit = c .before .before .before .before .before in
+    let at-digit2 = c .before .before .before .before in
+    let at-is-digit = c .before .before .before in
+    let at-is-digit2 = c .before .before in
+    odd-wrong (start .args .number) (start .args .first) (start .args .b) (at-digit .digit .ensures) (at-digit2 .digit2 .ensures) (at-is-digit .is-digit .ensures) (at-is-digit2 .is-digit2 .ensures) (c .before .if1 .left) (c .if3 .left)
 
 pub turn-spec : {M : Type 1} → statement M
 turn-spec =

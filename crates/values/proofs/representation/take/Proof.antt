@@ -26,20 +26,27 @@ take-requires c κs = record { whole = c .before .before .before .before .pre .w
 
 returns-2 : tie.Need-returns-2
 unfolding takeValue look find
-returns-2 c = code-before (c .before .before .before .if1 .left) (sym (c .before .match .keys1)) text (record { coded = refl; rowed = refl; flat = refl }) (λ n. refl) (c .take .ensures)
+returns-2 c =
+    let at-if1 = c .before .before .before in
+    code-before (at-if1 .if1 .left) (sym (c .before .match .keys1)) text (record { coded = refl; rowed = refl; flat = refl }) (λ n. refl) (c .take .ensures)
 
 returns-3 : tie.Need-returns-3
 unfolding takeValue
 returns-3 c =
-    let b = getD (c .before .before .before .before .before .before .args .s .now) (c .before .before .before .before .before .before .args .at) 0 in
-    code-known (c .before .before .before .before .if1 .left) refl itself (record { coded = ne-eqb b 256 (λ q. omega arith); rowed = refl; flat = refl }) (standard b (omega arith) (omega arith))
+    let start = c .before .before .before .before .before .before in
+    let at-if1 = c .before .before .before .before in
+    let b = getD (start .args .s .now) (start .args .at) 0 in
+    code-known (at-if1 .if1 .left) refl itself (record { coded = ne-eqb b 256 (λ q. omega arith); rowed = refl; flat = refl }) (standard b (omega arith) (omega arith))
     (answered refl (omega arith) (omega arith) (omega arith) (omega arith))
 
 returns-4 : tie.Need-returns-4
 returns-4 c = code-unknown (c .before .before .before .if1 .left) refl (no-representation _ (c .before .match .rest .1) (λ q. omega arith) (λ q. omega arith) (λ q. omega arith))
 
 returns-5 : tie.Need-returns-5
-returns-5 c = code-unknown (c .before .before .before .before .if1 .left) refl (no-representation _ (c .before .before .match .rest .1) (λ q. omega arith) (λ q. omega arith) (λ q. omega arith))
+returns-5 c =
+    let at-if1 = c .before .before .before .before in
+    let at-match = c .before .before in
+    code-unknown (at-if1 .if1 .left) refl (no-representation _ (at-match .match .rest .1) (λ q. omega arith) (λ q. omega arith) (λ q. omega arith))
 
 pub take-spec : {M : Type 1} → statement M
 take-spec =

@@ -35,12 +35,14 @@ loop-less c = omega arith
 
 loop-again : tie.Need-loop-again Inv-loop μ-loop
 loop-again c =
-    let l = c .before .before .before .loop in
-    let a = c .before .before .before .before .before .args in
+    let start = c .before .before .before .before .before in
+    let at-loop = c .before .before .before in
+    let l = at-loop .loop in
+    let a = start .args in
     record {
       inside = omega arith;
       before = omega arith;
-      is = l .inv .is ∙ text-runs (a .s .now) (a .end) (c .before .before .before .before .before .pre .whole) (a .at) (l .i) 15 (l .inv .inside) (omega arith) (sym (c .before .sixteen .ensures) ∙ c .if1 .taken);
+      is = l .inv .is ∙ text-runs (a .s .now) (a .end) (start .pre .whole) (a .at) (l .i) 15 (l .inv .inside) (omega arith) (sym (c .before .sixteen .ensures) ∙ c .if1 .taken);
     }
 
 returns : tie.Need-returns Inv-loop μ-loop

@@ -32,15 +32,21 @@ add-t11 c = omega arith
 
 returns : tie.Need-returns Inv-loop μ-loop
 returns c =
-    let l = c .before .before .before .loop in
-    let a = c .before .before .before .before .before .before .args in
-    answered (l .inv .is ∙ text-stops (a .s .now) (a .end) (c .before .before .before .before .before .before .pre .whole) (a .at) (l .i) (l .inv .inside) (c .before .before .loop-test .taken) (c .if1 .taken)) (omega arith) (omega arith) (omega arith) (omega arith)
+    let start = c .before .before .before .before .before .before in
+    let at-loop = c .before .before .before in
+    let at-loop-test = c .before .before in
+    let l = at-loop .loop in
+    let a = start .args in
+    answered (l .inv .is ∙ text-stops (a .s .now) (a .end) (start .pre .whole) (a .at) (l .i) (l .inv .inside) (at-loop-test .loop-test .taken) (c .if1 .taken)) (omega arith) (omega arith) (omega arith) (omega arith)
 
 returns-2 : tie.Need-returns-2 Inv-loop μ-loop
 returns-2 c =
-    let l = c .before .before .before .before .loop in
-    let a = c .before .before .before .before .before .before .before .args in
-    refuses (l .inv .is ∙ text-wrong (a .s .now) (a .end) (c .before .before .before .before .before .before .before .pre .whole) (a .at) (l .i) (l .inv .inside) (c .before .before .before .loop-test .taken) (c .before .if1 .left) (c .if2 .taken)) (omega arith)
+    let start = c .before .before .before .before .before .before .before in
+    let at-loop = c .before .before .before .before in
+    let at-loop-test = c .before .before .before in
+    let l = at-loop .loop in
+    let a = start .args in
+    refuses (l .inv .is ∙ text-wrong (a .s .now) (a .end) (start .pre .whole) (a .at) (l .i) (l .inv .inside) (at-loop-test .loop-test .taken) (c .before .if1 .left) (c .if2 .taken)) (omega arith)
 
 add-i : tie.Need-add-i Inv-loop μ-loop
 add-i c = omega arith
@@ -50,12 +56,15 @@ loop-less c = omega arith
 
 loop-again : tie.Need-loop-again Inv-loop μ-loop
 loop-again c =
-    let l = c .before .before .before .before .loop in
-    let a = c .before .before .before .before .before .before .before .args in
+    let start = c .before .before .before .before .before .before .before in
+    let at-loop = c .before .before .before .before in
+    let at-loop-test = c .before .before .before in
+    let l = at-loop .loop in
+    let a = start .args in
     record {
       inside = omega arith;
       before = omega arith;
-      is = l .inv .is ∙ text-goes (a .s .now) (a .end) (c .before .before .before .before .before .before .before .pre .whole) (a .at) (l .i) (l .inv .inside) (c .before .before .before .loop-test .taken) (is-text (getD (a .s .now) (l .i) 0) (c .if2 .left));
+      is = l .inv .is ∙ text-goes (a .s .now) (a .end) (start .pre .whole) (a .at) (l .i) (l .inv .inside) (at-loop-test .loop-test .taken) (is-text (getD (a .s .now) (l .i) 0) (c .if2 .left));
     }
 
 returns-3 : tie.Need-returns-3 Inv-loop μ-loop
