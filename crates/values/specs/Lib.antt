@@ -5,3 +5,4 @@ pub mod Numbers
 pub mod Dates
 pub mod Blocks
 pub mod Plain
+pub mod Steps
