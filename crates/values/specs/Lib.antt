@@ -1,0 +1,4 @@
+pub mod Stages
+pub mod Numbers
+pub mod Dates
+pub mod Blocks

@@ -1,0 +1,23 @@
+// "Representation: 10, 11 or 12, or 00 and a text."
+use crate::Value;
+use crate::text;
+
+ghost use Rattle.meaning.specs.Editions.{representations};
+ghost use Rattle.values.specs.Stages.{Inside, Coded};
+
+// A representation from its code on; the standard ones are the code itself.
+pub fn take(s: &[u8], end: usize, at: usize) -> Value
+    requires { ⌜ Inside (now s) end at ⌝ }
+    ensures { λ r. ⌜ Coded representations 7 (now (s .entry)) end at r ⌝ }
+{
+    if end <= at {
+        return Value::Refused { refusal: 6, at: at };
+    }
+    let code = s[at];
+    let first = at + 1;
+    match code {
+        0x00 => text::take(s, end, first, 4),
+        0x10 | 0x11 | 0x12 => Value::Is { kind: 3, start: at, length: 1, after: first },
+        _ => Value::Refused { refusal: 7, at: at },
+    }
+}
