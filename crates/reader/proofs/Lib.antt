@@ -1,0 +1,4 @@
+pub mod Logic
+pub mod Stages
+pub mod Steps
+pub mod Values

@@ -1,0 +1,9 @@
+// The reader: a header as rows in lent memory, and the payload behind it.
+mod look;
+mod rows;
+
+// "either a value with the place after it, or a refusal": the place and the count of rows, or document 01's number and place.
+pub enum Stage {
+    Go { at: usize, rows: usize },
+    Refused { refusal: u32, at: usize },
+}
