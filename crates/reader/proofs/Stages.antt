@@ -5,9 +5,10 @@ use mathlib.Core.Path.{_≡_, refl, _∙_}
 use native.Mathlib.Omega.{arith}
 use lib.ListN.{length}
 use Rattle.meaning.specs.Editions.{State}
+use Rattle.values.specs.Stages.{Inside}
 use Rattle.reader.specs.declared.Stage.{Stage}
 use Rattle.reader.specs.declared.Stage.the-variants.{Go, Refused}
-use Rattle.reader.specs.Stages.{Outcome, stopped, Source, runAt, after, Moved, Ran}
+use Rattle.reader.specs.Stages.{Outcome, stopped, Source, runAt, after, Moved, Ran, Ready, headerMost}
 
 less-moved : (end least lower : ℕ) (r : Stage) → lower ≤ least → Moved least end r → Moved lower end r
 unfolding Moved
@@ -45,3 +46,23 @@ module _ {i : Source} where
   pub refusing : {least : ℕ} {o : Outcome} {q : State} {m : List ℕ} {refusal p : ℕ} → o ≡ stopped refusal p → Ran i least o (Refused refusal p) q m
   unfolding after Moved
   refusing h = record { goes = h; moved = tt }
+
+-- what a stage asks, at the places that come up
+
+module _ {s : List ℕ} {end at n : ℕ} (h : Ready s end at n) where
+  pub ready-inside : Inside s end at
+  ready-inside = record { whole = h .whole; before = h .before }
+
+  -- where a stage went to
+  pub ready-to : {least p k : ℕ} → (least ≤ p) × (p ≤ end) × (k ≤ p) → Ready s end p k
+  ready-to u = record { whole = h .whole; small = h .small; before = u .1; few = u .2 }
+
+  -- behind a code, and behind a code that has a row
+  pub ready-next : at < end → Ready s end (at + 1) n
+  ready-next l = record { whole = h .whole; small = h .small; before = omega arith; few = omega (arith, h .few) }
+
+  pub ready-opened : at < end → Ready s end (at + 1) (n + 1)
+  ready-opened l = record { whole = h .whole; small = h .small; before = omega arith; few = omega (arith, h .few) }
+
+  pub row-fits : (n ≤ headerMost) × (at ≤ headerMost) × (0 ≤ headerMost)
+  row-fits = (omega (arith, h .small, h .before, h .few), omega (arith, h .small, h .before), omega arith)

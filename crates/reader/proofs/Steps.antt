@@ -6,10 +6,10 @@ use mathlib.Core.Path.{_≡_, refl, ap, sym, _∙_}
 use native.Mathlib.Omega.{arith}
 use lib.Dec.{eqb, ltb}
 use lib.ListN.{length}
-use borrow.Author.Tests.{lt-ltb, ltb-true}
+use borrow.Author.Tests.{lt-ltb, ltb-true, ne-eqb}
 use Rattle.meaning.specs.Basics.{pick}
-use Rattle.meaning.specs.Bytes.{takeText}
-use Rattle.meaning.specs.Editions.{State, Next, go, Form, text, opens, isQuiet, Move, noCode, moves, on_▸_▸_▸_, pass_▸_}
+use Rattle.meaning.specs.Bytes.{takeText, takeNumber}
+use Rattle.meaning.specs.Editions.{State, Next, go, text, number, opens, isQuiet, Move, noCode, moves, on_▸_▸_▸_, pass_▸_}
 use Rattle.meaning.specs.Reading.{takeValue, reachBack, none, hit, look, isClosed, strange, tooDeep, Step, fails, next, stepTaken, stepMove, step, onward, inside}
 use Rattle.laws.specs.From.{from, from-length}
 use Rattle.values.specs.Stages.{span}
@@ -131,3 +131,30 @@ module _ (i : Source) (at n : ℕ) (m : List ℕ) where
 
     pub alike-at : (q d : State) → ((t : List ℕ) → step (i .edition) q (b ∷ t) ≡ step (i .edition) d (b ∷ t)) → step (i .edition) q [] ≡ step (i .edition) d [] → runAt i q at n m ≡ runAt i d at n m
     alike-at q d x y = alike q d (rw (a .is) (alike-by q d x y (from (i .bytes) (at + 1) (i .end)) (ltb b 256)))
+
+    -- a look that found the code k
+    module _ (k : ℕ) (h : b ≡ k) (l : k < 256) where
+      pub here : at < i .end
+      here = a .inside (omega arith)
+
+      code-is : from (i .bytes) at (i .end) ≡ k ∷ from (i .bytes) (at + 1) (i .end)
+      code-is = a .is ∙ rw (h, lt-ltb k 256 l)
+
+      pub text-at : (q : State) (kind : ℕ) (g : Next) → look k (moves (i .edition) (q .room)) ≡ hit (on k ▸ kind ▸ text ▸ g) → tooDeep (on k ▸ kind ▸ text ▸ g) q ≡ false
+          → runAt i q at n m ≡ textAt i kind (q .level) (go g q) (at + 1) n m
+      text-at q kind g y d = coded-text k here (a .whole) code-is q k kind g y d (ne-eqb k noCode (λ z. omega arith))
+
+      pub number-at : (q : State) (kind : ℕ) (g : Next) → look k (moves (i .edition) (q .room)) ≡ hit (on k ▸ kind ▸ number ▸ g) → tooDeep (on k ▸ kind ▸ number ▸ g) q ≡ false
+          → runAt i q at n m ≡ landed i 0 kind (q .level) (go g q) (span 0 (takeNumber 0 true (from (i .bytes) (at + 1) (i .end)))) n m
+      unfolding takeValue
+      number-at q kind g y d = coded k here (a .whole) code-is q (on k ▸ kind ▸ number ▸ g) y d (ne-eqb k noCode (λ z. omega arith)) refl
+
+      pub passed-at : (q : State) (g : Next) → look k (moves (i .edition) (q .room)) ≡ hit (pass k ▸ g) → runAt i q at n m ≡ runAt i (go g q) (at + 1) n m
+      passed-at q g y = passed k here (a .whole) code-is q k g y (ne-eqb k noCode (λ z. omega arith))
+
+      pub opened-at : (q : State) (kind : ℕ) (g : Next) → look k (moves (i .edition) (q .room)) ≡ hit (on k ▸ kind ▸ opens ▸ g) → tooDeep (on k ▸ kind ▸ opens ▸ g) q ≡ false
+          → {f : List ℕ} → f ≡ put m n kind (q .level) at 0 → runAt i q at n m ≡ runAt i (go g q) (at + 1) (n + 1) f
+      opened-at q kind g y d w = opened k here (a .whole) code-is q k kind g y d (ne-eqb k noCode (λ z. omega arith)) w
+
+      pub too-deep-at : (q : State) (v : Move) → look k (moves (i .edition) (q .room)) ≡ hit v → tooDeep v q ≡ true → runAt i q at n m ≡ stopped 12 at
+      too-deep-at q v y d = too-deep k here (a .whole) code-is q v y d

@@ -1,21 +1,19 @@
 -- A value's stage, with its row kept: what it promises is what reading comes to.
 use Prim.Native.Nat.{ℕ, _+_, _-_, _≤_, _<_}
 use mathlib.Core.List.{List}
-use mathlib.Core.Bool.{_&&_, false}
 use mathlib.Core.Path.{_≡_, refl, ap, _∙_}
 use native.Mathlib.Omega.{arith}
-use lib.Dec.{eqb, ltb}
 use lib.ListN.{length, getD}
 use Rattle.meaning.specs.Bytes.{Taken}
-use Rattle.meaning.specs.Kinds.{agentName}
-use Rattle.meaning.specs.Editions.{State, Next, Move, Form, go, moves, on_▸_▸_▸_}
-use Rattle.meaning.specs.Reading.{look, hit, takeValue, reachBack, tooDeep, levelMost}
+use Rattle.meaning.specs.Editions.{State, Next, Move, go, moves, on_▸_▸_▸_}
+use Rattle.meaning.specs.Reading.{look, hit, takeValue, reachBack}
 use Rattle.laws.specs.From.{from, from-length, from-cons, from-end}
 use Rattle.values.specs.declared.Value.{Value}
 use Rattle.values.specs.declared.Value.the-variants.{Is, Refused}
 use Rattle.values.specs.Stages.{span, told, Stands, Valued, Bears, Coded, ended, unknown, valued}
 use Rattle.reader.specs.declared.Stage.{Stage}
 use Rattle.reader.specs.Stages.{put, Source, runAt, landed, after, Moved, Ran, Ready, headerMost, goesOn, keeps, Fits, Shaped}
+use Rattle.reader.proofs.Logic.{not-deep}
 use Rattle.reader.proofs.Stages.{begun, arrives, refusing}
 use Rattle.reader.proofs.Steps.{coded, strange-code, at-end}
 
@@ -47,9 +45,6 @@ module _ (i : Source) (at n level : ℕ) (m : List ℕ) (ready : Ready (i .bytes
       let u : i .end - (i .end - p) ≡ p = omega arith in
       record { goes = rw (a .is, u) refl; moved = tt }
 
-  flat-deep : (q : State) (code kind : ℕ) (form : Form) (g : Next) → eqb kind agentName ≡ false → tooDeep (on code ▸ kind ▸ form ▸ g) q ≡ false
-  flat-deep q code kind form g h = rw h refl
-
   -- the value behind a code, in a room of that shape
   pub coded-kept : (refusal : ℕ) (shape : Next → List Move) (q d : State) (v : Value) → Shaped (i .edition) q d level refusal shape → Coded shape refusal (i .bytes) (i .end) at v
       → Ran i at (runAt i q at n m) (goesOn v n) d (keeps v n level m)
@@ -63,6 +58,6 @@ module _ (i : Source) (at n level : ℕ) (m : List ℕ) (ready : Ready (i .bytes
       let taken = takeValue form (i .end - at) code (from (i .bytes) (at + 1) (i .end)) in
       arrives (h .leads)
       (begun (omega arith)
-      (coded i at n m code l (ready .whole) (from-cons (i .bytes) at (i .end) l (ready .whole)) q (on code ▸ kind ▸ form ▸ h .out) hits (flat-deep q code kind form (h .out) (b .flat)) (b .coded) (b .rowed)
+      (coded i at n m code l (ready .whole) (from-cons (i .bytes) at (i .end) l (ready .whole)) q (on code ▸ kind ▸ form ▸ h .out) hits (not-deep q kind (b .flat)) (b .coded) (b .rowed)
       ∙ ap (λ (x : ℕ). landed i (reachBack form) kind x (go (h .out) q) (span 0 taken) n m) (h .deep))
       (value-kept kind (reachBack form) (go (h .out) q) taken v a))

@@ -4,12 +4,12 @@ use Prim.Native.Nat.{ℕ, suc, _+_, _-_, _*_, _≤_, _<_}
 use mathlib.Core.List.{List, [], _∷_}
 use mathlib.Core.Bool.{Bool, true, false}
 use mathlib.Core.Path.{_≡_}
-use lib.Dec.{ltb, leb}
+use lib.Dec.{eqb, ltb, leb}
 use lib.ListN.{length, set}
 use Rattle.meaning.specs.Basics.{pick}
 use Rattle.meaning.specs.Bytes.{takeText, takeNumber}
-use Rattle.meaning.specs.Kinds.{payloadLength, extraKey}
-use Rattle.meaning.specs.Editions.{Edition, B, D, known, labelOf, State, Next, go, Move, text, noCode, closing, moves, on_▸_▸_▸_, pass_▸_}
+use Rattle.meaning.specs.Kinds.{agentName, payloadLength, extraKey}
+use Rattle.meaning.specs.Editions.{Edition, B, D, known, labelOf, parameters, State, state, Next, go, Move, text, noCode, closing, anyValues, moves, on_▸_▸_▸_, pass_▸_}
 use Rattle.meaning.specs.Reading.{Seen, Out, dry, fault, done, inside, step, look, none, hit, isClosed, strange}
 use Rattle.meaning.specs.Memory.{rowWidth}
 use Rattle.laws.specs.From.{from}
@@ -112,6 +112,14 @@ abbrev pub NumberRead : Edition → List ℕ → ℕ → State → ℕ → ℕ �
 NumberRead e s end q at n m r d left =
     Ran (source e s end) (at + 1) (landed (source e s end) 0 payloadLength 0 q (span 0 (takeNumber 0 true (from s at end))) n m) r d left
 
+-- .. behind an opening row at the place `at`
+abbrev pub OpenedRead : Edition → List ℕ → ℕ → ℕ → State → ℕ → ℕ → List ℕ → Stage → State → List ℕ → Type 0
+OpenedRead e s end kind q at n m r d left = Ran (source e s end) (at + 1) (runAt (source e s end) q (at + 1) (n + 1) (put m n kind 0 at 0)) r d left
+
+-- .. a parameter, with one byte at least
+abbrev pub ParameterRead : Edition → List ℕ → ℕ → ℕ → ℕ → List ℕ → Stage → List ℕ → Type 0
+ParameterRead e s end at n m r left = Ran (source e s end) (at + 1) (runAt (source e s end) (state parameters 0 false) at n m) r (state parameters 0 false) left
+
 -- A value, kept as a row
 
 abbrev pub goesOn : Value → ℕ → Stage
@@ -161,6 +169,7 @@ pub record Texts (e : Edition) (q d : State) (kind level : ℕ) : Type 0 where
   pub out : Next
   pub more : (b : ℕ) → (b ≡ 1 → ⊥) → look b (moves e (q .room)) ≡ hit (on noCode ▸ kind ▸ text ▸ again)
   pub stop : look 1 (moves e (q .room)) ≡ hit (pass closing ▸ out)
+  pub flat : eqb kind agentName ≡ false
   pub stays : go again q ≡ q
   pub leads : go out q ≡ d
   pub deep : q .level ≡ level
@@ -170,6 +179,7 @@ pub record Texts (e : Edition) (q d : State) (kind level : ℕ) : Type 0 where
 pub record Optional (e : Edition) (q d : State) (code kind level : ℕ) : Type 0 where
   pub out : Next
   pub has : look code (moves e (q .room)) ≡ hit (on code ▸ kind ▸ text ▸ out)
+  pub flat : eqb kind agentName ≡ false
   pub leads : go out q ≡ d
   pub deep : q .level ≡ level
   pub else : (b : ℕ) → (b ≡ code → ⊥) → (s : List ℕ) → step e q (b ∷ s) ≡ step e d (b ∷ s)
@@ -179,9 +189,10 @@ pub record Optional (e : Edition) (q d : State) (code kind level : ℕ) : Type 0
 pub record Extras (e : Edition) (q any d : State) (code level : ℕ) : Type 0 where
   pub key : Next
   pub out : Next
-  pub more : code ≤ 256 → (code < 256) × (look code (moves e (q .room)) ≡ hit (on code ▸ extraKey ▸ text ▸ key))
+  pub more : code < 256 → look code (moves e (q .room)) ≡ hit (on code ▸ extraKey ▸ text ▸ key)
   pub stop : look 1 (moves e (q .room)) ≡ hit (pass closing ▸ out)
   pub none-else : (b : ℕ) → (b ≡ 1 → ⊥) → (b ≡ code → ⊥) → look b (moves e (q .room)) ≡ none
+  pub any-value : Shaped e any q level 7 anyValues
   pub keyed : go key q ≡ any
   pub leads : go out q ≡ d
   pub deep : q .level ≡ level
@@ -200,3 +211,17 @@ receivedExtraCode D = 0x05
 -- an agent of this level stands in a list: it is not the one of `from`
 abbrev pub InList : ℕ → Bool → Type 0
 InList level single = single ≡ true → level ≡ 1 → ⊥
+
+-- a byte that is no code of a parameter that both editions have
+pub record NoCode (b : ℕ) : Type 0 where
+  pub not-own : b ≡ 0x00 → ⊥
+  pub not-closing : b ≡ 0x01 → ⊥
+  pub not-to : b ≡ 0x02 → ⊥
+  pub not-from : b ≡ 0x03 → ⊥
+  pub not-representation : b ≡ 0x04 → ⊥
+  pub not-comments : b ≡ 0x05 → ⊥
+  pub not-length : b ≡ 0x06 → ⊥
+  pub not-encoding : b ≡ 0x07 → ⊥
+  pub not-receiver : b ≡ 0x09 → ⊥
+  pub not-received : b ≡ 0x0a → ⊥
+  pub not-behaviour : b ≡ 0x0b → ⊥

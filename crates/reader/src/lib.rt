@@ -1,6 +1,11 @@
 // The reader: a header as rows in lent memory, and the payload behind it.
+mod agents;
+mod envelope;
 mod look;
+mod parameters;
+mod received;
 mod rows;
+mod texts;
 
 // "either a value with the place after it, or a refusal": the place and the count of rows, or document 01's number and place.
 pub enum Stage {
