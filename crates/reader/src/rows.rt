@@ -3,14 +3,15 @@ use crate::Stage;
 use values::{Allows, Value};
 
 ghost use mathlib.Core.Path.{_≡_};
-ghost use Prim.Native.Nat.{ℕ, _+_, _≤_};
+ghost use Prim.Native.Nat.{_+_, _/_, _≤_};
 ghost use Rattle.meaning.specs.Bytes.{takeNumber};
 ghost use Rattle.meaning.specs.Kinds.{payloadLength};
 ghost use Rattle.meaning.specs.Editions.{Edition, known, labelOf, State, anyValues, representations};
+ghost use Rattle.meaning.specs.Memory.{rowWidth};
 ghost use Rattle.values.specs.Dates.{datesOf};
 ghost use Rattle.reader.specs.Stages.{put, headerMost, Ready, Known, goesOn, keeps, Fits, Shaped, TextRead, NumberRead, StateRead};
 
-// Row n, where there is room for it. Only this function knows how many numbers a row has.
+// Row n, where there is room for it. Only this function and the next know how many numbers a row has.
 pub fn put_row(rows: &mut [u32], n: usize, kind: u32, level: u32, start: usize, length: usize)
     requires { ⌜ (n ≤ headerMost) × (start ≤ headerMost) × (length ≤ headerMost) ⌝ }
     ensures { λ _. ⌜ now (rows .exit) ≡ put (now (rows .entry)) n kind level start length ⌝ }
@@ -22,6 +23,13 @@ pub fn put_row(rows: &mut [u32], n: usize, kind: u32, level: u32, start: usize, 
         rows[i + 2] = start as u32;
         rows[i + 3] = length as u32;
     }
+}
+
+// "Rows lent: .. a quarter of its length, rounded down, as the room."
+pub fn room(lent: usize) -> usize
+    ensures { λ r. ⌜ r ≡ lent / rowWidth ⌝ }
+{
+    lent / 4
 }
 
 // The row of a value, or its refusal.
