@@ -6,18 +6,20 @@ use mathlib.Core.Path.{_≡_, refl, ap, sym, _∙_}
 use native.Mathlib.Nat.{zero-add}
 use native.Mathlib.Omega.{arith}
 use lib.Dec.{eqb, leb}
-use lib.ListN.{length, set, drop, length-append}
+use lib.ListN.{length, set, take, drop, length-append, length-drop}
+use lib.Seq.{take-all}
 use borrow.Author.Tests.{le-leb, lt-leb, ne-eqb}
 use Rattle.meaning.specs.Basics.{pick}
-use Rattle.meaning.specs.Editions.{Edition, known, unknown, labelOf}
+use Rattle.meaning.specs.Editions.{Edition, B, D, known, labelOf}
 use Rattle.meaning.specs.Headers.{Placed, Answer, refused, accepted, envelopesMost, header, labelled, read}
 use Rattle.meaning.specs.Memory.{numbersOf, tableOf, roomOf, laidOver, readAnswer, readRows}
+use Rattle.meaning.specs.Payload.{payloadStart, payloadEnd, payloadBytes}
 use Rattle.reader.specs.declared.Answer as declared
 use Rattle.reader.specs.declared.Stage.{Stage}
 use Rattle.reader.specs.declared.Stage.the-variants.{Go, Refused}
 use Rattle.reader.specs.Stages.{put, Outcome, filled, stopped, Known}
 use Rattle.reader.specs.Headers.{keepAll, finish, outcome, PlaceFits, HeaderRead}
-use Rattle.reader.specs.Promises.{ReadPromise, Counted, Surveyed}
+use Rattle.reader.specs.Promises.{ReadPromise, PayloadPromise, Counted, Surveyed}
 
 -- Rows laid over the memory
 
@@ -84,6 +86,12 @@ unfolding outcome PlaceFits Surveyed
 surveyed edition k input m left (Go p n) a = surveyed-go edition k input m left p n (header envelopesMost (k .edition) 0 input) (read-known edition (k .edition) input (k .is)) (a .is) (a .fits)
 surveyed edition k input m left (Refused refusal p) a = surveyed-refused edition input m refusal p (header envelopesMost (k .edition) 0 input) (read-known edition (k .edition) input (k .is)) (a .is)
 
+pub known-edition : (edition : ℕ) → 1 ≤ edition → edition ≤ 2 → Known edition
+known-edition zero l h = absurd (omega arith)
+known-edition (suc zero) l h = record { edition = B; is = refl }
+known-edition (suc (suc zero)) l h = record { edition = D; is = refl }
+known-edition (suc (suc (suc n))) l h = absurd (omega arith)
+
 pub unknown-edition : (edition : ℕ) (input : List ℕ) → (edition ≡ 1 → ⊥) → (edition ≡ 2 → ⊥) → Surveyed edition input (Refused 1 0)
 unfolding Surveyed read
 unknown-edition edition input b d = rw (ne-eqb edition 1 b, ne-eqb edition 2 d) refl
@@ -129,3 +137,15 @@ module _ (edition : ℕ) (input m : List ℕ) (place n : ℕ) (a : Counted editi
 pub nothing-lent : (edition : ℕ) (input m : List ℕ) (none : List ℕ) (r : declared.Answer) (left : List ℕ) → length none ≡ 0 → ReadPromise edition input (none ++ m) r left → ReadPromise edition input m r left
 nothing-lent edition input m [] r left h a = a
 nothing-lent edition input m (x ∷ none) r left h a = absurd (omega arith)
+
+-- The payload
+
+pub no-payload : (edition : ℕ) (input : List ℕ) {r : Stage} {refusal p : ℕ} → r ≡ Refused refusal p → Surveyed edition input r → PayloadPromise edition input []
+unfolding Surveyed payloadStart payloadEnd payloadBytes
+no-payload edition input h a = let q = rw h at a in record { bytes = rw q refl; is-part = rw q refl }
+
+pub the-payload : (edition : ℕ) (input : List ℕ) {r : Stage} {p n : ℕ} → r ≡ Go p n → Surveyed edition input r → PayloadPromise edition input (take (length input - p) (drop p input))
+unfolding Surveyed payloadStart payloadEnd payloadBytes
+the-payload edition input {p = p} h a =
+    let q = (rw h at a) .is in
+    record { bytes = rw q (take-all (length input - p) (drop p input) (omega (arith, length-drop p input))); is-part = rw q refl }

@@ -23,7 +23,6 @@ pub record ReadPromise (edition : ℕ) (input before : List ℕ) (answer : decla
 pub record PayloadPromise (edition : ℕ) (input part : List ℕ) : Type 0 where
   pub bytes : part ≡ payloadBytes edition input
   pub is-part : part ≡ take (payloadEnd edition input - payloadStart edition input) (drop (payloadStart edition input) input)
-  pub within : payloadEnd edition input ≤ length input
 
 -- what the first pass found: the header is accepted, with n rows
 pub record Counted (edition : ℕ) (input : List ℕ) (place n : ℕ) : Type 0 where
