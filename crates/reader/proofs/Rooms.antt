@@ -59,8 +59,15 @@ alone v false = refl
 pub address-texts : (e : Edition) (k : ℕ) (o : Bool) → Texts e (state addressTexts k o) (state afterAddresses k o) address k
 unfolding look find moves shared own
 address-texts e k o = record {
-  again = stay addressTexts; out = stay afterAddresses; more = λ b h. look-uncoded e addressTexts (there here) refl b h;
-  stop = refl; flat = refl; stays = refl; leads = refl; deep = refl; ajar = refl;
+  again = stay addressTexts;
+  out = stay afterAddresses;
+  more = λ b h. look-uncoded e addressTexts (there here) refl b h;
+  stop = refl;
+  flat = refl;
+  stays = refl;
+  leads = refl;
+  deep = refl;
+  ajar = refl;
 }
 
 pub agent-any : (e : Edition) (k : ℕ) (o : Bool) → Shaped e (state agentExtra k o) (state afterResolvers k o) k 7 anyValues
@@ -84,8 +91,17 @@ agent-code D q = omega arith
 extras-of-agent : (e : Edition) (k : ℕ) (o : Bool) → Extras e (state afterResolvers k o) (state agentExtra k o) (go agentEnds (state afterResolvers k o)) (agentExtraCode e) k
 unfolding look find moves shared own
 extras-of-agent e k o = record {
-  key = stay agentExtra; out = agentEnds; more = λ _. agent-extra e; stop = refl; none-else = agent-no-extra e;
-  any-value = agent-any e k o; keyed = refl; leads = refl; deep = refl; ajar = refl; odd = refl;
+  key = stay agentExtra;
+  out = agentEnds;
+  more = λ _. agent-extra e;
+  stop = refl;
+  none-else = agent-no-extra e;
+  any-value = agent-any e k o;
+  keyed = refl;
+  leads = refl;
+  deep = refl;
+  ajar = refl;
+  odd = refl;
 }
 
 pub agent-extras : (e : Edition) (k : ℕ) (o : Bool) {code : ℕ} → code ≡ agentExtraCode e → Extras e (state afterResolvers k o) (state agentExtra k o) (go agentEnds (state afterResolvers k o)) code k
@@ -157,7 +173,11 @@ by-look e b = alone (on noCode ▸ receivedBy ▸ text ▸ inner receivedDate) (
 pub from-optional : (e : Edition) → Optional e (state afterDate 1 false) (state afterFrom 1 false) 0x02 receivedFrom 1
 unfolding look find moves shared own
 from-optional e = record {
-  out = stay afterFrom; has = refl; flat = refl; leads = refl; deep = refl;
+  out = stay afterFrom;
+  has = refl;
+  flat = refl;
+  leads = refl;
+  deep = refl;
   else = λ b h s. step-alike e afterDate afterFrom 1 false b s (rw (ne-eqb 2 b (flip h)) refl) refl refl;
   ends = end-alike e afterDate afterFrom 1 false refl;
 }
@@ -165,7 +185,11 @@ from-optional e = record {
 pub id-optional : (e : Edition) → Optional e (state afterFrom 1 false) (state afterId 1 false) 0x03 receivedId 1
 unfolding look find moves shared own
 id-optional e = record {
-  out = stay afterId; has = refl; flat = refl; leads = refl; deep = refl;
+  out = stay afterId;
+  has = refl;
+  flat = refl;
+  leads = refl;
+  deep = refl;
   else = λ b h s. step-alike e afterFrom afterId 1 false b s (rw (ne-eqb 3 b (flip h)) refl) refl refl;
   ends = end-alike e afterFrom afterId 1 false refl;
 }
@@ -173,7 +197,11 @@ id-optional e = record {
 pub via-optional : (e : Edition) → Optional e (state afterId 1 false) (state afterVia 1 false) 0x04 receivedVia 1
 unfolding look find moves shared own
 via-optional e = record {
-  out = stay afterVia; has = refl; flat = refl; leads = refl; deep = refl;
+  out = stay afterVia;
+  has = refl;
+  flat = refl;
+  leads = refl;
+  deep = refl;
   else = λ b h s. step-alike e afterId afterVia 1 false b s (rw (ne-eqb 4 b (flip h)) refl) refl refl;
   ends = end-alike e afterId afterVia 1 false refl;
 }
@@ -199,8 +227,17 @@ received-code D q = omega arith
 extras-of-received : (e : Edition) → Extras e (state afterVia 1 false) (state receivedExtra 1 false) (state parameters 0 false) (receivedExtraCode e) 1
 unfolding look find moves shared own
 extras-of-received e = record {
-  key = stay receivedExtra; out = outer parameters; more = received-extra e; stop = refl; none-else = received-no-extra e;
-  any-value = received-any e; keyed = refl; leads = refl; deep = refl; ajar = refl; odd = refl;
+  key = stay receivedExtra;
+  out = outer parameters;
+  more = received-extra e;
+  stop = refl;
+  none-else = received-no-extra e;
+  any-value = received-any e;
+  keyed = refl;
+  leads = refl;
+  deep = refl;
+  ajar = refl;
+  odd = refl;
 }
 
 pub received-extras : (e : Edition) {code : ℕ} → code ≡ receivedExtraCode e → Extras e (state afterVia 1 false) (state receivedExtra 1 false) (state parameters 0 false) code 1
@@ -219,8 +256,15 @@ behaviour-any e = record { out = outer parameters; has = refl; leads = refl; dee
 pub encrypted-texts : (e : Edition) → Texts e (state encryptedTexts 0 false) (state parameters 0 false) encryptedItem 0
 unfolding look find moves shared own
 encrypted-texts e = record {
-  again = outer encryptedTexts; out = outer parameters; more = λ b h. look-uncoded e encryptedTexts (there here) refl b h;
-  stop = refl; flat = refl; stays = refl; leads = refl; deep = refl; ajar = refl;
+  again = outer encryptedTexts;
+  out = outer parameters;
+  more = λ b h. look-uncoded e encryptedTexts (there here) refl b h;
+  stop = refl;
+  flat = refl;
+  stays = refl;
+  leads = refl;
+  deep = refl;
+  ajar = refl;
 }
 
 pub encrypted-look : look 0x08 (moves B parameters) ≡ hit (on 0x08 ▸ encryptedOpens ▸ opens ▸ outer encryptedTexts)

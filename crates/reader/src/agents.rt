@@ -1,10 +1,10 @@
 // "Agent: 02, name text, optionally 02 and addresses (texts, then 01), optionally 03 and resolvers (an agent list), extras, 01."
 use crate::Stage;
-use crate::look::{fault, peek};
+use crate::look::fault;
+use crate::look::peek;
 use crate::rows;
 use crate::texts;
 use values::Allows;
-
 ghost use mathlib.Core.Path.{_≡_};
 ghost use mathlib.Core.Bool.{Bool, true, false};
 ghost use Prim.Native.Nat.{_-_, _≤_};
@@ -21,7 +21,15 @@ fn extra_code(allows: Allows) -> u32
 }
 
 // An agent's extras and its 01.
-fn behind_resolvers(s: &[u8], end: usize, at: usize, rows: &mut [u32], n: usize, level: u32, allows: Allows) -> Stage
+fn behind_resolvers(
+    s: &[u8],
+    end: usize,
+    at: usize,
+    rows: &mut [u32],
+    n: usize,
+    level: u32,
+    allows: Allows,
+) -> Stage
     requires { ⌜ (Ready (now s) end at n) × (Known (allows .edition)) ⌝ }
     ensures { λ r. ⌜ ((e : Edition) → labelOf (allows .edition) ≡ known e → (single : Bool) →
         StateRead e (now (s .entry)) end (state afterResolvers level single) at n (now (rows .entry)) r (go agentEnds (state afterResolvers level single)) (now (rows .exit))) ⌝ }
@@ -30,7 +38,14 @@ fn behind_resolvers(s: &[u8], end: usize, at: usize, rows: &mut [u32], n: usize,
 }
 
 // After an agent's 02: its name, and its addresses where it has them.
-fn name_and_addresses(s: &[u8], end: usize, at: usize, rows: &mut [u32], n: usize, level: u32) -> Stage
+fn name_and_addresses(
+    s: &[u8],
+    end: usize,
+    at: usize,
+    rows: &mut [u32],
+    n: usize,
+    level: u32,
+) -> Stage
     requires { ⌜ Ready (now s) end at n ⌝ }
     ensures { λ r. ⌜ ((e : Edition) (single : Bool) →
         TextRead e (now (s .entry)) end agentName level (state afterName level single) at n (now (rows .entry)) r (state afterAddresses level single) (now (rows .exit))) ⌝ }
@@ -49,7 +64,15 @@ fn name_and_addresses(s: &[u8], end: usize, at: usize, rows: &mut [u32], n: usiz
 }
 
 // After an agent's 02, up to its 01. There are `left` levels from this one on.
-fn read_agent(s: &[u8], end: usize, at: usize, rows: &mut [u32], n: usize, left: u32, allows: Allows) -> Stage
+fn read_agent(
+    s: &[u8],
+    end: usize,
+    at: usize,
+    rows: &mut [u32],
+    n: usize,
+    left: u32,
+    allows: Allows,
+) -> Stage
     requires { ⌜ (Ready (now s) end at n) × (Known (allows .edition)) × (1 ≤ left) × (left ≤ 8) ⌝ }
     ensures { λ r. ⌜ ((e : Edition) → labelOf (allows .edition) ≡ known e → (single : Bool) →
         TextRead e (now (s .entry)) end agentName (9 - left) (state afterName (9 - left) single) at n (now (rows .entry)) r (go agentEnds (state afterResolvers (9 - left) single)) (now (rows .exit))) ⌝ }
@@ -73,7 +96,15 @@ fn read_agent(s: &[u8], end: usize, at: usize, rows: &mut [u32], n: usize, left:
 }
 
 // "Agent list: agents, then 01." There are `left` levels from this one on; "12: agent of level 9, its 02".
-pub fn read_list(s: &[u8], end: usize, at: usize, rows: &mut [u32], n: usize, left: u32, allows: Allows) -> Stage
+pub fn read_list(
+    s: &[u8],
+    end: usize,
+    at: usize,
+    rows: &mut [u32],
+    n: usize,
+    left: u32,
+    allows: Allows,
+) -> Stage
     requires { ⌜ (Ready (now s) end at n) × (Known (allows .edition)) × (left ≤ 8) ⌝ }
     ensures { λ r. ⌜ ((e : Edition) → labelOf (allows .edition) ≡ known e → (single : Bool) → InList (9 - left) single →
         StateRead e (now (s .entry)) end (state agentList (9 - left) single) at n (now (rows .entry)) r (go listEnds (state agentList (9 - left) single)) (now (rows .exit))) ⌝ }
@@ -103,7 +134,14 @@ pub fn read_list(s: &[u8], end: usize, at: usize, rows: &mut [u32], n: usize, le
 }
 
 // The one agent of `from`, from its 02 on.
-pub fn read_one(s: &[u8], end: usize, at: usize, rows: &mut [u32], n: usize, allows: Allows) -> Stage
+pub fn read_one(
+    s: &[u8],
+    end: usize,
+    at: usize,
+    rows: &mut [u32],
+    n: usize,
+    allows: Allows,
+) -> Stage
     requires { ⌜ (Ready (now s) end at n) × (Known (allows .edition)) ⌝ }
     ensures { λ r. ⌜ ((e : Edition) → labelOf (allows .edition) ≡ known e →
         StateRead e (now (s .entry)) end (state oneAgent 1 true) at n (now (rows .entry)) r (state parameters 0 false) (now (rows .exit))) ⌝ }

@@ -1,11 +1,11 @@
 // "Extension: FD, length, received object, parameters, 01. Base: FE, length, representation, date, parameters, 01."
 use crate::Stage;
-use crate::frame::{Frame, frame_at};
+use crate::frame::Frame;
+use crate::frame::frame_at;
 use crate::parameters::read_parameters;
 use crate::received::read_received;
 use crate::rows;
 use values::Allows;
-
 ghost use mathlib.Core.Path.{_≡_};
 ghost use mathlib.Core.Bool.{true, false};
 ghost use Rattle.meaning.specs.Editions.{Edition, known, labelOf, state, parameters, closed};
@@ -23,20 +23,39 @@ pub enum Envelope {
 }
 
 // The envelope at a place, of which `left` may still come.
-pub fn read_envelope(s: &[u8], at: usize, left: u32, rows: &mut [u32], n: usize, allows: Allows) -> Envelope
+pub fn read_envelope(
+    s: &[u8],
+    at: usize,
+    left: u32,
+    rows: &mut [u32],
+    n: usize,
+    allows: Allows,
+) -> Envelope
     requires { ⌜ (at ≤ length (now s)) × (n ≤ at) × (at + left * envelopeMost ≤ headerMost) × (Known (allows .edition)) ⌝ }
     ensures { λ r. ⌜ ((e : Edition) → labelOf (allows .edition) ≡ known e →
         EnvelopeRead e (now (s .entry)) left at n (now (rows .entry)) r (now (rows .exit))) ⌝ }
 {
     let f = frame_at(s, at, left);
     match f {
-        Frame::Refused { refusal, at: place } => Envelope::Refused { refusal: refusal, at: place },
+        Frame::Refused { refusal, at: place } => Envelope::Refused {
+            refusal: refusal,
+            at: place,
+        },
         Frame::Opens { base, first, end } => read_opened(s, at, first, end, rows, n, base, allows),
     }
 }
 
 // An envelope's own row and its inside.
-fn read_opened(s: &[u8], at: usize, first: usize, end: usize, rows: &mut [u32], n: usize, base: bool, allows: Allows) -> Envelope
+fn read_opened(
+    s: &[u8],
+    at: usize,
+    first: usize,
+    end: usize,
+    rows: &mut [u32],
+    n: usize,
+    base: bool,
+    allows: Allows,
+) -> Envelope
     requires { ⌜ (at < first) × (Ready (now s) end first n) × (n ≤ at) × (Known (allows .edition)) ⌝ }
     ensures { λ r. ⌜ ((e : Edition) → labelOf (allows .edition) ≡ known e →
         EnvelopeOpened e (now (s .entry)) at first end base n (now (rows .entry)) r (now (rows .exit))) ⌝ }
@@ -58,7 +77,10 @@ fn ended(r: Stage, end: usize, base: bool) -> Envelope
     ensures { λ answer. ⌜ answer ≡ endedBy base end r ⌝ }
 {
     match r {
-        Stage::Refused { refusal, at } => Envelope::Refused { refusal: refusal, at: at },
+        Stage::Refused { refusal, at } => Envelope::Refused {
+            refusal: refusal,
+            at: at,
+        },
         Stage::Go { at, rows } => closed(at, rows, end, base),
     }
 }
@@ -67,7 +89,10 @@ fn closed(at: usize, rows: usize, end: usize, base: bool) -> Envelope
     ensures { λ answer. ⌜ answer ≡ closedBy base end at rows ⌝ }
 {
     if at != end {
-        return Envelope::Refused { refusal: 13, at: at };
+        return Envelope::Refused {
+            refusal: 13,
+            at: at,
+        };
     }
     if base {
         return Envelope::Base { at: at, rows: rows };
@@ -76,7 +101,15 @@ fn closed(at: usize, rows: usize, end: usize, base: bool) -> Envelope
 }
 
 // The inside of an envelope, behind its length.
-fn read_inside(s: &[u8], end: usize, at: usize, rows: &mut [u32], n: usize, base: bool, allows: Allows) -> Stage
+fn read_inside(
+    s: &[u8],
+    end: usize,
+    at: usize,
+    rows: &mut [u32],
+    n: usize,
+    base: bool,
+    allows: Allows,
+) -> Stage
     requires { ⌜ (Ready (now s) end at n) × (Known (allows .edition)) ⌝ }
     ensures { λ r. ⌜ ((e : Edition) → labelOf (allows .edition) ≡ known e →
         StateRead e (now (s .entry)) end (start base) at n (now (rows .entry)) r (state closed 0 false) (now (rows .exit))) ⌝ }
@@ -89,7 +122,15 @@ fn read_inside(s: &[u8], end: usize, at: usize, rows: &mut [u32], n: usize, base
 }
 
 // What stands before an envelope's parameters.
-fn read_front(s: &[u8], end: usize, at: usize, rows: &mut [u32], n: usize, base: bool, allows: Allows) -> Stage
+fn read_front(
+    s: &[u8],
+    end: usize,
+    at: usize,
+    rows: &mut [u32],
+    n: usize,
+    base: bool,
+    allows: Allows,
+) -> Stage
     requires { ⌜ (Ready (now s) end at n) × (Known (allows .edition)) ⌝ }
     ensures { λ r. ⌜ ((e : Edition) → labelOf (allows .edition) ≡ known e →
         StateRead e (now (s .entry)) end (start base) at n (now (rows .entry)) r (state parameters 0 false) (now (rows .exit))) ⌝ }

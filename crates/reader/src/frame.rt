@@ -10,8 +10,15 @@ ghost use Rattle.reader.specs.Headers.{Identified, FrameRead, HeaderFram
 
 // Which envelope opens, where its inside begins and its declared end; or the refusal.
 pub enum Frame {
-    Opens { base: bool, first: usize, end: usize },
-    Refused { refusal: u32, at: usize },
+    Opens {
+        base: bool,
+        first: usize,
+        end: usize,
+    },
+    Refused {
+        refusal: u32,
+        at: usize,
+    },
 }
 
 // "Envelope at most 1,048,576 bytes."
@@ -19,6 +26,7 @@ const MOST: usize = 1048576;
 
 // "4: short length 1 or 2, or long length below 65,540".
 const SHORT_LEAST: usize = 3;
+
 const LONG_LEAST: usize = 65540;
 
 // The envelope at a place, of which `left` may still come. "3: identifier not FD or FE, that byte."
@@ -58,14 +66,20 @@ fn measured(s: &[u8], at: usize, base: bool) -> Frame
 {
     let all = s.len();
     if all - at < 3 {
-        return Frame::Refused { refusal: 2, at: all };
+        return Frame::Refused {
+            refusal: 2,
+            at: all,
+        };
     }
     let n = two_bytes(s, at + 1);
     if n != 0 {
         return bounded(s, at, base, 3, n, SHORT_LEAST);
     }
     if all - at < 7 {
-        return Frame::Refused { refusal: 2, at: all };
+        return Frame::Refused {
+            refusal: 2,
+            at: all,
+        };
     }
     let m = four_bytes(s, at + 3);
     bounded(s, at, base, 7, m, LONG_LEAST)
@@ -80,16 +94,29 @@ fn bounded(s: &[u8], at: usize, base: bool, head: usize, n: usize, least: usize)
     let first = at + head;
     let size = at + 1;
     if n < least {
-        return Frame::Refused { refusal: 4, at: size };
+        return Frame::Refused {
+            refusal: 4,
+            at: size,
+        };
     }
     if MOST < n {
-        return Frame::Refused { refusal: 5, at: size };
+        return Frame::Refused {
+            refusal: 5,
+            at: size,
+        };
     }
     if all - at < n {
-        return Frame::Refused { refusal: 2, at: all };
+        return Frame::Refused {
+            refusal: 2,
+            at: all,
+        };
     }
     let end = at + n;
-    Frame::Opens { base: base, first: first, end: end }
+    Frame::Opens {
+        base: base,
+        first: first,
+        end: end,
+    }
 }
 
 fn two_bytes(s: &[u8], at: usize) -> usize

@@ -1,8 +1,8 @@
 // "A header is zero or more extension envelopes, then one base envelope."
 use crate::Stage;
-use crate::envelope::{Envelope, read_envelope};
+use crate::envelope::Envelope;
+use crate::envelope::read_envelope;
 use values::Allows;
-
 ghost use mathlib.Core.Path.{_≡_};
 ghost use Rattle.meaning.specs.Editions.{Edition, known, labelOf};
 ghost use Rattle.reader.specs.Stages.{Known};
@@ -19,7 +19,10 @@ pub fn read_header(s: &[u8], rows: &mut [u32], allows: Allows) -> Stage
     loop {
         let r = read_envelope(s, at, left, rows, n, allows);
         match r {
-            Envelope::Refused { refusal, at: place } => return Stage::Refused { refusal: refusal, at: place },
+            Envelope::Refused { refusal, at: place } => return Stage::Refused {
+                refusal: refusal,
+                at: place,
+            },
             Envelope::Base { at: p, rows: m } => return Stage::Go { at: p, rows: m },
             Envelope::Extension { at: p, rows: m } => {
                 at = p;

@@ -11,7 +11,6 @@ mod texts;
 
 use crate::header::read_header;
 use values::Allows;
-
 ghost use Rattle.reader.specs.Promises.{ReadPromise, PayloadPromise, Counted, Surveyed};
 
 // "either a value with the place after it, or a refusal": the place and the count of rows, or document 01's number and place.
@@ -34,7 +33,11 @@ pub fn read(edition: u32, input: &[u8], rows: &mut [u32]) -> Answer
 {
     let counted = survey(edition, input, &mut rows[..0]);
     match counted {
-        Stage::Refused { refusal, at } => Answer { answer: refusal, place: at, rows: 0 },
+        Stage::Refused { refusal, at } => Answer {
+            answer: refusal,
+            place: at,
+            rows: 0,
+        },
         Stage::Go { at, rows: n } => fill(edition, input, rows, at, n),
     }
 }
@@ -59,11 +62,19 @@ fn fill(edition: u32, input: &[u8], rows: &mut [u32], place: usize, n: usize) ->
     ensures { λ r. ⌜ ReadPromise edition (now (input .entry)) (now (rows .entry)) r (now (rows .exit)) ⌝ }
 {
     if rows::room(rows.len()) < n {
-        return Answer { answer: 14, place: place, rows: n };
+        return Answer {
+            answer: 14,
+            place: place,
+            rows: n,
+        };
     }
     let allows = Allows { edition: edition };
     read_header(input, rows, allows);
-    Answer { answer: 0, place: place, rows: n }
+    Answer {
+        answer: 0,
+        place: place,
+        rows: n,
+    }
 }
 
 // "The payload is handed back as a part of the caller's own input .. on any other refusal it is the empty part at the front."

@@ -1,6 +1,5 @@
 // The byte at a place, and the refusal where no code stands that is allowed.
 use crate::Stage;
-
 ghost use mathlib.Core.Path.{_≡_};
 ghost use Rattle.values.specs.Stages.{Inside};
 ghost use Rattle.reader.specs.Stages.{Peeked, faultOf};

@@ -1,12 +1,13 @@
 // "Parameters, any order, repeats allowed", up to the envelope's 01.
 use crate::Stage;
-use crate::agents::{read_list, read_one};
-use crate::look::{fault, peek};
+use crate::agents::read_list;
+use crate::agents::read_one;
+use crate::look::fault;
+use crate::look::peek;
 use crate::received::read_received;
 use crate::rows;
 use crate::texts;
 use values::Allows;
-
 ghost use mathlib.Core.Path.{_≡_};
 ghost use mathlib.Core.Bool.{true, false};
 ghost use Prim.Native.Nat.{_+_, _<_};
@@ -27,7 +28,15 @@ fn own(s: &[u8], end: usize, at: usize, rows: &mut [u32], n: usize) -> Stage
 }
 
 // "02 `to`, agent list"; "09 intended receiver, agent list", from the code on.
-fn open_list(s: &[u8], end: usize, at: usize, rows: &mut [u32], n: usize, kind: u32, allows: Allows) -> Stage
+fn open_list(
+    s: &[u8],
+    end: usize,
+    at: usize,
+    rows: &mut [u32],
+    n: usize,
+    kind: u32,
+    allows: Allows,
+) -> Stage
     requires { ⌜ (Ready (now s) end at n) × (Known (allows .edition)) × (at < end) ⌝ }
     ensures { λ r. ⌜ ((e : Edition) → labelOf (allows .edition) ≡ known e →
         OpenedRead e (now (s .entry)) end kind (state agentList 1 false) at n (now (rows .entry)) r (state parameters 0 false) (now (rows .exit))) ⌝ }
@@ -73,7 +82,15 @@ fn open_encrypted(s: &[u8], end: usize, at: usize, rows: &mut [u32], n: usize) -
 }
 
 // "08 encrypted .. (B only)", and the refusal of any other code.
-fn read_own(s: &[u8], end: usize, at: usize, rows: &mut [u32], n: usize, b: u32, allows: Allows) -> Stage
+fn read_own(
+    s: &[u8],
+    end: usize,
+    at: usize,
+    rows: &mut [u32],
+    n: usize,
+    b: u32,
+    allows: Allows,
+) -> Stage
     requires { ⌜ (Ready (now s) end at n) × (Peeked (now s) end at b) × (NoCode b) ⌝ }
     ensures { λ r. ⌜ ((e : Edition) → labelOf (allows .edition) ≡ known e →
         ParameterRead e (now (s .entry)) end at n (now (rows .entry)) r (now (rows .exit))) ⌝ }
@@ -89,7 +106,15 @@ fn read_own(s: &[u8], end: usize, at: usize, rows: &mut [u32], n: usize, b: u32,
 }
 
 // One parameter, from its code b on.
-fn read_parameter(s: &[u8], end: usize, at: usize, rows: &mut [u32], n: usize, b: u32, allows: Allows) -> Stage
+fn read_parameter(
+    s: &[u8],
+    end: usize,
+    at: usize,
+    rows: &mut [u32],
+    n: usize,
+    b: u32,
+    allows: Allows,
+) -> Stage
     requires { ⌜ (Ready (now s) end at n) × (Known (allows .edition)) × (Peeked (now s) end at b) × (b ≡ 1 → ⊥) ⌝ }
     ensures { λ r. ⌜ ((e : Edition) → labelOf (allows .edition) ≡ known e →
         ParameterRead e (now (s .entry)) end at n (now (rows .entry)) r (now (rows .exit))) ⌝ }
@@ -110,7 +135,14 @@ fn read_parameter(s: &[u8], end: usize, at: usize, rows: &mut [u32], n: usize, b
 }
 
 // Parameters up to the envelope's 01.
-pub fn read_parameters(s: &[u8], end: usize, at: usize, rows: &mut [u32], n: usize, allows: Allows) -> Stage
+pub fn read_parameters(
+    s: &[u8],
+    end: usize,
+    at: usize,
+    rows: &mut [u32],
+    n: usize,
+    allows: Allows,
+) -> Stage
     requires { ⌜ (Ready (now s) end at n) × (Known (allows .edition)) ⌝ }
     ensures { λ r. ⌜ ((e : Edition) → labelOf (allows .edition) ≡ known e →
         StateRead e (now (s .entry)) end (state parameters 0 false) at n (now (rows .entry)) r (state closed 0 false) (now (rows .exit))) ⌝ }

@@ -1,7 +1,7 @@
 // Values and their rows: "A row is four u32 numbers: kind, level, start, length."
 use crate::Stage;
-use values::{Allows, Value};
-
+use values::Allows;
+use values::Value;
 ghost use mathlib.Core.Path.{_≡_};
 ghost use Prim.Native.Nat.{_+_, _/_, _≤_};
 ghost use Rattle.meaning.specs.Bytes.{takeNumber};
@@ -38,17 +38,36 @@ fn keep(value: Value, rows: &mut [u32], n: usize, level: u32) -> Stage
     ensures { λ r. ⌜ (r ≡ goesOn value n) × (now (rows .exit) ≡ keeps value n level (now (rows .entry))) ⌝ }
 {
     match value {
-        Value::Refused { refusal, at } => Stage::Refused { refusal: refusal, at: at },
-        Value::Is { kind, start, length, after } => {
+        Value::Refused { refusal, at } => Stage::Refused {
+            refusal: refusal,
+            at: at,
+        },
+        Value::Is {
+            kind,
+            start,
+            length,
+            after,
+        } => {
             put_row(rows, n, kind, level, start, length);
             let next = n + 1;
-            Stage::Go { at: after, rows: next }
+            Stage::Go {
+                at: after,
+                rows: next,
+            }
         }
     }
 }
 
 // A text.
-pub fn text(s: &[u8], end: usize, at: usize, rows: &mut [u32], n: usize, kind: u32, level: u32) -> Stage
+pub fn text(
+    s: &[u8],
+    end: usize,
+    at: usize,
+    rows: &mut [u32],
+    n: usize,
+    kind: u32,
+    level: u32,
+) -> Stage
     requires { ⌜ Ready (now s) end at n ⌝ }
     ensures { λ r. ⌜ ((e : Edition) (q : State) → TextRead e (now (s .entry)) end kind level q at n (now (rows .entry)) r q (now (rows .exit))) ⌝ }
 {
@@ -84,7 +103,15 @@ pub fn representation(s: &[u8], end: usize, at: usize, rows: &mut [u32], n: usiz
 }
 
 // A date.
-pub fn date(s: &[u8], end: usize, at: usize, rows: &mut [u32], n: usize, level: u32, allows: Allows) -> Stage
+pub fn date(
+    s: &[u8],
+    end: usize,
+    at: usize,
+    rows: &mut [u32],
+    n: usize,
+    level: u32,
+    allows: Allows,
+) -> Stage
     requires { ⌜ (Ready (now s) end at n) × (Known (allows .edition)) ⌝ }
     ensures { λ r. ⌜ ((e : Edition) → labelOf (allows .edition) ≡ known e → (q d : State) → Shaped e q d level 9 (datesOf e) →
         StateRead e (now (s .entry)) end q at n (now (rows .entry)) r d (now (rows .exit))) ⌝ }

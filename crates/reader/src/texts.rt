@@ -1,8 +1,8 @@
 // Runs of rows of one shape: texts up to their 01, a text that may be left out, extras up to their 01.
 use crate::Stage;
-use crate::look::{fault, peek};
+use crate::look::fault;
+use crate::look::peek;
 use crate::rows;
-
 ghost use mathlib.Core.Path.{_≡_};
 ghost use Prim.Native.Nat.{_<_};
 ghost use Rattle.meaning.specs.Kinds.{extraKey};
@@ -10,7 +10,15 @@ ghost use Rattle.meaning.specs.Editions.{Edition, State, anyValues};
 ghost use Rattle.reader.specs.Stages.{Ready, StateRead, TextRead, Texts, Optional, Extras, Shaped};
 
 // "In a list of texts, 01 where an item would begin ends the list."
-pub fn texts(s: &[u8], end: usize, at: usize, rows: &mut [u32], n: usize, kind: u32, level: u32) -> Stage
+pub fn texts(
+    s: &[u8],
+    end: usize,
+    at: usize,
+    rows: &mut [u32],
+    n: usize,
+    kind: u32,
+    level: u32,
+) -> Stage
     requires { ⌜ Ready (now s) end at n ⌝ }
     ensures { λ r. ⌜ ((e : Edition) (q d : State) → Texts e q d kind level → StateRead e (now (s .entry)) end q at n (now (rows .entry)) r d (now (rows .exit))) ⌝ }
 {
@@ -31,7 +39,16 @@ pub fn texts(s: &[u8], end: usize, at: usize, rows: &mut [u32], n: usize, kind: 
 }
 
 // A text that may be left out, from its code on.
-pub fn optional(s: &[u8], end: usize, at: usize, rows: &mut [u32], n: usize, code: u32, kind: u32, level: u32) -> Stage
+pub fn optional(
+    s: &[u8],
+    end: usize,
+    at: usize,
+    rows: &mut [u32],
+    n: usize,
+    code: u32,
+    kind: u32,
+    level: u32,
+) -> Stage
     requires { ⌜ (Ready (now s) end at n) × (code < 256) ⌝ }
     ensures { λ r. ⌜ ((e : Edition) (q d : State) → Optional e q d code kind level → StateRead e (now (s .entry)) end q at n (now (rows .entry)) r d (now (rows .exit))) ⌝ }
 {
@@ -55,7 +72,15 @@ fn extra(s: &[u8], end: usize, at: usize, rows: &mut [u32], n: usize, level: u32
 }
 
 // Extras with this code, up to the 01 behind them. A code above 256 is no byte: there are no extras.
-pub fn extras(s: &[u8], end: usize, at: usize, rows: &mut [u32], n: usize, code: u32, level: u32) -> Stage
+pub fn extras(
+    s: &[u8],
+    end: usize,
+    at: usize,
+    rows: &mut [u32],
+    n: usize,
+    code: u32,
+    level: u32,
+) -> Stage
     requires { ⌜ (Ready (now s) end at n) × (code ≡ 256 → ⊥) ⌝ }
     ensures { λ r. ⌜ ((e : Edition) (q any d : State) → Extras e q any d code level → StateRead e (now (s .entry)) end q at n (now (rows .entry)) r d (now (rows .exit))) ⌝ }
 {

@@ -66,7 +66,7 @@ agent-calls t = (
   put-row-reads.Learnt,
   read-list-below t,
   read-list.Post,
-  )
+)
 
 abbrev list-calls : ℕ → read-list-lts.Claims
 list-calls t = (
@@ -76,7 +76,7 @@ list-calls t = (
   fault-reads.Learnt,
   read-agent-below t,
   read-agent.Post,
-  )
+)
 
 module _ (t : ℕ) where
   abbrev After-names : Type 0
@@ -97,8 +97,8 @@ module _ (t : ℕ) where
   -- the list of resolvers, a level down
   resolved : (c : After-resolvers) (e : Edition) → labelOf (c .before .before .before .before .before .before .before .before .before .before .before .before .before .before .before .before .before .args .allows .edition) ≡ known e → (single : Bool)
       → Ran (source e (c .before .before .before .before .before .before .before .before .before .before .before .before .before .before .before .before .before .args .s .now) (c .before .before .before .before .before .before .before .before .before .before .before .before .before .before .before .before .before .args .end)) (c .before .before .before .before .before .before .before .before .before .r .given .0 .0 + 1)
-        (textAt (source e (c .before .before .before .before .before .before .before .before .before .before .before .before .before .before .before .before .before .args .s .now) (c .before .before .before .before .before .before .before .before .before .before .before .before .before .before .before .before .before .args .end)) agentName (9 - c .before .before .before .before .before .before .before .before .before .before .before .before .before .before .before .before .before .args .left) (state afterName (9 - c .before .before .before .before .before .before .before .before .before .before .before .before .before .before .before .before .before .args .left) single) (c .before .before .before .before .before .before .before .before .before .before .before .before .before .before .before .before .before .args .at) (c .before .before .before .before .before .before .before .before .before .before .before .before .before .before .before .before .before .args .n) (c .before .before .before .before .before .before .before .before .before .before .before .before .before .before .before .before .before .args .rows .now))
-        (c .read-list .result) (state afterResolvers (9 - c .before .before .before .before .before .before .before .before .before .before .before .before .before .before .before .before .before .args .left) single) (c .read-list .last .1 .1 .1 .0)
+      (textAt (source e (c .before .before .before .before .before .before .before .before .before .before .before .before .before .before .before .before .before .args .s .now) (c .before .before .before .before .before .before .before .before .before .before .before .before .before .before .before .before .before .args .end)) agentName (9 - c .before .before .before .before .before .before .before .before .before .before .before .before .before .before .before .before .before .args .left) (state afterName (9 - c .before .before .before .before .before .before .before .before .before .before .before .before .before .before .before .before .before .args .left) single) (c .before .before .before .before .before .before .before .before .before .before .before .before .before .before .before .before .before .args .at) (c .before .before .before .before .before .before .before .before .before .before .before .before .before .before .before .before .before .args .n) (c .before .before .before .before .before .before .before .before .before .before .before .before .before .before .before .before .before .args .rows .now))
+      (c .read-list .result) (state afterResolvers (9 - c .before .before .before .before .before .before .before .before .before .before .before .before .before .before .before .before .before .args .left) single) (c .read-list .last .1 .1 .1 .0)
   resolved c e is single =
       let p = c .before .before .before .before .before .before .before .peek in
       let a = c .before .before .before .before .before .before .before .before .before .before .before .before .before .before .before .before .before .args in
@@ -149,7 +149,7 @@ read-agent-returns-2 t c e is single =
     begun (u .0)
     (named t (c .before .before .before .before .before .before .before) e single
     ∙ alike-at (source e (a .s .now) (a .end)) (c .before .before .before .before .before .before .before .r .given .0 .0) (c .before .before .before .before .before .before .before .r .given .0 .1 .0) (c .before .before .before .before .before .before .before .before .before .before .before .name-and-addresses .last .1 .1 .1 .0) (p .result) (p .ensures) (state afterAddresses (9 - a .left) single) (state afterResolvers (9 - a .left) single)
-      (λ s. step-alike e afterAddresses afterResolvers (9 - a .left) single (p .result) s (addresses-else e (p .result) (c .before .before .before .before .if1 .taken)) refl refl) (end-alike e afterAddresses afterResolvers (9 - a .left) single refl))
+    (λ s. step-alike e afterAddresses afterResolvers (9 - a .left) single (p .result) s (addresses-else e (p .result) (c .before .before .before .before .if1 .taken)) refl refl) (end-alike e afterAddresses afterResolvers (9 - a .left) single refl))
     (c .before .before .behind-resolvers .ensures e is single)
 
 read-agent-put-row-requires : (t : ℕ) → read-agent-lts.Need-put-row-requires (agent-calls t) (read-agent-at t) read-agent.Post
@@ -213,8 +213,8 @@ module _ (t : ℕ) where
   -- one more agent
   once-more : (c : After-agent) (e : Edition) → labelOf (c .before .before .before .before .before .before .before .before .before .args .allows .edition) ≡ known e → (single : Bool) → InList (9 - c .before .before .before .before .before .before .before .before .before .args .left) single
       → Ran (source e (c .before .before .before .before .before .before .before .before .before .args .s .now) (c .before .before .before .before .before .before .before .before .before .args .end)) (c .before .before .before .before .before .before .loop .i + 1)
-        (runAt (source e (c .before .before .before .before .before .before .before .before .before .args .s .now) (c .before .before .before .before .before .before .before .before .before .args .end)) (state agentList (9 - c .before .before .before .before .before .before .before .before .before .args .left) single) (c .before .before .before .before .before .before .before .before .before .args .at) (c .before .before .before .before .before .before .before .before .before .args .n) (c .before .before .before .before .before .before .before .before .before .args .rows .now))
-        (c .read-agent .result) (state agentList (9 - c .before .before .before .before .before .before .before .before .before .args .left) single) (c .read-agent .last .1 .1 .1 .0)
+      (runAt (source e (c .before .before .before .before .before .before .before .before .before .args .s .now) (c .before .before .before .before .before .before .before .before .before .args .end)) (state agentList (9 - c .before .before .before .before .before .before .before .before .before .args .left) single) (c .before .before .before .before .before .before .before .before .before .args .at) (c .before .before .before .before .before .before .before .before .before .args .n) (c .before .before .before .before .before .before .before .before .before .args .rows .now))
+      (c .read-agent .result) (state agentList (9 - c .before .before .before .before .before .before .before .before .before .args .left) single) (c .read-agent .last .1 .1 .1 .0)
   once-more c e is single h =
       let p = c .before .before .before .before .before .peek in
       let l = c .before .before .before .before .before .before .loop in

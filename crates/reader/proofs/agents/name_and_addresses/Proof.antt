@@ -45,7 +45,7 @@ returns-2 c e single =
     going
     (went (c .before .before .before .r .given .1) (c .before .before .before .before .before .before .before .text .ensures e (state afterName (a .level) single))
     ∙ alike-at (source e (a .s .now) (a .end)) (c .before .before .before .r .given .0 .0) (c .before .before .before .r .given .0 .1 .0) (c .before .before .before .before .before .before .before .text .last .1 .1 .1 .0) (p .result) (p .ensures) (state afterName (a .level) single) (state afterAddresses (a .level) single)
-      (λ s. step-alike e afterName afterAddresses (a .level) single (p .result) s (name-else e (p .result) (c .if1 .taken)) refl refl) (end-alike e afterName afterAddresses (a .level) single refl))
+    (λ s. step-alike e afterName afterAddresses (a .level) single (p .result) s (name-else e (p .result) (c .if1 .taken)) refl refl) (end-alike e afterName afterAddresses (a .level) single refl))
     (u .0) (u .1) (u .2)
 
 put-row-requires : tie.Need-put-row-requires

@@ -31,7 +31,7 @@ code-below p h f = let t = p .top in (p .inside (omega arith), omega arith)
 -- one more extra
 once-more : (c : tie.After-extra Inv-loop μ-loop) (e : Edition) (q any d : State) → Extras e q any d (c .before .before .before .before .before .before .before .before .args .code) (c .before .before .before .before .before .before .before .before .args .level)
     → Ran (source e (c .before .before .before .before .before .before .before .before .args .s .now) (c .before .before .before .before .before .before .before .before .args .end)) (c .before .before .before .before .before .loop .i + 1)
-      (runAt (source e (c .before .before .before .before .before .before .before .before .args .s .now) (c .before .before .before .before .before .before .before .before .args .end)) q (c .before .before .before .before .before .before .before .before .args .at) (c .before .before .before .before .before .before .before .before .args .n) (c .before .before .before .before .before .before .before .before .args .rows .now)) (c .extra .result) q (c .extra .last .1 .1 .1 .0)
+    (runAt (source e (c .before .before .before .before .before .before .before .before .args .s .now) (c .before .before .before .before .before .before .before .before .args .end)) q (c .before .before .before .before .before .before .before .before .args .at) (c .before .before .before .before .before .before .before .before .args .n) (c .before .before .before .before .before .before .before .before .args .rows .now)) (c .extra .result) q (c .extra .last .1 .1 .1 .0)
 once-more c e q any d h =
     let p = c .before .before .before .before .peek in
     let l = c .before .before .before .before .before .loop in

@@ -25,7 +25,7 @@ abbrev μ-loop : tie.MeasureT-loop
 -- one more text
 once-more : (c : tie.After-text Inv-loop μ-loop) (e : Edition) (q d : State) → Texts e q d (c .before .before .before .before .before .before .before .args .kind) (c .before .before .before .before .before .before .before .args .level)
     → Ran (source e (c .before .before .before .before .before .before .before .args .s .now) (c .before .before .before .before .before .before .before .args .end)) (c .before .before .before .before .loop .i + 1)
-      (runAt (source e (c .before .before .before .before .before .before .before .args .s .now) (c .before .before .before .before .before .before .before .args .end)) q (c .before .before .before .before .before .before .before .args .at) (c .before .before .before .before .before .before .before .args .n) (c .before .before .before .before .before .before .before .args .rows .now)) (c .text .result) q (c .text .last .1 .1 .1 .0)
+    (runAt (source e (c .before .before .before .before .before .before .before .args .s .now) (c .before .before .before .before .before .before .before .args .end)) q (c .before .before .before .before .before .before .before .args .at) (c .before .before .before .before .before .before .before .args .n) (c .before .before .before .before .before .before .before .args .rows .now)) (c .text .result) q (c .text .last .1 .1 .1 .0)
 once-more c e q d h =
     let p = c .before .before .before .peek in
     let l = c .before .before .before .before .loop in
