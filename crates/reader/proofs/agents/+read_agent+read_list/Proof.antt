@@ -1,0 +1,356 @@
+-- The agent's and the list's stages, which call each other: twice the levels left, and one for the list, falls at each call.
+use Prim.Native.Nat.{_*_, _+_, _-_, _<_, _≤_, ℕ}
+use mathlib.Core.Bool.{Bool, false, true}
+use mathlib.Core.Path.{_∙_, _≡_, ap, refl}
+use native.Mathlib.Nat.{le-refl}
+use native.Mathlib.Omega.{arith}
+use borrow.Author.Needs.{needs}
+use borrow.Author.Tests.{le-ltb, lt-ltb}
+use lib.Dec.{ltb}
+use lib.ListN.{length}
+use Rattle.meaning.specs.Editions.{B, Edition, State, afterAddresses, afterName, afterResolvers, agentList, deeper, known, labelOf, listEnds, on_▸_▸_▸_, state, stay, text}
+use Rattle.meaning.specs.Kinds.{agentName, resolversOpen}
+use Rattle.meaning.specs.Reading.{levelMost}
+use Rattle.laws.specs.Envelopes.{before}
+use Rattle.reader.specs.Stages.{InList, Ran, runAt, source, textAt}
+use Rattle.reader.proofs.Rooms.{addresses-else, addresses-resolvers, end-alike, list-down, list-name, list-none, list-stop, list-up, stays-in-list, step-alike}
+use Rattle.reader.proofs.Stages.{arrives, begun, going, handed, moved-to, ready-inside, ready-opened, ready-to, refusing, row-fits, went}
+use Rattle.reader.proofs.Steps.{alike-at, foreign, opened-at, passed-at, text-at, too-deep-at}
+use borrow.Fn.Kinds.{In}
+use borrow.Fn.PlainCycle.{Measures, is, falls, and}
+use Rattle.reader.proofs.agents.read_agent.Reads as read-agent
+use Rattle.reader.proofs.agents.read_agent.Kinds as read-agent-kinds
+use Rattle.reader.proofs.agents.+read_agent+read_list.Lts-read_agent as read-agent-lts
+use Rattle.reader.proofs.agents.read_list.Reads as read-list
+use Rattle.reader.proofs.agents.read_list.Kinds as read-list-kinds
+use Rattle.reader.proofs.agents.+read_agent+read_list.Lts-read_list as read-list-lts
+use Rattle.reader.proofs.agents.behind_resolvers.Reads as behind-resolvers-reads
+use Rattle.reader.proofs.agents.name_and_addresses.Reads as name-and-addresses-reads
+use Rattle.reader.proofs.look.fault.Reads as fault-reads
+use Rattle.reader.proofs.look.peek.Reads as peek-reads
+use Rattle.reader.proofs.rows.put_row.Reads as put-row-reads
+use Rattle.reader.proofs.agents.+read_agent+read_list.{statement}
+use Rattle.reader.proofs.agents.+read_agent+read_list.Tie.{close}
+
+abbrev μ-read-agent : Measures 2 read-agent-kinds.ps ℕ
+μ-read-agent κs a = 2 * a .1 .1 .1 .1 .1 .0
+
+abbrev μ-read-list : Measures 2 read-list-kinds.ps ℕ
+μ-read-list κs a = 2 * a .1 .1 .1 .1 .1 .0 + 1
+
+abbrev read-agent-at : ℕ → In 2 read-agent-kinds.ps
+read-agent-at t =
+    and 2 read-agent-kinds.ps (is 2 read-agent-kinds.ps μ-read-agent t) read-agent.Pre
+
+abbrev read-agent-below : ℕ → In 2 read-agent-kinds.ps
+read-agent-below t =
+    and 2 read-agent-kinds.ps (falls 2 read-agent-kinds.ps _<_ μ-read-agent t) read-agent.Pre
+
+abbrev read-list-at : ℕ → In 2 read-list-kinds.ps
+read-list-at t = and 2 read-list-kinds.ps (is 2 read-list-kinds.ps μ-read-list t) read-list.Pre
+
+abbrev read-list-below : ℕ → In 2 read-list-kinds.ps
+read-list-below t =
+    and 2 read-list-kinds.ps (falls 2 read-list-kinds.ps _<_ μ-read-list t) read-list.Pre
+
+-- the claims of what each calls
+abbrev agent-calls : ℕ → read-agent-lts.Claims
+agent-calls t = (
+  name-and-addresses-reads.Asked,
+  name-and-addresses-reads.Learnt,
+  peek-reads.Asked,
+  peek-reads.Learnt,
+  behind-resolvers-reads.Asked,
+  behind-resolvers-reads.Learnt,
+  put-row-reads.Asked,
+  put-row-reads.Learnt,
+  read-list-below t,
+  read-list.Post,
+)
+
+abbrev list-calls : ℕ → read-list-lts.Claims
+list-calls t = (
+  peek-reads.Asked,
+  peek-reads.Learnt,
+  fault-reads.Asked,
+  fault-reads.Learnt,
+  read-agent-below t,
+  read-agent.Post,
+)
+
+module _ (t : ℕ) where
+  abbrev After-names : Type 0
+  After-names = read-agent-lts.After-r (agent-calls t) (read-agent-at t) read-agent.Post
+
+  went-on : (c : After-names) → (c .before .before .before .before .before .before .before .before .args .at + 1 ≤ c .r .given .0 .0) × (c .r .given .0 .0 ≤ c .before .before .before .before .before .before .before .before .args .end) × (c .r .given .0 .1 .0 ≤ c .r .given .0 .0)
+  went-on c = moved-to (c .r .given .1) (c .before .before .before .before .name-and-addresses .ensures B true)
+
+  -- behind the name and the addresses
+  named : (c : After-names) (e : Edition) (single : Bool) → textAt (source e (c .before .before .before .before .before .before .before .before .args .s .now) (c .before .before .before .before .before .before .before .before .args .end)) agentName (9 - c .before .before .before .before .before .before .before .before .args .left) (state afterName (9 - c .before .before .before .before .before .before .before .before .args .left) single) (c .before .before .before .before .before .before .before .before .args .at) (c .before .before .before .before .before .before .before .before .args .n) (c .before .before .before .before .before .before .before .before .args .rows .now)
+      ≡ runAt (source e (c .before .before .before .before .before .before .before .before .args .s .now) (c .before .before .before .before .before .before .before .before .args .end)) (state afterAddresses (9 - c .before .before .before .before .before .before .before .before .args .left) single) (c .r .given .0 .0) (c .r .given .0 .1 .0) (c .before .before .before .before .name-and-addresses .last .1 .1 .1 .0)
+  named c e single = went (c .r .given .1) (c .before .before .before .before .name-and-addresses .ensures e single)
+
+module _ (t : ℕ) where
+  abbrev After-resolvers : Type 0
+  After-resolvers = read-agent-lts.After-read-list (agent-calls t) (read-agent-at t) read-agent.Post
+
+  -- the list of resolvers, a level down
+  resolved : (c : After-resolvers) (e : Edition) → labelOf (c .before .before .before .before .before .before .before .before .before .before .before .before .before .before .before .before .before .args .allows .edition) ≡ known e → (single : Bool)
+      → Ran (source e (c .before .before .before .before .before .before .before .before .before .before .before .before .before .before .before .before .before .args .s .now) (c .before .before .before .before .before .before .before .before .before .before .before .before .before .before .before .before .before .args .end)) (c .before .before .before .before .before .before .before .before .before .r .given .0 .0 + 1)
+      (textAt (source e (c .before .before .before .before .before .before .before .before .before .before .before .before .before .before .before .before .before .args .s .now) (c .before .before .before .before .before .before .before .before .before .before .before .before .before .before .before .before .before .args .end)) agentName (9 - c .before .before .before .before .before .before .before .before .before .before .before .before .before .before .before .before .before .args .left) (state afterName (9 - c .before .before .before .before .before .before .before .before .before .before .before .before .before .before .before .before .before .args .left) single) (c .before .before .before .before .before .before .before .before .before .before .before .before .before .before .before .before .before .args .at) (c .before .before .before .before .before .before .before .before .before .before .before .before .before .before .before .before .before .args .n) (c .before .before .before .before .before .before .before .before .before .before .before .before .before .before .before .before .before .args .rows .now))
+      (c .read-list .result) (state afterResolvers (9 - c .before .before .before .before .before .before .before .before .before .before .before .before .before .before .before .before .before .args .left) single) (c .read-list .last .1 .1 .1 .0)
+  resolved c e is single =
+      let p = c .before .before .before .before .before .before .before .peek in
+      let a = c .before .before .before .before .before .before .before .before .before .before .before .before .before .before .before .before .before .args in
+      let low : 1 ≤ a .left = c .before .before .before .before .before .before .before .before .before .before .before .before .before .before .before .before .before .pre .1 .2 in
+      let high : a .left ≤ 8 = c .before .before .before .before .before .before .before .before .before .before .before .before .before .before .before .before .before .pre .1 .3 in
+      let i = source e (a .s .now) (a .end) in
+      let at = c .before .before .before .before .before .before .before .before .before .r .given .0 .0 in
+      let n = c .before .before .before .before .before .before .before .before .before .r .given .0 .1 .0 in
+      arrives (list-up (a .left) single low high)
+      (begun (le-refl _)
+      (named t (c .before .before .before .before .before .before .before .before .before) e single
+      ∙ opened-at i at n (c .before .before .before .before .before .before .before .before .before .before .before .before .before .name-and-addresses .last .1 .1 .1 .0) (p .result) (p .ensures) 0x03 (c .before .before .before .before .before .before .if1 .left) (omega arith) (state afterAddresses (9 - a .left) single) resolversOpen (deeper agentList) (addresses-resolvers e) refl (c .before .before .before .before .put-row .ensures)
+      ∙ ap (λ (q : State). runAt i q (at + 1) (n + 1) (c .before .before .before .before .put-row .last .0)) (list-down (a .left) single low high))
+      (c .read-list .ensures e is single (λ _ h. omega arith)))
+
+read-agent-sub-level : (t : ℕ) → read-agent-lts.Need-sub-level (agent-calls t) (read-agent-at t) read-agent.Post
+read-agent-sub-level t c = search needs
+
+read-agent-name-and-addresses-requires : (t : ℕ) → read-agent-lts.Need-name-and-addresses-requires (agent-calls t) (read-agent-at t) read-agent.Post
+read-agent-name-and-addresses-requires t c κs = search needs
+
+read-agent-enum-known-r : (t : ℕ) → read-agent-lts.Need-enum-known-r (agent-calls t) (read-agent-at t) read-agent.Post
+read-agent-enum-known-r t c = search needs
+
+read-agent-enum-told : (t : ℕ) → read-agent-lts.Need-enum-told (agent-calls t) (read-agent-at t) read-agent.Post
+read-agent-enum-told t c = search needs
+
+read-agent-same-length : (t : ℕ) → read-agent-lts.Need-same-length (agent-calls t) (read-agent-at t) read-agent.Post
+read-agent-same-length t c = search needs
+
+read-agent-returns : (t : ℕ) → read-agent-lts.Need-returns (agent-calls t) (read-agent-at t) read-agent.Post
+read-agent-returns t c e is single = handed (c .enum-told .given .1) (c .before .before .before .before .name-and-addresses .ensures e single)
+
+read-agent-peek-requires : (t : ℕ) → read-agent-lts.Need-peek-requires (agent-calls t) (read-agent-at t) read-agent.Post
+read-agent-peek-requires t c κs = ready-inside (ready-to (c .before .before .before .before .before .before .before .before .before .pre .1 .0) (went-on t (c .before)))
+
+read-agent-behind-resolvers-requires : (t : ℕ) → read-agent-lts.Need-behind-resolvers-requires (agent-calls t) (read-agent-at t) read-agent.Post
+read-agent-behind-resolvers-requires t c κs = (ready-to (c .before .before .before .before .before .before .before .before .before .before .before .before .pre .1 .0) (went-on t (c .before .before .before .before)), c .before .before .before .before .before .before .before .before .before .before .before .before .pre .1 .1)
+
+read-agent-same-length-2 : (t : ℕ) → read-agent-lts.Need-same-length-2 (agent-calls t) (read-agent-at t) read-agent.Post
+read-agent-same-length-2 t c = search needs
+
+read-agent-returns-2 : (t : ℕ) → read-agent-lts.Need-returns-2 (agent-calls t) (read-agent-at t) read-agent.Post
+read-agent-returns-2 t c e is single =
+    let p = c .before .before .before .before .before .peek in
+    let a = c .before .before .before .before .before .before .before .before .before .before .before .before .before .before .before .args in
+    let u = went-on t (c .before .before .before .before .before .before .before) in
+    begun (u .0)
+    (named t (c .before .before .before .before .before .before .before) e single
+    ∙ alike-at (source e (a .s .now) (a .end)) (c .before .before .before .before .before .before .before .r .given .0 .0) (c .before .before .before .before .before .before .before .r .given .0 .1 .0) (c .before .before .before .before .before .before .before .before .before .before .before .name-and-addresses .last .1 .1 .1 .0) (p .result) (p .ensures) (state afterAddresses (9 - a .left) single) (state afterResolvers (9 - a .left) single)
+    (λ s. step-alike e afterAddresses afterResolvers (9 - a .left) single (p .result) s (addresses-else e (p .result) (c .before .before .before .before .if1 .taken)) refl refl) (end-alike e afterAddresses afterResolvers (9 - a .left) single refl))
+    (c .before .before .behind-resolvers .ensures e is single)
+
+read-agent-put-row-requires : (t : ℕ) → read-agent-lts.Need-put-row-requires (agent-calls t) (read-agent-at t) read-agent.Post
+read-agent-put-row-requires t c κs = row-fits (ready-to (c .before .before .before .before .before .before .before .before .before .before .before .before .pre .1 .0) (went-on t (c .before .before .before .before)))
+
+read-agent-add-first : (t : ℕ) → read-agent-lts.Need-add-first (agent-calls t) (read-agent-at t) read-agent.Post
+read-agent-add-first t c = let h = row-fits (ready-to (c .before .before .before .before .before .before .before .before .before .before .before .before .before .before .before .pre .1 .0) (went-on t (c .before .before .before .before .before .before .before))) in omega arith
+
+read-agent-add-k : (t : ℕ) → read-agent-lts.Need-add-k (agent-calls t) (read-agent-at t) read-agent.Post
+read-agent-add-k t c = let h = row-fits (ready-to (c .before .before .before .before .before .before .before .before .before .before .before .before .before .before .before .pre .1 .0) (went-on t (c .before .before .before .before .before .before .before))) in omega arith
+
+read-agent-sub-read-list : (t : ℕ) → read-agent-lts.Need-sub-read-list (agent-calls t) (read-agent-at t) read-agent.Post
+read-agent-sub-read-list t c = search needs
+
+read-agent-read-list-requires : (t : ℕ) → read-agent-lts.Need-read-list-requires (agent-calls t) (read-agent-at t) read-agent.Post
+read-agent-read-list-requires t c κs =
+    let k = c .before .before .before .before .before .before .peek .ensures .inside (omega arith) in
+    let pre = c .before .before .before .before .before .before .before .before .before .before .before .before .before .before .before .before .pre in
+    let measure = pre .0 in
+    (omega (arith, measure), (ready-opened (ready-to (pre .1 .0) (went-on t (c .before .before .before .before .before .before .before .before))) k, pre .1 .1, omega arith))
+
+read-agent-enum-known-t : (t : ℕ) → read-agent-lts.Need-enum-known-t (agent-calls t) (read-agent-at t) read-agent.Post
+read-agent-enum-known-t t c = search needs
+
+read-agent-enum-told-2 : (t : ℕ) → read-agent-lts.Need-enum-told-2 (agent-calls t) (read-agent-at t) read-agent.Post
+read-agent-enum-told-2 t c = search needs
+
+read-agent-same-length-3 : (t : ℕ) → read-agent-lts.Need-same-length-3 (agent-calls t) (read-agent-at t) read-agent.Post
+read-agent-same-length-3 t c = search needs
+
+read-agent-returns-3 : (t : ℕ) → read-agent-lts.Need-returns-3 (agent-calls t) (read-agent-at t) read-agent.Post
+read-agent-returns-3 t c e is single = handed (c .enum-told2 .given .1) (resolved t (c .before .before .before .before) e is single)
+
+read-agent-behind-resolvers-requires-2 : (t : ℕ) → read-agent-lts.Need-behind-resolvers-requires-2 (agent-calls t) (read-agent-at t) read-agent.Post
+read-agent-behind-resolvers-requires-2 t c κs =
+    let k = c .before .before .before .before .before .before .before .before .before .before .before .before .before .before .before .before .before .before .before .before .before .before .before .pre .1 .1 in
+    (ready-to (c .before .before .before .before .before .before .before .before .before .before .before .before .before .before .before .before .before .before .before .before .before .before .before .pre .1 .0) (moved-to (c .before .before .t .given .1) (resolved t (c .before .before .before .before .before .before) (k .edition) (k .is) true)), k)
+
+read-agent-same-length-4 : (t : ℕ) → read-agent-lts.Need-same-length-4 (agent-calls t) (read-agent-at t) read-agent.Post
+read-agent-same-length-4 t c = search needs
+
+read-agent-returns-4 : (t : ℕ) → read-agent-lts.Need-returns-4 (agent-calls t) (read-agent-at t) read-agent.Post
+read-agent-returns-4 t c e is single =
+    let l = resolved t (c .before .before .before .before .before .before .before .before .before) e is single in
+    let u = moved-to (c .before .before .before .before .before .t .given .1) l in
+    let h = went-on t (c .before .before .before .before .before .before .before .before .before .before .before .before .before .before .before .before .before .before) in
+    begun (omega arith) (went (c .before .before .before .before .before .t .given .1) l) (c .before .before .behind-resolvers2 .ensures e is single)
+
+abbrev read-list-Inv-loop : read-list-lts.InvT-loop
+read-list-Inv-loop s end at rows₀ n left allows i₀ m₀ rows i m =
+    (at ≤ i) × (i ≤ end) × (m ≤ i) × (length rows ≡ length rows₀)
+    × ((e : Edition) → labelOf (allows .edition) ≡ known e → (single : Bool) → InList (9 - left) single → runAt (source e s end) (state agentList (9 - left) single) at n rows₀ ≡ runAt (source e s end) (state agentList (9 - left) single) i m rows)
+
+abbrev read-list-μ-loop : read-list-lts.MeasureT-loop
+read-list-μ-loop s end at rows₀ n left allows i₀ m₀ rows i m = end - i
+
+module _ (t : ℕ) where
+  abbrev After-agent : Type 0
+  After-agent = read-list-lts.After-read-agent (list-calls t) (read-list-at t) read-list.Post read-list-Inv-loop read-list-μ-loop
+
+  -- one more agent
+  once-more : (c : After-agent) (e : Edition) → labelOf (c .before .before .before .before .before .before .before .before .before .args .allows .edition) ≡ known e → (single : Bool) → InList (9 - c .before .before .before .before .before .before .before .before .before .args .left) single
+      → Ran (source e (c .before .before .before .before .before .before .before .before .before .args .s .now) (c .before .before .before .before .before .before .before .before .before .args .end)) (c .before .before .before .before .before .before .loop .i + 1)
+      (runAt (source e (c .before .before .before .before .before .before .before .before .before .args .s .now) (c .before .before .before .before .before .before .before .before .before .args .end)) (state agentList (9 - c .before .before .before .before .before .before .before .before .before .args .left) single) (c .before .before .before .before .before .before .before .before .before .args .at) (c .before .before .before .before .before .before .before .before .before .args .n) (c .before .before .before .before .before .before .before .before .before .args .rows .now))
+      (c .read-agent .result) (state agentList (9 - c .before .before .before .before .before .before .before .before .before .args .left) single) (c .read-agent .last .1 .1 .1 .0)
+  once-more c e is single h =
+      let p = c .before .before .before .before .before .peek in
+      let l = c .before .before .before .before .before .before .loop in
+      let a = c .before .before .before .before .before .before .before .before .before .args in
+      let deep : ltb levelMost (9 - a .left) ≡ false = le-ltb levelMost (9 - a .left) (omega arith) in
+      arrives (stays-in-list (9 - a .left) single h)
+      (begun (omega arith)
+      (l .inv .4 e is single h ∙ text-at (source e (a .s .now) (a .end)) (l .i) (l .m) (l .rows) (p .result) (p .ensures) 0x02 (c .before .before .before .if2 .left) (omega arith) (state agentList (9 - a .left) single) agentName (stay afterName) (list-name e) deep)
+      (c .read-agent .ensures e is single))
+
+read-list-loop-holds : (t : ℕ) → read-list-lts.Need-loop-holds (list-calls t) (read-list-at t) read-list.Post read-list-Inv-loop read-list-μ-loop
+read-list-loop-holds t c = let f = c .before .before .pre .1 .0 in (omega arith, omega arith, omega arith, refl, λ e is single h. refl)
+
+read-list-peek-requires : (t : ℕ) → read-list-lts.Need-peek-requires (list-calls t) (read-list-at t) read-list.Post read-list-Inv-loop read-list-μ-loop
+read-list-peek-requires t c κs = search needs
+
+read-list-add-p : (t : ℕ) → read-list-lts.Need-add-p (list-calls t) (read-list-at t) read-list.Post read-list-Inv-loop read-list-μ-loop
+read-list-add-p t c = search needs
+
+read-list-same-length : (t : ℕ) → read-list-lts.Need-same-length (list-calls t) (read-list-at t) read-list.Post read-list-Inv-loop read-list-μ-loop
+read-list-same-length t c = search needs
+
+read-list-returns : (t : ℕ) → read-list-lts.Need-returns (list-calls t) (read-list-at t) read-list.Post read-list-Inv-loop read-list-μ-loop
+read-list-returns t c e is single h =
+    let p = c .before .peek in
+    let l = c .before .before .loop in
+    let a = c .before .before .before .before .before .args in
+    let k : l .i < a .end = p .ensures .inside (omega arith) in
+    going (l .inv .4 e is single h ∙ passed-at (source e (a .s .now) (a .end)) (l .i) (l .m) (l .rows) (p .result) (p .ensures) 1 (c .if1 .taken) (omega arith) (state agentList (9 - a .left) single) listEnds (list-stop e)) (omega arith) (omega arith) (omega arith)
+
+read-list-fault-requires : (t : ℕ) → read-list-lts.Need-fault-requires (list-calls t) (read-list-at t) read-list.Post read-list-Inv-loop read-list-μ-loop
+read-list-fault-requires t c κs = search needs
+
+read-list-same-length-2 : (t : ℕ) → read-list-lts.Need-same-length-2 (list-calls t) (read-list-at t) read-list.Post read-list-Inv-loop read-list-μ-loop
+read-list-same-length-2 t c = search needs
+
+read-list-returns-2 : (t : ℕ) → read-list-lts.Need-returns-2 (list-calls t) (read-list-at t) read-list.Post read-list-Inv-loop read-list-μ-loop
+read-list-returns-2 t c e is single h =
+    let p = c .before .before .before .peek in
+    let l = c .before .before .before .before .loop in
+    let a = c .before .before .before .before .before .before .before .args in
+    begun (le-refl _) (l .inv .4 e is single h)
+    (foreign (source e (a .s .now) (a .end)) (l .i) (l .m) (l .rows) (p .result) (p .ensures) (state agentList (9 - a .left) single) (c .fault .ensures) (list-none e (p .result) (c .before .before .if1 .left) (c .before .if2 .taken)) refl refl)
+
+read-list-same-length-3 : (t : ℕ) → read-list-lts.Need-same-length-3 (list-calls t) (read-list-at t) read-list.Post read-list-Inv-loop read-list-μ-loop
+read-list-same-length-3 t c = search needs
+
+read-list-returns-3 : (t : ℕ) → read-list-lts.Need-returns-3 (list-calls t) (read-list-at t) read-list.Post read-list-Inv-loop read-list-μ-loop
+read-list-returns-3 t c e is single h =
+    let p = c .before .before .before .peek in
+    let l = c .before .before .before .before .loop in
+    let a = c .before .before .before .before .before .before .before .args in
+    let deep : ltb levelMost (9 - a .left) ≡ true = lt-ltb levelMost (9 - a .left) (omega arith) in
+    refusing (l .inv .4 e is single h ∙ too-deep-at (source e (a .s .now) (a .end)) (l .i) (l .m) (l .rows) (p .result) (p .ensures) 0x02 (c .before .if2 .left) (omega arith) (state agentList (9 - a .left) single) (on 0x02 ▸ agentName ▸ text ▸ stay afterName) (list-name e) deep)
+
+read-list-add-t : (t : ℕ) → read-list-lts.Need-add-t (list-calls t) (read-list-at t) read-list.Post read-list-Inv-loop read-list-μ-loop
+read-list-add-t t c = search needs
+
+read-list-read-agent-requires : (t : ℕ) → read-list-lts.Need-read-agent-requires (list-calls t) (read-list-at t) read-list.Post read-list-Inv-loop read-list-μ-loop
+read-list-read-agent-requires t c κs =
+    let k = c .before .before .before .before .peek .ensures .inside (omega arith) in
+    let pre = c .before .before .before .before .before .before .before .before .pre in
+    let measure = pre .0 in
+    let f = pre .1 .0 in
+    (omega (arith, measure), (record { whole = f .whole; small = f .small; before = omega arith; few = omega arith }, pre .1 .1, omega arith, pre .1 .2))
+
+read-list-enum-known-r : (t : ℕ) → read-list-lts.Need-enum-known-r (list-calls t) (read-list-at t) read-list.Post read-list-Inv-loop read-list-μ-loop
+read-list-enum-known-r t c = search needs
+
+read-list-enum-told : (t : ℕ) → read-list-lts.Need-enum-told (list-calls t) (read-list-at t) read-list.Post read-list-Inv-loop read-list-μ-loop
+read-list-enum-told t c = search needs
+
+read-list-same-length-4 : (t : ℕ) → read-list-lts.Need-same-length-4 (list-calls t) (read-list-at t) read-list.Post read-list-Inv-loop read-list-μ-loop
+read-list-same-length-4 t c = search needs
+
+read-list-returns-4 : (t : ℕ) → read-list-lts.Need-returns-4 (list-calls t) (read-list-at t) read-list.Post read-list-Inv-loop read-list-μ-loop
+read-list-returns-4 t c e is single h = handed (c .enum-told .given .1) (once-more t (c .before .before .before .before) e is single h)
+
+read-list-loop-less : (t : ℕ) → read-list-lts.Need-loop-less (list-calls t) (read-list-at t) read-list.Post read-list-Inv-loop read-list-μ-loop
+read-list-loop-less t c =
+    let k = c .before .before .before .before .before .before .before .before .before .before .before .before .before .before .pre .1 .1 in
+    let u = moved-to (c .before .r .given .1) (c .before .before .before .before .before .read-agent .ensures (k .edition) (k .is) true) in
+    omega arith
+
+read-list-loop-again : (t : ℕ) → read-list-lts.Need-loop-again (list-calls t) (read-list-at t) read-list.Post read-list-Inv-loop read-list-μ-loop
+read-list-loop-again t c =
+    let k = c .before .before .before .before .before .before .before .before .before .before .before .before .before .before .pre .1 .1 in
+    let u = moved-to (c .before .r .given .1) (c .before .before .before .before .before .read-agent .ensures (k .edition) (k .is) true) in
+    (omega arith, omega arith, omega arith, c .before .before .before .before .before .read-agent .kept .1 .1 .1 .0 ∙ c .before .before .before .before .before .before .before .before .before .before .before .loop .inv .3, λ e is single h. went (c .before .r .given .1) (once-more t (c .before .before .before .before .before) e is single h))
+
+pub +read-agent+read-list-spec : {M : Type 1} → statement M
++read-agent+read-list-spec = close μ-read-agent μ-read-list (λ t. read-agent-lts.spec (agent-calls t)
+    (read-agent-at t)
+    read-agent.Post
+    (read-agent-sub-level t)
+    (read-agent-name-and-addresses-requires t)
+    (read-agent-enum-known-r t)
+    (read-agent-enum-told t)
+    (read-agent-same-length t)
+    (read-agent-returns t)
+    (read-agent-peek-requires t)
+    (read-agent-behind-resolvers-requires t)
+    (read-agent-same-length-2 t)
+    (read-agent-returns-2 t)
+    (read-agent-put-row-requires t)
+    (read-agent-add-first t)
+    (read-agent-add-k t)
+    (read-agent-sub-read-list t)
+    (read-agent-read-list-requires t)
+    (read-agent-enum-known-t t)
+    (read-agent-enum-told-2 t)
+    (read-agent-same-length-3 t)
+    (read-agent-returns-3 t)
+    (read-agent-behind-resolvers-requires-2 t)
+    (read-agent-same-length-4 t)
+    (read-agent-returns-4 t))
+    λ t. read-list-lts.spec (list-calls t)
+    (read-list-at t)
+    read-list.Post
+    read-list-Inv-loop
+    read-list-μ-loop
+    (read-list-loop-holds t)
+    (read-list-peek-requires t)
+    (read-list-add-p t)
+    (read-list-same-length t)
+    (read-list-returns t)
+    (read-list-fault-requires t)
+    (read-list-same-length-2 t)
+    (read-list-returns-2 t)
+    (read-list-same-length-3 t)
+    (read-list-returns-3 t)
+    (read-list-add-t t)
+    (read-list-read-agent-requires t)
+    (read-list-enum-known-r t)
+    (read-list-enum-told t)
+    (read-list-same-length-4 t)
+    (read-list-returns-4 t)
+    (read-list-loop-less t)
+    (read-list-loop-again t)

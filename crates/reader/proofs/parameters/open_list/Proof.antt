@@ -1,0 +1,30 @@
+-- `parameters::open_list`: the opening row, then the list's stage at level 1.
+use mathlib.Core.Bool.{false}
+use native.Mathlib.Omega.{arith}
+use borrow.Author.Needs.{needs}
+use Rattle.reader.proofs.Rooms.{not-single}
+use Rattle.reader.proofs.Stages.{ready-opened, row-fits}
+use Rattle.reader.proofs.parameters.open_list.Statement.{statement}
+use Rattle.reader.proofs.parameters.open_list.Tie as tie
+
+put-row-requires : tie.Need-put-row-requires
+put-row-requires c κs = row-fits (c .before .before .before .pre .0)
+
+add-p : tie.Need-add-p
+add-p c = let h = row-fits (c .before .before .before .before .before .before .pre .0) in omega arith
+
+add-m : tie.Need-add-m
+add-m c = let h = row-fits (c .before .before .before .before .before .before .pre .0) in omega arith
+
+read-list-requires : tie.Need-read-list-requires
+read-list-requires c κs = (ready-opened (c .before .before .before .before .before .before .before .pre .0) (c .before .before .before .before .before .before .before .pre .2), c .before .before .before .before .before .before .before .pre .1, omega arith)
+
+same-length : tie.Need-same-length
+same-length c = search needs
+
+returns : tie.Need-returns
+returns c e is = rw (← c .before .before .before .before .before .before .put-row .ensures) (c .before .before .read-list .ensures e is false (not-single 1))
+
+pub open-list-spec : {M : Type 1} → statement M
+open-list-spec =
+    tie.close (tie.spec put-row-requires add-p add-m read-list-requires same-length returns)

@@ -1,0 +1,56 @@
+-- `read`: the first pass refuses, or counts the rows of an accepted header for the second.
+use mathlib.Core.List.{_++_}
+use borrow.Author.Needs.{needs}
+use Rattle.reader.proofs.Memory.{counted-by, nothing-lent, refusal-answered}
+use Rattle.reader.proofs.read.Statement.{statement}
+use Rattle.reader.proofs.read.Tie as tie
+
+slice-relend-prefix-survey : tie.Need-slice-relend-prefix-survey
+slice-relend-prefix-survey c = search needs
+
+slice-aggregate-survey : tie.Need-slice-aggregate-survey
+slice-aggregate-survey c = search needs
+
+survey-requires : tie.Need-survey-requires
+survey-requires c κs = search needs
+
+enum-known-counted : tie.Need-enum-known-counted
+enum-known-counted c = search needs
+
+enum-known-counted-2 : tie.Need-enum-known-counted-2
+enum-known-counted-2 c = search needs
+
+fill-requires : tie.Need-fill-requires
+fill-requires c κs = counted-by (c .before .before .before .before .before .before .before .before .before .before .args .edition) (c .before .before .before .before .before .before .before .before .before .before .args .input .now) (c .before .before .counted2 .given .1) (c .before .before .before .before .before .before .survey .ensures)
+
+same-length : tie.Need-same-length
+same-length c = search needs
+
+returns : tie.Need-returns
+returns c =
+    let a = c .before .before .before .before .before .before .before .before .before .args in
+    nothing-lent (a .edition) (a .input .now) (a .rows .now) (c .before .before .before .before .before .survey .last .1 .1 .0) _ _ (c .before .before .before .before .before .survey .kept .1 .1 .0)
+    (refusal-answered (a .edition) (a .input .now) (c .before .before .before .before .before .survey .last .1 .1 .0 ++ a .rows .now) (c .before .counted .given .1) (c .before .before .before .before .before .survey .ensures))
+
+same-length-2 : tie.Need-same-length-2
+same-length-2 c = search needs
+
+returns-2 : tie.Need-returns-2
+returns-2 c =
+    let a = c .before .before .before .before .before .before .before .before .before .before .before .before .before .args in
+    nothing-lent (a .edition) (a .input .now) (a .rows .now) (c .before .before .before .before .before .before .before .before .before .survey .last .1 .1 .0) _ _ (c .before .before .before .before .before .before .before .before .before .survey .kept .1 .1 .0) (c .before .before .fill .ensures)
+
+pub read-spec : {M : Type 1} → statement M
+read-spec =
+    tie.close
+    (tie.spec
+    slice-relend-prefix-survey
+    slice-aggregate-survey
+    survey-requires
+    enum-known-counted
+    enum-known-counted-2
+    fill-requires
+    same-length
+    returns
+    same-length-2
+    returns-2)

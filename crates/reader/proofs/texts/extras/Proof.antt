@@ -1,0 +1,136 @@
+-- `texts::extras`: each turn reads one extra and is in the same state again; the 01 leads out, any other byte is refused.
+use Prim.Native.Nat.{_+_, _-_, _<_, _≤_, ℕ}
+use mathlib.Core.Bool.{true}
+use mathlib.Core.List.{List}
+use mathlib.Core.Path.{_∙_, _≡_, ap, refl}
+use native.Mathlib.Nat.{le-refl}
+use native.Mathlib.Omega.{arith}
+use borrow.Author.Needs.{needs}
+use lib.ListN.{length}
+use Rattle.meaning.specs.Editions.{B, Edition, State, afterResolvers, agentExtra, go, state}
+use Rattle.meaning.specs.Kinds.{extraKey}
+use Rattle.laws.specs.Envelopes.{before}
+use Rattle.reader.specs.Stages.{Extras, Peeked, Ran, runAt, source, textAt}
+use Rattle.reader.proofs.Rooms.{agent-any}
+use Rattle.reader.proofs.Stages.{arrives, begun, going, handed, moved-to, went}
+use Rattle.reader.proofs.Steps.{foreign, passed-at, text-at}
+use Rattle.reader.proofs.texts.extras.Statement.{statement}
+use Rattle.reader.proofs.texts.extras.Tie as tie
+
+abbrev Inv-loop : tie.InvT-loop
+Inv-loop s end at rows₀ n code level i₀ m₀ rows i m =
+    (at ≤ i) × (i ≤ end) × (m ≤ i) × (length rows ≡ length rows₀)
+    × ((e : Edition) (q any d : State) → Extras e q any d code level → runAt (source e s end) q at n rows₀ ≡ runAt (source e s end) q i m rows)
+
+abbrev μ-loop : tie.MeasureT-loop
+μ-loop s end at rows₀ n code level i₀ m₀ rows i m = end - i
+
+code-below : {s : List ℕ} {end at b code : ℕ} → Peeked s end at b → b ≡ code → (code ≡ 256 → ⊥) → (at < end) × (code < 256)
+code-below p h f = let t = p .top in (p .inside (omega arith), omega arith)
+
+-- one more extra
+once-more : (c : tie.After-extra Inv-loop μ-loop) (e : Edition) (q any d : State) → Extras e q any d (c .before .before .before .before .before .before .before .before .args .code) (c .before .before .before .before .before .before .before .before .args .level)
+    → Ran (source e (c .before .before .before .before .before .before .before .before .args .s .now) (c .before .before .before .before .before .before .before .before .args .end)) (c .before .before .before .before .before .loop .i + 1)
+    (runAt (source e (c .before .before .before .before .before .before .before .before .args .s .now) (c .before .before .before .before .before .before .before .before .args .end)) q (c .before .before .before .before .before .before .before .before .args .at) (c .before .before .before .before .before .before .before .before .args .n) (c .before .before .before .before .before .before .before .before .args .rows .now)) (c .extra .result) q (c .extra .last .1 .1 .1 .0)
+once-more c e q any d h =
+    let p = c .before .before .before .before .peek in
+    let l = c .before .before .before .before .before .loop in
+    let a = c .before .before .before .before .before .before .before .before .args in
+    let i = source e (a .s .now) (a .end) in
+    let small = code-below (p .ensures) (c .before .before .if2 .left) (c .before .before .before .before .before .before .before .before .pre .1) .1 in
+    begun (omega arith)
+    (l .inv .4 e q any d h
+    ∙ text-at i (l .i) (l .m) (l .rows) (p .result) (p .ensures) (a .code) (c .before .before .if2 .left) small q extraKey (h .key) (h .more small) refl
+    ∙ ap (λ (x : ℕ). textAt i extraKey x (go (h .key) q) (l .i + 1) (l .m) (l .rows)) (h .deep)
+    ∙ ap (λ (x : State). textAt i extraKey (a .level) x (l .i + 1) (l .m) (l .rows)) (h .keyed))
+    (c .extra .ensures e any q (h .any-value))
+
+loop-holds : tie.Need-loop-holds Inv-loop μ-loop
+loop-holds c = (omega arith, omega arith, omega arith, refl, λ e q any d h. refl)
+
+peek-requires : tie.Need-peek-requires Inv-loop μ-loop
+peek-requires c κs = search needs
+
+add-p : tie.Need-add-p Inv-loop μ-loop
+add-p c = search needs
+
+same-length : tie.Need-same-length Inv-loop μ-loop
+same-length c = search needs
+
+returns : tie.Need-returns Inv-loop μ-loop
+returns c e q any d h =
+    let p = c .before .peek in
+    let l = c .before .before .loop in
+    let a = c .before .before .before .before .before .args in
+    let k : l .i < a .end = p .ensures .inside (omega arith) in
+    arrives (h .leads)
+    (going (l .inv .4 e q any d h ∙ passed-at (source e (a .s .now) (a .end)) (l .i) (l .m) (l .rows) (p .result) (p .ensures) 1 (c .if1 .taken) (omega arith) q (h .out) (h .stop)) (omega arith) (omega arith) (omega arith))
+
+fault-requires : tie.Need-fault-requires Inv-loop μ-loop
+fault-requires c κs = search needs
+
+same-length-2 : tie.Need-same-length-2 Inv-loop μ-loop
+same-length-2 c = search needs
+
+returns-2 : tie.Need-returns-2 Inv-loop μ-loop
+returns-2 c e q any d h =
+    let p = c .before .before .before .peek in
+    let l = c .before .before .before .before .loop in
+    let a = c .before .before .before .before .before .before .before .args in
+    begun (le-refl _) (l .inv .4 e q any d h)
+    (foreign (source e (a .s .now) (a .end)) (l .i) (l .m) (l .rows) (p .result) (p .ensures) q (c .fault .ensures) (h .none-else (p .result) (c .before .before .if1 .left) (c .before .if2 .taken)) (h .ajar) (h .odd))
+
+add-t : tie.Need-add-t Inv-loop μ-loop
+add-t c = let k = code-below (c .before .before .peek .ensures) (c .if2 .left) (c .before .before .before .before .before .before .pre .1) .0 in omega arith
+
+extra-requires : tie.Need-extra-requires Inv-loop μ-loop
+extra-requires c κs =
+    let f = c .before .before .before .before .before .before .before .pre .0 in
+    let k = code-below (c .before .before .before .peek .ensures) (c .before .if2 .left) (c .before .before .before .before .before .before .before .pre .1) .0 in
+    record { whole = f .whole; small = f .small; before = omega arith; few = omega arith }
+
+enum-known-r : tie.Need-enum-known-r Inv-loop μ-loop
+enum-known-r c = search needs
+
+enum-told : tie.Need-enum-told Inv-loop μ-loop
+enum-told c = search needs
+
+same-length-3 : tie.Need-same-length-3 Inv-loop μ-loop
+same-length-3 c = search needs
+
+returns-3 : tie.Need-returns-3 Inv-loop μ-loop
+returns-3 c e q any d h = handed (c .enum-told .given .1) (once-more (c .before .before .before .before) e q any d h)
+
+loop-less : tie.Need-loop-less Inv-loop μ-loop
+loop-less c =
+    let u = moved-to (c .before .r .given .1) (c .before .before .before .before .before .extra .ensures B (state agentExtra (c .before .before .before .before .before .before .before .before .before .before .before .before .before .args .level) true) (state afterResolvers (c .before .before .before .before .before .before .before .before .before .before .before .before .before .args .level) true) (agent-any B (c .before .before .before .before .before .before .before .before .before .before .before .before .before .args .level) true)) in
+    omega arith
+
+loop-again : tie.Need-loop-again Inv-loop μ-loop
+loop-again c =
+    let t = c .before .before .before .before .before in
+    let u = moved-to (c .before .r .given .1) (t .extra .ensures B (state agentExtra (c .before .before .before .before .before .before .before .before .before .before .before .before .before .args .level) true) (state afterResolvers (c .before .before .before .before .before .before .before .before .before .before .before .before .before .args .level) true) (agent-any B (c .before .before .before .before .before .before .before .before .before .before .before .before .before .args .level) true)) in
+    (omega arith, omega arith, omega arith, t .extra .kept .1 .1 .1 .0 ∙ c .before .before .before .before .before .before .before .before .before .before .loop .inv .3, λ e q any d h. went (c .before .r .given .1) (once-more t e q any d h))
+
+pub extras-spec : {M : Type 1} → statement M
+extras-spec =
+    tie.close
+    (tie.spec
+    Inv-loop
+    μ-loop
+    loop-holds
+    peek-requires
+    add-p
+    same-length
+    returns
+    fault-requires
+    same-length-2
+    returns-2
+    add-t
+    extra-requires
+    enum-known-r
+    enum-told
+    same-length-3
+    returns-3
+    loop-less
+    loop-again)
