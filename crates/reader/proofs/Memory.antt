@@ -1,25 +1,24 @@
 -- The two passes agree, and rows stored one by one are the table laid over the lent memory. Only `put-over` knows how many numbers a row has.
-use Prim.Native.Nat.{ℕ, zero, suc, _+_, _-_, _*_, _/_, _≤_, _<_}
+use Prim.Native.Nat.{ℕ, zero, suc, _+_, _-_, _*_, _≤_, _<_}
 use mathlib.Core.List.{List, [], _∷_, _++_, append-assoc}
-use mathlib.Core.Bool.{Bool, true, false}
+use mathlib.Core.Bool.{true, false}
 use mathlib.Core.Path.{_≡_, refl, ap, sym, _∙_}
 use native.Mathlib.Nat.{zero-add}
 use native.Mathlib.Omega.{arith}
-use lib.Dec.{eqb, leb}
+use lib.Dec.{leb}
 use lib.ListN.{length, set, take, drop, length-append, length-drop}
 use lib.Seq.{take-all}
 use borrow.Author.Tests.{le-leb, lt-leb, ne-eqb}
-use Rattle.meaning.specs.Basics.{pick}
 use Rattle.meaning.specs.Editions.{Edition, B, D, known, labelOf}
-use Rattle.meaning.specs.Headers.{Placed, Answer, refused, accepted, envelopesMost, header, labelled, read}
+use Rattle.meaning.specs.Headers.{Placed, Answer, refused, accepted, envelopesMost, header, read}
 use Rattle.meaning.specs.Memory.{numbersOf, tableOf, roomOf, laidOver, readAnswer, readRows}
-use Rattle.meaning.specs.Payload.{payloadStart, payloadEnd, payloadBytes}
+use Rattle.meaning.specs.Payload.{partStart, partEnd, partBytes, payloadStart, payloadEnd, payloadBytes}
 use Rattle.reader.specs.declared.Answer as declared
 use Rattle.reader.specs.declared.Stage.{Stage}
 use Rattle.reader.specs.declared.Stage.the-variants.{Go, Refused}
-use Rattle.reader.specs.Stages.{put, Outcome, filled, stopped, Known}
+use Rattle.reader.specs.Stages.{put, filled, stopped, Known}
 use Rattle.reader.specs.Headers.{keepAll, finish, outcome, PlaceFits, HeaderRead}
-use Rattle.reader.specs.Promises.{ReadPromise, PayloadPromise, Counted, Surveyed}
+use Rattle.reader.specs.Promises.{ReadPromise, PartPromise, PayloadPromise, Counted, Surveyed}
 
 -- Rows laid over the memory
 
@@ -140,12 +139,26 @@ nothing-lent edition input m (x ∷ none) r left h a = absurd (omega arith)
 
 -- The payload
 
-pub no-payload : (edition : ℕ) (input : List ℕ) {r : Stage} {refusal p : ℕ} → r ≡ Refused refusal p → Surveyed edition input r → PayloadPromise edition input []
-unfolding Surveyed payloadStart payloadEnd payloadBytes
-no-payload edition input h a = let q = rw h at a in record { bytes = rw q refl; is-part = rw q refl }
+-- where the payload lies, by what the first pass found
+pub no-part : (edition : ℕ) (input : List ℕ) {r : Stage} {refusal p : ℕ} → r ≡ Refused refusal p → Surveyed edition input r → PartPromise edition input (record { start = 0; end = 0 })
+unfolding Surveyed payloadStart payloadEnd
+no-part edition input h a = let q = rw h at a in record { starts = rw q refl; ends = rw q refl; forward = omega arith; inside = omega arith }
 
-pub the-payload : (edition : ℕ) (input : List ℕ) {r : Stage} {p n : ℕ} → r ≡ Go p n → Surveyed edition input r → PayloadPromise edition input (take (length input - p) (drop p input))
-unfolding Surveyed payloadStart payloadEnd payloadBytes
-the-payload edition input {p = p} h a =
-    let q = (rw h at a) .is in
-    record { bytes = rw q (take-all (length input - p) (drop p input) (omega (arith, length-drop p input))); is-part = rw q refl }
+pub the-part : (edition : ℕ) (input : List ℕ) {r : Stage} {p n : ℕ} → r ≡ Go p n → Surveyed edition input r → PartPromise edition input (record { start = p; end = length input })
+unfolding Surveyed payloadStart payloadEnd
+the-part edition input {p = p} h a =
+    let c = rw h at a in
+    let q = c .is in
+    record { starts = rw q refl; ends = rw q refl; forward = c .within; inside = omega arith }
+
+-- the bytes of that part are the payload
+payload-part : (edition : ℕ) (input : List ℕ) → take (payloadEnd edition input - payloadStart edition input) (drop (payloadStart edition input) input) ≡ payloadBytes edition input
+unfolding payloadStart payloadEnd payloadBytes
+payload-part edition input = at (read edition input)
+  where
+    at : (a : Answer) → take (partEnd input a - partStart a) (drop (partStart a) input) ≡ partBytes input a
+    at (refused refusal place) = refl
+    at (accepted place rs) = take-all (length input - place) (drop place input) (omega (arith, length-drop place input))
+
+pub payload-of : (edition : ℕ) (input : List ℕ) {start end : ℕ} → start ≡ payloadStart edition input → end ≡ payloadEnd edition input → PayloadPromise edition input (take (end - start) (drop start input))
+payload-of edition input p q = rw (p, q) (record { bytes = payload-part edition input; is-part = refl })

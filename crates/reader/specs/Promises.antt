@@ -7,6 +7,7 @@ use Rattle.meaning.specs.Headers.{Placed, refused, accepted, read}
 use Rattle.meaning.specs.Memory.{Reply, reply, readAnswer, readRows}
 use Rattle.meaning.specs.Payload.{payloadStart, payloadEnd, payloadBytes}
 use Rattle.reader.specs.declared.Answer as declared
+use Rattle.reader.specs.declared.Part.{Part}
 use Rattle.reader.specs.declared.Stage.{Stage}
 use Rattle.reader.specs.declared.Stage.the-variants.{Go, Refused}
 use Rattle.reader.specs.Stages.{Known}
@@ -18,6 +19,13 @@ replyOf r = reply (r .answer) (r .place) (r .rows)
 pub record ReadPromise (edition : ℕ) (input before : List ℕ) (answer : declared.Answer) (after : List ℕ) : Type 0 where
   pub answers : replyOf answer ≡ readAnswer edition input before
   pub rows : after ≡ readRows edition input before
+
+-- where the payload lies
+pub record PartPromise (edition : ℕ) (input : List ℕ) (part : Part) : Type 0 where
+  pub starts : part .start ≡ payloadStart edition input
+  pub ends : part .end ≡ payloadEnd edition input
+  pub forward : part .start ≤ part .end
+  pub inside : part .end ≤ length input
 
 -- the part of the input that is handed back: its bytes, and that they are those from the payload's first place up to its end
 pub record PayloadPromise (edition : ℕ) (input part : List ℕ) : Type 0 where

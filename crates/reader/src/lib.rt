@@ -11,7 +11,7 @@ mod texts;
 
 use crate::header::read_header;
 use values::Allows;
-ghost use Rattle.reader.specs.Promises.{ReadPromise, PayloadPromise, Counted, Surveyed};
+ghost use Rattle.reader.specs.Promises.{ReadPromise, PartPromise, PayloadPromise, Counted, Surveyed};
 
 // "either a value with the place after it, or a refusal": the place and the count of rows, or document 01's number and place.
 pub enum Stage {
@@ -20,10 +20,18 @@ pub enum Stage {
 }
 
 // "The reader gives answer, place, row count."
+#[repr(C)]
 pub struct Answer {
     pub answer: u32,
     pub place: usize,
     pub rows: usize,
+}
+
+// A part of the input: its first place, and the place behind its last byte.
+#[repr(C)]
+pub struct Part {
+    pub start: usize,
+    pub end: usize,
 }
 
 // The header at the front of `input`, as rows. A refusal changes no row.
@@ -77,14 +85,27 @@ fn fill(edition: u32, input: &[u8], rows: &mut [u32], place: usize, n: usize) ->
     }
 }
 
-// "The payload is handed back as a part of the caller's own input .. on any other refusal it is the empty part at the front."
-pub fn payload<'a>(edition: u32, input: &'a [u8]) -> &'a [u8]
-    ensures { λ r. ⌜ PayloadPromise edition (now (input .entry)) (now r) ⌝ }
+// Where the payload lies: from its first byte up to the input's end, or the empty part at the front. C is given these two numbers.
+pub fn payload_part(edition: u32, input: &[u8]) -> Part
+    ensures { λ r. ⌜ PartPromise edition (now (input .entry)) r ⌝ }
 {
     let mut none = [0u32; 1];
     let r = survey(edition, input, &mut none[..0]);
     let Stage::Go { at: p, rows: _ } = r else {
-        return &input[0..0];
+        return Part { start: 0, end: 0 };
     };
-    &input[p..]
+    Part {
+        start: p,
+        end: input.len(),
+    }
+}
+
+// "The payload is handed back as a part of the caller's own input .. on any other refusal it is the empty part at the front."
+pub fn payload<'a>(edition: u32, input: &'a [u8]) -> &'a [u8]
+    ensures { λ r. ⌜ PayloadPromise edition (now (input .entry)) (now r) ⌝ }
+{
+    let part = payload_part(edition, input);
+    let start = part.start;
+    let end = part.end;
+    &input[start..end]
 }
