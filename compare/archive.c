@@ -4,6 +4,18 @@
 #include "archive.h"
 #include "second.h"
 
+struct second_reply archive_read(uint32_t edition, const uint8_t *input, size_t length, uint32_t *rows, size_t rows_length)
+{
+    struct gamulisyan_answer answer = gamulisyan_read(edition, input, length, rows, rows_length);
+    return (struct second_reply){answer.answer, answer.place, answer.rows};
+}
+
+struct second_part archive_payload(uint32_t edition, const uint8_t *input, size_t length)
+{
+    struct gamulisyan_part part = gamulisyan_payload(edition, input, length);
+    return (struct second_part){part.start, part.end - part.start};
+}
+
 static struct second_answer answer_of(struct gamulisyan_coded coded)
 {
     return (struct second_answer){coded.answer, coded.place};

@@ -1,4 +1,6 @@
 /* Put before the recorded cases' program: what the archive has, it runs over the archive instead of the second program. */
+#define second_read archive_read
+#define second_payload archive_payload
 #define second_number_decode archive_number_decode
 #define second_number_encode archive_number_encode
 #define second_date_decode archive_date_decode

@@ -11,19 +11,75 @@
 extern "C" {
 #endif
 
-/* Answers of the coders of plain values; 0 is accepted. */
+/* Answers by number: document 01 says when each is given, and which place goes with it. */
 enum {
     GAMULISYAN_ACCEPTED = 0,
+    GAMULISYAN_EDITION_UNKNOWN = 1,
+    GAMULISYAN_INPUT_ENDS = 2,
+    GAMULISYAN_IDENTIFIER_WRONG = 3,
+    GAMULISYAN_LENGTH_WRONG = 4,
+    GAMULISYAN_ENVELOPE_LIMIT = 5,
+    GAMULISYAN_ENVELOPE_ENDS = 6,
+    GAMULISYAN_CODE_WRONG = 7,
+    GAMULISYAN_TEXT_WRONG = 8,
     GAMULISYAN_DATE_WRONG = 9,
     GAMULISYAN_NUMBER_WRONG = 10,
+    GAMULISYAN_LENGTH_FORM_WIDE = 11,
+    GAMULISYAN_AGENT_LEVEL = 12,
+    GAMULISYAN_CLOSED_EARLY = 13,
+    GAMULISYAN_ROWS_SHORT = 14,
+    GAMULISYAN_TABLE_WRONG = 15,
     GAMULISYAN_OUTPUT_SHORT = 16
 };
 
-/* Kinds of a date's row. */
+enum { GAMULISYAN_EDITION_B = 1, GAMULISYAN_EDITION_D = 2 };
+
+/* A row is four numbers: kind, level, start and length of its bytes in the input or pool. */
+enum { GAMULISYAN_ROW_NUMBERS = 4 };
+
+/* Kinds of row. */
 enum {
+    GAMULISYAN_EXTENSION_OPENS = 1,
+    GAMULISYAN_BASE_OPENS = 2,
+    GAMULISYAN_REPRESENTATION_STANDARD = 3,
+    GAMULISYAN_REPRESENTATION_OWN = 4,
     GAMULISYAN_DATE_ABSOLUTE = 5,
     GAMULISYAN_DATE_FORWARD = 6,
-    GAMULISYAN_DATE_BACKWARD = 7
+    GAMULISYAN_DATE_BACKWARD = 7,
+    GAMULISYAN_RECEIVED_BY = 8,
+    GAMULISYAN_RECEIVED_FROM = 9,
+    GAMULISYAN_RECEIVED_ID = 10,
+    GAMULISYAN_RECEIVED_VIA = 11,
+    GAMULISYAN_TO_OPENS = 12,
+    GAMULISYAN_FROM_OPENS = 13,
+    GAMULISYAN_INTENDED_RECEIVER_OPENS = 14,
+    GAMULISYAN_AGENT_NAME = 15,
+    GAMULISYAN_ADDRESSES_OPEN = 16,
+    GAMULISYAN_ADDRESS = 17,
+    GAMULISYAN_RESOLVERS_OPEN = 18,
+    GAMULISYAN_EXTRA_KEY = 19,
+    GAMULISYAN_ANY_TEXT = 20,
+    GAMULISYAN_ANY_BYTES = 21,
+    GAMULISYAN_COMMENTS = 22,
+    GAMULISYAN_PAYLOAD_LENGTH = 23,
+    GAMULISYAN_PAYLOAD_ENCODING = 24,
+    GAMULISYAN_ENCRYPTED_OPENS = 25,
+    GAMULISYAN_ENCRYPTED_ITEM = 26,
+    GAMULISYAN_OWN_KEY = 27,
+    GAMULISYAN_OWN_VALUE = 28,
+    GAMULISYAN_BEHAVIOUR_OPENS = 29
+};
+
+struct gamulisyan_answer {
+    uint32_t answer;
+    size_t place; /* the header's length if accepted, else as document 01's table says */
+    size_t rows;  /* rows given; rows needed for 14; else 0 */
+};
+
+/* A part of the input: its first place, and the place behind its last byte. */
+struct gamulisyan_part {
+    size_t start;
+    size_t end;
 };
 
 struct gamulisyan_number {
@@ -53,6 +109,12 @@ struct gamulisyan_dated {
     size_t place;
     struct gamulisyan_date date;
 };
+
+/* Reads the header at the front of `input` into `rows`; `numbers` counts the uint32_t lent, four for each row. */
+struct gamulisyan_answer gamulisyan_read(uint32_t edition, const uint8_t *input, size_t length, uint32_t *rows, size_t numbers);
+
+/* Where the payload lies: from behind the header up to the input's end, or from 0 to 0 if the header is refused. */
+struct gamulisyan_part gamulisyan_payload(uint32_t edition, const uint8_t *input, size_t length);
 
 /* The payload length that all of `bytes` code. Refused: 10 at the byte that is wrong, missing or left over, value 0. */
 struct gamulisyan_number gamulisyan_number_decode(const uint8_t *bytes, size_t length);

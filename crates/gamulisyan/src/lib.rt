@@ -1,9 +1,26 @@
 // The entries under the names that C and Rust programs link, each with its whole promise; nothing else. `include/gamulisyan.h` declares them.
+ghost use Rattle.reader.specs.Promises.{ReadPromise, PartPromise};
 ghost use Rattle.values.specs.Plain.{NumberDecodes, NumberEncodes, DateDecodes, DateEncodes, plainOf};
+use reader::Answer;
+use reader::Part;
 use values::date::Date;
 use values::decode::DecodedDate;
 use values::decode::DecodedNumber;
 use values::encode::Encoded;
+
+#[no_mangle]
+pub extern "C" fn gamulisyan_read(edition: u32, input: &[u8], rows: &mut [u32]) -> Answer
+    ensures { λ r. ⌜ ReadPromise edition (now (input .entry)) (now (rows .entry)) r (now (rows .exit)) ⌝ }
+{
+    reader::read(edition, input, rows)
+}
+
+#[no_mangle]
+pub extern "C" fn gamulisyan_payload(edition: u32, input: &[u8]) -> Part
+    ensures { λ r. ⌜ PartPromise edition (now (input .entry)) r ⌝ }
+{
+    reader::payload_part(edition, input)
+}
 
 #[no_mangle]
 pub extern "C" fn gamulisyan_number_decode(bytes: &[u8]) -> DecodedNumber
