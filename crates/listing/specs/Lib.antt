@@ -1,0 +1,4 @@
+-- The text of a lent table, what a piece of it is, and the law that it is the listing of document 01.
+pub mod Text
+pub mod Pieces
+pub mod Listed
