@@ -7,7 +7,6 @@ use native.Mathlib.Omega.{arith}
 use lib.ListN.{length, getD, drop, set, length-append, length-drop, drop-of-length-le}
 use lib.Seq.{drop-cons, set-append-seam}
 use Rattle.meaning.specs.Memory.{laidOver}
-use Rattle.listing.specs.declared.Piece.{Piece}
 use Rattle.listing.specs.Pieces.{Wrote, PieceOf}
 
 lay-one : (lent front : List ℕ) (b : ℕ) → length front < length (laidOver lent front) → set (laidOver lent front) (length front) b ≡ laidOver lent (front ++ (b ∷ []))

@@ -1,18 +1,18 @@
 -- The text of what the reader answers and lends back is the listing of document 01: accepted, refused, or 14.
 -- By rows: where the next row stands in the memory, its line is that row's, since its view is the input's own bytes.
-use Prim.Native.Nat.{ℕ, zero, suc, _+_, _-_, _*_, _/_, _≤_, _<_, min}
-use mathlib.Core.List.{List, [], _∷_, _++_, append-assoc, append-nil, map}
+use Prim.Native.Nat.{ℕ, suc, _+_, _*_, _≤_}
+use mathlib.Core.List.{List, [], _∷_, _++_}
 use mathlib.Core.Bool.{Bool, true, false}
 use mathlib.Core.Path.{_≡_, refl, ap, sym, _∙_}
 use native.Mathlib.Omega.{arith}
-use borrow.Author.Tests.{leb-true, ne-eqb}
+use borrow.Author.Tests.{leb-true, le-ltb, ne-eqb}
 use lib.Dec.{T, leb}
 use lib.ListN.{length, take, drop, length-append, length-drop}
-use lib.Seq.{drop-drop, drop-append-seam}
+use lib.Seq.{drop-drop}
 use Rattle.meaning.specs.Basics.{pick}
 use Rattle.meaning.specs.Headers.{Placed, Answer, refused, accepted, read}
 use Rattle.meaning.specs.Memory.{rowWidth, numbersOf, tableOf, roomOf, laidOver, Reply, reply, readReply, readMemory, readAnswer, readRows}
-use Rattle.meaning.specs.Listing.{decimal, viewed, lineOf, firstLine, rowLine, rowLines, linesBehind, listingOf}
+use Rattle.meaning.specs.Listing.{inputMost, rowsLent, firstLine, rowLine, rowLines, listingOf, listing}
 use Rattle.laws.specs.Logic.{areBytes}
 use Rattle.laws.specs.Demands.{ViewsHeader, accepted-shape, refused-shape}
 use Rattle.listing.specs.Text.{rowOf, viewOf, rowText, linesFrom, linesOf, textAt}
@@ -47,16 +47,22 @@ laid-lines lent rs h =
 abbrev textOf : Reply → List ℕ → List ℕ → List ℕ
 textOf r rows bytes = textAt (r .answer) (r .place) (r .rows) rows bytes 0 0
 
-pub text-is-listing : (edition : ℕ) (input lent : List ℕ) → T (areBytes input)
-    → textAt (readAnswer edition input lent .answer) (readAnswer edition input lent .place) (readAnswer edition input lent .rows) (readRows edition input lent) input 0 0 ≡ listingOf (roomOf lent) (read edition input)
-unfolding readAnswer readRows textAt listingOf linesFrom laidOver
-text-is-listing edition input lent t = at (read edition input) refl
+reply-listed : (edition : ℕ) (input lent : List ℕ) → T (areBytes input) → (a : Answer) → read edition input ≡ a → textOf (readReply (roomOf lent) a) (readMemory lent a) input ≡ listingOf (roomOf lent) a
+unfolding textAt listingOf linesFrom laidOver
+reply-listed edition input lent t (refused refusal place) q = rw (refused-lines refusal 0 lent (refused-shape edition input refusal place q .0)) refl
+reply-listed edition input lent t (accepted place rs) q = fits (leb (length rs) (roomOf lent)) refl (accepted-shape edition input place rs t q .2)
   where
-    fits : (place : ℕ) (rs : List Placed) (z : Bool) → leb (length rs) (roomOf lent) ≡ z → ViewsHeader input place rs
+    fits : (z : Bool) → leb (length rs) (roomOf lent) ≡ z → ViewsHeader input place rs
         → textOf (reply (pick z 0 14) place (length rs)) (pick z (laidOver lent (tableOf rs)) lent) input ≡ firstLine (reply (pick z 0 14) place (length rs)) ++ pick z (rowLines rs) []
-    fits place rs true q v = ap (λ (x : List ℕ). firstLine (reply 0 place (length rs)) ++ x) (rw (laid-lines lent rs (leb-true (length rs) (roomOf lent) q)) (lines-listed (laidOver lent (tableOf rs)) input (drop (length (tableOf rs)) lent) place 0 rs refl v))
-    fits place rs false q v = rw (refused-lines 14 (length rs) lent (omega arith)) refl
+    fits true q v = ap (λ (x : List ℕ). firstLine (reply 0 place (length rs)) ++ x) (rw (laid-lines lent rs (leb-true (length rs) (roomOf lent) q)) (lines-listed (laidOver lent (tableOf rs)) input (drop (length (tableOf rs)) lent) place 0 rs refl v))
+    fits false q v = rw (refused-lines 14 (length rs) lent (omega arith)) refl
 
-    at : (a : Answer) → read edition input ≡ a → textOf (readReply (roomOf lent) a) (readMemory lent a) input ≡ listingOf (roomOf lent) a
-    at (refused refusal place) q = rw (refused-lines refusal 0 lent (refused-shape edition input refusal place q .0)) refl
-    at (accepted place rs) q = fits place rs (leb (length rs) (roomOf lent)) refl (accepted-shape edition input place rs t q .2)
+module _ (edition : ℕ) (input lent : List ℕ) (t : T (areBytes input)) {answer place count : ℕ} {rows : List ℕ} (replies : reply answer place count ≡ readAnswer edition input lent) (lends : rows ≡ readRows edition input lent) where
+  pub text-listed : textAt answer place count rows input 0 0 ≡ listingOf (roomOf lent) (read edition input)
+  unfolding readAnswer readRows
+  text-listed = ap (λ (r : Reply). textOf r rows input) replies ∙ ap (λ (x : List ℕ). textOf (readAnswer edition input lent) x input) lends ∙ reply-listed edition input lent t (read edition input) refl
+
+  -- "reads at most 65,536 bytes from standard input .., lends 4,096 rows"
+  pub text-whole : length input ≤ inputMost → roomOf lent ≡ rowsLent → textAt answer place count rows input 0 0 ≡ listing edition input
+  unfolding listing
+  text-whole few room = text-listed ∙ ap (λ (n : ℕ). listingOf n (read edition input)) room ∙ rw (le-ltb inputMost (length input) few) refl

@@ -3,7 +3,7 @@
 use Prim.Native.Nat.{ℕ, zero, suc, _-_, _*_, min}
 use mathlib.Core.List.{List, [], _∷_, _++_, map}
 use lib.Dec.{eqb, ltb}
-use lib.ListN.{length, getD, take, drop}
+use lib.ListN.{getD, take, drop}
 use Rattle.meaning.specs.Basics.{pick}
 use Rattle.meaning.specs.Memory.{rowWidth, roomOf, reply}
 use Rattle.meaning.specs.Listing.{decimal, hexOf, viewed, lineOf, firstLine}

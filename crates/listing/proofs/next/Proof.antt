@@ -1,6 +1,5 @@
 -- `next`: the first line, the next piece of a row, or nothing behind the last line.
 use mathlib.Core.Path.{ap, _∙_}
-use mathlib.Core.List.{List}
 use Prim.Native.Nat.{ℕ}
 use native.Mathlib.Omega.{arith}
 use borrow.Author.Needs.{needs}

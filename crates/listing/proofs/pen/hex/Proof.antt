@@ -1,5 +1,5 @@
 -- `pen::hex`: the invariant says that the first k bytes are printed.
-use Prim.Native.Nat.{ℕ, _+_, _-_, _*_, _/_, _%_, _≤_}
+use Prim.Native.Nat.{_+_, _-_, _*_, _/_, _%_, _≤_}
 use mathlib.Core.List.{[], _∷_}
 use mathlib.Core.Path.{_≡_, refl, _∙_}
 use native.Mathlib.Omega.{arith}

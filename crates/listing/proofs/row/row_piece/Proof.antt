@@ -1,7 +1,5 @@
 -- `row::row_piece`: the row's numbers at the line's beginning, else its view.
 use borrow.Author.Needs.{needs}
-use native.Mathlib.Omega.{arith}
-use Prim.Native.Nat.{_-_}
 use Rattle.listing.proofs.Pieces.{numbers-piece, view-piece}
 use Rattle.listing.proofs.row.row_piece.Statement.{statement}
 use Rattle.listing.proofs.row.row_piece.Tie as tie
