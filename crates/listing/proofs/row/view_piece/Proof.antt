@@ -1,7 +1,8 @@
 -- `row::view_piece`: no byte left, the last bytes, or as many as there is room for.
+use Prim.Native.Nat.{_+_, _-_, _/_}
+use mathlib.Core.Path.{refl}
 use native.Mathlib.Omega.{arith}
 use borrow.Author.Needs.{needs}
-use Prim.Native.Nat.{_+_, _-_, _/_}
 use lib.ListN.{length}
 use Rattle.listing.proofs.Pieces.{view-ends, view-last, view-goes}
 use Rattle.listing.proofs.row.view_piece.Statement.{statement}
@@ -20,7 +21,7 @@ returns : tie.Need-returns
 returns c =
     let a = c .before .before .before .before .before .before .before .args in
     let e = c .before .before .no-bytes .ensures in
-    view-ends (a .view .now) (a .gone) (a .line) (e .is (a .view .now) (c .before .before .before .before .if1 .taken)) (e .some)
+    view-ends (a .view .now) (a .gone) (a .line) (omega arith) (e .is (a .view .now) (c .before .before .before .before .if1 .taken)) (e .some)
 
 sub-room : tie.Need-sub-room
 sub-room c = search needs
@@ -49,7 +50,7 @@ same-length-2 c = search needs
 returns-2 : tie.Need-returns-2
 returns-2 c =
     let a = c .before .before .before .before .before .before .before .before .before .args in
-    view-last (a .view .now) (a .gone) (a .line) (c .before .before .before .before .before .before .if1 .left) (c .before .before .last-bytes .ensures)
+    view-last (a .view .now) (a .gone) (a .line) (c .before .before .before .before .before .before .if1 .left) (c .before .before .before .before .before .if2 .taken) (c .before .before .last-bytes .ensures)
 
 add-shown : tie.Need-add-shown
 add-shown c = search needs
@@ -75,7 +76,7 @@ same-length-3 c = search needs
 returns-3 : tie.Need-returns-3
 returns-3 c =
     let a = c .before .before .before .before .before .before .before .before .before .args in
-    view-goes (a .view .now) (a .gone) (a .gone + (length (a .out .now) - 1) / 2) (a .line) (omega (arith, c .before .before .before .before .before .before .before .before .before .pre .room)) (omega arith) (c .before .before .hex .ensures)
+    view-goes (a .view .now) (a .gone) (a .line) (a .gone + (length (a .out .now) - 1) / 2) refl (c .before .before .before .before .before .before .before .before .before .pre .room) (c .before .before .before .before .before .if2 .left) (c .before .before .hex .ensures)
 
 pub view-piece-spec : {M : Type 1} → statement M
 view-piece-spec =
