@@ -13,7 +13,8 @@ use Rattle.meaning.specs.Basics.{pick}
 use Rattle.meaning.specs.Memory.{roomOf, reply}
 use Rattle.meaning.specs.Listing.{decimal, hexOf, viewed, lineOf, firstLine}
 use Rattle.listing.specs.Text.{rowOf, viewOf, rowText, linesFrom, linesOf, viewFrom, rowFrom, textAt}
-use Rattle.listing.specs.Pieces.{cursor, rowStop, lineStop, stopAt, fieldsOf, ViewAt}
+use Rattle.listing.specs.Pieces.{cursor, rowStop, lineStop, stopAt}
+use Rattle.listing.specs.Stages.{fieldsOf, ViewAt}
 
 pub fields-next : (n : ℕ) (row : List ℕ) → fieldsOf (n ∷ row) ≡ (decimal n ++ (0x09 ∷ [])) ++ fieldsOf row
 unfolding fieldsOf

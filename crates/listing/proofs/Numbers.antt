@@ -9,7 +9,7 @@ use lib.Dec.{ltb}
 use lib.ListN.{length, length-append}
 use Rattle.meaning.specs.Plain.{digitsWithin, digitsOf}
 use Rattle.meaning.specs.Listing.{digitCharacter, decimal}
-use Rattle.listing.specs.Pieces.{Wrote}
+use Rattle.listing.specs.Stages.{Wrote}
 use Rattle.listing.proofs.Written.{wrote-then, wrote-as, wrote-byte}
 
 pub decimal-small : (v : ℕ) → v < 10 → decimal v ≡ digitCharacter v ∷ []

@@ -12,7 +12,8 @@ use Rattle.meaning.specs.Memory.{rowWidth, roomOf}
 use Rattle.meaning.specs.Listing.{hexOf}
 use Rattle.listing.specs.declared.Piece.{Piece}
 use Rattle.listing.specs.Text.{rowOf, viewOf, viewFrom}
-use Rattle.listing.specs.Pieces.{cursor, viewStop, rowStop, PieceOf, Wrote, ViewPiece, RowPiece, fieldsOf}
+use Rattle.listing.specs.Pieces.{cursor, viewStop, rowStop, PieceOf}
+use Rattle.listing.specs.Stages.{Wrote, ViewPiece, RowPiece, fieldsOf}
 use Rattle.listing.proofs.Written.{wrote-as, piece-of, stops-at}
 use Rattle.listing.proofs.Cursors.{view-rest, view-chunk, hex-length, fields-some}
 

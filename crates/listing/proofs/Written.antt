@@ -8,7 +8,8 @@ use lib.ListN.{length, getD, drop, set, length-append, length-drop, drop-of-leng
 use lib.Seq.{drop-cons, set-append-seam}
 use Rattle.meaning.specs.Memory.{laidOver}
 use Rattle.listing.specs.declared.Piece.{Piece}
-use Rattle.listing.specs.Pieces.{Wrote, Cursor, cursor, PieceOf}
+use Rattle.listing.specs.Pieces.{Cursor, cursor, PieceOf}
+use Rattle.listing.specs.Stages.{Wrote}
 
 lay-one : (lent front : List ℕ) (b : ℕ) → length front < length (laidOver lent front) → set (laidOver lent front) (length front) b ≡ laidOver lent (front ++ (b ∷ []))
 unfolding laidOver

@@ -3,3 +3,4 @@ pub mod Text
 pub mod Pieces
 pub mod Promised
 pub mod Listed
+pub mod Stages

@@ -12,8 +12,9 @@ ghost use Prim.Native.Nat.{_≤_};
 ghost use lib.ListN.{length};
 ghost use Rattle.meaning.specs.Memory.{reply};
 ghost use Rattle.meaning.specs.Listing.{firstLine};
-ghost use Rattle.listing.specs.Text.{linesOf, textAt};
-ghost use Rattle.listing.specs.Pieces.{PieceOf, Wrote, pieceLeast, stopAt};
+ghost use Rattle.listing.specs.Text.{linesOf};
+ghost use Rattle.listing.specs.Pieces.{NextPiece, pieceLeast};
+ghost use Rattle.listing.specs.Stages.{Wrote};
 
 // Memory that holds a first line, or a row's numbers.
 const PIECE_LEAST: usize = 64;
@@ -36,7 +37,7 @@ pub fn next(
     byte: usize,
     out: &mut [u8],
 ) -> Piece
-    ensures { λ r. ⌜ PieceOf (textAt answer place count (now (rows .entry)) (now (bytes .entry))) (stopAt answer count (now (rows .entry)) (now (bytes .entry)) line byte (length (now (out .entry)))) line byte (now (out .entry)) (now (out .exit)) r ⌝ }
+    ensures { λ r. ⌜ NextPiece answer place count (now (rows .entry)) (now (bytes .entry)) line byte (now (out .entry)) (now (out .exit)) r ⌝ }
 {
     if out.len() < PIECE_LEAST {
         return Piece {

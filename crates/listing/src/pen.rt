@@ -4,7 +4,7 @@ ghost use mathlib.Core.List.{[], _∷_, _++_};
 ghost use Prim.Native.Nat.{_+_, _*_, _≤_, _<_, _/_, _%_};
 ghost use lib.ListN.{length};
 ghost use Rattle.meaning.specs.Listing.{decimal, digitCharacter, hexCharacter, hexOf};
-ghost use Rattle.listing.specs.Pieces.{Wrote};
+ghost use Rattle.listing.specs.Stages.{Wrote};
 
 // "fields are parted by tabs, each line ends with byte 0A"
 pub const TAB: u8 = 0x09;

@@ -12,7 +12,8 @@ ghost use lib.ListN.{length};
 ghost use Rattle.meaning.specs.Memory.{rowWidth, roomOf};
 ghost use Rattle.meaning.specs.Listing.{hexOf};
 ghost use Rattle.listing.specs.Text.{rowOf, viewOf};
-ghost use Rattle.listing.specs.Pieces.{Wrote, WroteEnd, WroteField, RowPiece, ViewPiece, ViewRoom, fieldsOf, pieceLeast};
+ghost use Rattle.listing.specs.Pieces.{pieceLeast};
+ghost use Rattle.listing.specs.Stages.{Wrote, WroteEnd, WroteField, RowPiece, ViewPiece, ViewRoom, fieldsOf};
 
 // "A row is four u32 numbers"
 pub const ROW_WIDTH: usize = 4;

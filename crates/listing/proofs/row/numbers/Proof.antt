@@ -5,7 +5,7 @@ use mathlib.Core.Path.{_≡_, refl, _∙_}
 use native.Mathlib.Omega.{arith}
 use lib.ListN.{length}
 use Rattle.meaning.specs.Listing.{decimal}
-use Rattle.listing.specs.Pieces.{fieldsOf}
+use Rattle.listing.specs.Stages.{fieldsOf}
 use Rattle.listing.proofs.Written.{Printing, printing-begins, printing-goes, printing-ends}
 use Rattle.listing.proofs.Cursors.{fields-next, fields-none}
 use Rattle.listing.proofs.row.numbers.Statement.{statement}
