@@ -13,7 +13,6 @@ use Rattle.meaning.specs.Basics.{pick}
 use Rattle.meaning.specs.Memory.{roomOf, reply}
 use Rattle.meaning.specs.Listing.{decimal, hexOf, viewed, lineOf, firstLine}
 use Rattle.listing.specs.Text.{rowOf, viewOf, rowText, linesFrom, linesOf, viewFrom, rowFrom, textAt}
-use Rattle.listing.specs.Pieces.{cursor, rowStop, lineStop, stopAt}
 use Rattle.listing.specs.Stages.{fieldsOf, ViewAt}
 
 pub fields-next : (n : ℕ) (row : List ℕ) → fieldsOf (n ∷ row) ≡ (decimal n ++ (0x09 ∷ [])) ++ fieldsOf row
@@ -89,34 +88,6 @@ lines-within answer count rows = by (eqb answer 0)
     by : (z : Bool) → pick z (min count (roomOf rows)) 0 ≤ roomOf rows
     by true = omega arith
     by false = omega arith
-
--- where a piece stops, by the tests of the code
-module _ (answer count : ℕ) (rows bytes : List ℕ) (line byte room : ℕ) where
-  pub stop-short : room < 64 → cursor line byte ≡ stopAt answer count rows bytes line byte room
-  unfolding stopAt
-  stop-short h = rw (lt-ltb room 64 h) refl
-
-  module _ (h : 64 ≤ room) where
-    in-line : lineStop room (linesOf answer count rows) rows bytes line byte ≡ stopAt answer count rows bytes line byte room
-    unfolding stopAt
-    in-line = rw (le-ltb room 64 h) refl
-
-    pub stop-first : line ≡ 0 → cursor 1 0 ≡ stopAt answer count rows bytes line byte room
-    stop-first l = sym (ap (λ (k : ℕ). lineStop room (linesOf answer count rows) rows bytes k byte) l) ∙ in-line
-
-    pub stop-over : linesOf answer count rows < line → cursor line byte ≡ stopAt answer count rows bytes line byte room
-    stop-over l = over line l ∙ in-line
-      where
-        over : (line : ℕ) → linesOf answer count rows < line → cursor line byte ≡ lineStop room (linesOf answer count rows) rows bytes line byte
-        over zero l = absurd (omega arith)
-        over (suc i) l = rw (le-ltb i (linesOf answer count rows) (omega arith)) refl
-
-    pub stop-row : 1 ≤ line → line ≤ linesOf answer count rows → rowStop room line (length (viewOf (rowOf rows (line - 1)) bytes)) byte ≡ stopAt answer count rows bytes line byte room
-    stop-row some l = row line some l ∙ in-line
-      where
-        row : (line : ℕ) → 1 ≤ line → line ≤ linesOf answer count rows → rowStop room line (length (viewOf (rowOf rows (line - 1)) bytes)) byte ≡ lineStop room (linesOf answer count rows) rows bytes line byte
-        row zero some l = absurd (omega arith)
-        row (suc i) some l = let q : suc i - 1 ≡ i = omega arith in rw (q, lt-ltb i (linesOf answer count rows) (omega arith)) refl
 
 -- the lines of the rows from i on
 module _ (answer place count : ℕ) (rows bytes : List ℕ) where

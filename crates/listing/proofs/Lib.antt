@@ -3,3 +3,4 @@ pub mod Written
 pub mod Numbers
 pub mod Cursors
 pub mod Pieces
+pub mod Answers

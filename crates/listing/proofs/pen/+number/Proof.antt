@@ -22,37 +22,40 @@ number-at t = and 1 number-kinds.ps (is 1 number-kinds.ps μ-number t) number.Pr
 abbrev number-below : ℕ → In 1 number-kinds.ps
 number-below t = and 1 number-kinds.ps (falls 1 number-kinds.ps _<_ μ-number t) number.Pre
 
-number-digit-requires : (t : ℕ) → number-lts.Need-digit-requires (digit-reads.Asked, digit-reads.Learnt, put-reads.Asked, put-reads.Learnt, number-below t, number.Post) (number-at t) number.Post
+abbrev calls : ℕ → number-lts.Claims
+calls t = (digit-reads.Asked, digit-reads.Learnt, put-reads.Asked, put-reads.Learnt, number-below t, number.Post)
+
+number-digit-requires : (t : ℕ) → number-lts.Need-digit-requires (calls t) (number-at t) number.Post
 number-digit-requires t c κs = c .if1 .taken
 
-number-put-requires : (t : ℕ) → number-lts.Need-put-requires (digit-reads.Asked, digit-reads.Learnt, put-reads.Asked, put-reads.Learnt, number-below t, number.Post) (number-at t) number.Post
+number-put-requires : (t : ℕ) → number-lts.Need-put-requires (calls t) (number-at t) number.Post
 number-put-requires t c κs = omega (arith, c .before .before .before .before .pre .1, decimal-some (c .before .before .before .before .args .value))
 
-number-same-length : (t : ℕ) → number-lts.Need-same-length (digit-reads.Asked, digit-reads.Learnt, put-reads.Asked, put-reads.Learnt, number-below t, number.Post) (number-at t) number.Post
+number-same-length : (t : ℕ) → number-lts.Need-same-length (calls t) (number-at t) number.Post
 number-same-length t c = c .before .before .put .kept .1 .0
 
-number-returns : (t : ℕ) → number-lts.Need-returns (digit-reads.Asked, digit-reads.Learnt, put-reads.Asked, put-reads.Learnt, number-below t, number.Post) (number-at t) number.Post
+number-returns : (t : ℕ) → number-lts.Need-returns (calls t) (number-at t) number.Post
 number-returns t c = wrote-small (c .before .before .before .before .before .before .before .args .value) (c .before .before .before .before .before .if1 .taken) (c .before .before .before .before .digit .ensures) (c .before .before .put .ensures)
 
-number-number-requires : (t : ℕ) → number-lts.Need-number-requires (digit-reads.Asked, digit-reads.Learnt, put-reads.Asked, put-reads.Learnt, number-below t, number.Post) (number-at t) number.Post
+number-number-requires : (t : ℕ) → number-lts.Need-number-requires (calls t) (number-at t) number.Post
 number-number-requires t c κs = (omega (arith, c .before .before .before .pre .0, c .before .if1 .left), omega (arith, c .before .before .before .pre .1, decimal-longer (c .before .before .before .args .value) (c .before .if1 .left)))
 
-number-digit-requires-2 : (t : ℕ) → number-lts.Need-digit-requires-2 (digit-reads.Asked, digit-reads.Learnt, put-reads.Asked, put-reads.Learnt, number-below t, number.Post) (number-at t) number.Post
+number-digit-requires-2 : (t : ℕ) → number-lts.Need-digit-requires-2 (calls t) (number-at t) number.Post
 number-digit-requires-2 t c κs = omega arith
 
-number-put-requires-2 : (t : ℕ) → number-lts.Need-put-requires-2 (digit-reads.Asked, digit-reads.Learnt, put-reads.Asked, put-reads.Learnt, number-below t, number.Post) (number-at t) number.Post
+number-put-requires-2 : (t : ℕ) → number-lts.Need-put-requires-2 (calls t) (number-at t) number.Post
 number-put-requires-2 t c κs = omega (arith, c .before .before .before .before .before .before .before .before .pre .1, c .before .before .before .before .number .ensures .ends, c .before .before .before .before .number .kept .1 .0, decimal-longer (c .before .before .before .before .before .before .before .before .args .value) (c .before .before .before .before .before .before .if1 .left))
 
-number-same-length-2 : (t : ℕ) → number-lts.Need-same-length-2 (digit-reads.Asked, digit-reads.Learnt, put-reads.Asked, put-reads.Learnt, number-below t, number.Post) (number-at t) number.Post
+number-same-length-2 : (t : ℕ) → number-lts.Need-same-length-2 (calls t) (number-at t) number.Post
 number-same-length-2 t c = c .before .before .put2 .kept .1 .0 ∙ c .before .before .before .before .before .before .before .number .kept .1 .0
 
-number-returns-2 : (t : ℕ) → number-lts.Need-returns-2 (digit-reads.Asked, digit-reads.Learnt, put-reads.Asked, put-reads.Learnt, number-below t, number.Post) (number-at t) number.Post
+number-returns-2 : (t : ℕ) → number-lts.Need-returns-2 (calls t) (number-at t) number.Post
 number-returns-2 t c = wrote-more (c .before .before .before .before .before .before .before .before .before .before .before .args .value) (c .before .before .before .before .before .before .before .before .before .if1 .left) (c .before .before .before .before .before .before .before .number .ensures) (c .before .before .before .before .digit2 .ensures) (c .before .before .put2 .ensures)
 
 pub +number-spec : {M : Type 1} → statement M
 +number-spec =
     close μ-number
-    (λ t. number-lts.spec (digit-reads.Asked, digit-reads.Learnt, put-reads.Asked, put-reads.Learnt, number-below t, number.Post) (number-at t) number.Post
+    (λ t. number-lts.spec (calls t) (number-at t) number.Post
     (number-digit-requires t)
     (number-put-requires t)
     (number-same-length t)
