@@ -12,7 +12,7 @@ use Rattle.meaning.specs.Memory.{rowWidth, roomOf}
 use Rattle.meaning.specs.Listing.{hexOf}
 use Rattle.listing.specs.declared.Piece.{Piece}
 use Rattle.listing.specs.Text.{rowOf, viewOf, viewFrom}
-use Rattle.listing.specs.Pieces.{cursor, viewStop, rowStop, PieceOf}
+use Rattle.listing.specs.Pieces.{pieceLeast, cursor, viewStop, rowStop, PieceOf}
 use Rattle.listing.specs.Stages.{Wrote, ViewPiece, RowPiece, fieldsOf}
 use Rattle.listing.proofs.Written.{wrote-as, piece-of, stops-at}
 use Rattle.listing.proofs.Cursors.{view-rest, view-chunk, hex-length, fields-some}
@@ -31,7 +31,7 @@ module _ (view : List ℕ) (gone line : ℕ) {before after : List ℕ} {end : �
       let q = ap hexOf (take-all (length view - gone) (drop gone view) (omega (arith, length-drop gone view))) ∙ sym (view-rest view gone h) in
       view-ends room (wrote-as (ap (λ (x : List ℕ). x ++ (0x0a ∷ [])) q) w) (omega (arith, w .ends, length-append (hexOf rest) (0x0a ∷ [])))
 
-  pub view-goes : (shown : ℕ) → shown ≡ gone + (length before - 1) / 2 → 64 ≤ length before → (length before - 1) / 2 < length view - gone → Wrote before after 0 (hexOf (take (shown - gone) (drop gone view))) end
+  pub view-goes : (shown : ℕ) → shown ≡ gone + (length before - 1) / 2 → pieceLeast ≤ length before → (length before - 1) / 2 < length view - gone → Wrote before after 0 (hexOf (take (shown - gone) (drop gone view))) end
       → ViewPiece view gone line before after (record { length = end; line = line; byte = shown + 1 })
   view-goes shown is some room w =
       let chunk = take (shown - gone) (drop gone view) in

@@ -8,7 +8,7 @@ use lib.ListN.{length, getD, drop, set, length-append, length-drop, drop-of-leng
 use lib.Seq.{drop-cons, set-append-seam}
 use Rattle.meaning.specs.Memory.{laidOver}
 use Rattle.listing.specs.declared.Piece.{Piece}
-use Rattle.listing.specs.Pieces.{Cursor, cursor, PieceOf}
+use Rattle.listing.specs.Pieces.{pieceLeast, Cursor, cursor, PieceOf}
 use Rattle.listing.specs.Stages.{Wrote}
 
 lay-one : (lent front : List ℕ) (b : ℕ) → length front < length (laidOver lent front) → set (laidOver lent front) (length front) b ≡ laidOver lent (front ++ (b ∷ []))
@@ -77,7 +77,7 @@ piece-of {before = before} {bytes = bytes} w q h =
     record { piece = bytes; is = q; stops = refl; lays = w .over before [] refl refl; long = w .ends ∙ omega arith; goes = λ room none. absurd (omega arith) }
 
 -- no piece: the text ends here, or the memory is short
-pub no-piece : {text : ℕ → ℕ → List ℕ} {line byte : ℕ} {before : List ℕ} → (64 ≤ length before → text line byte ≡ []) → PieceOf text (cursor line byte) line byte before before (record { length = 0; line = line; byte = byte })
+pub no-piece : {text : ℕ → ℕ → List ℕ} {line byte : ℕ} {before : List ℕ} → (pieceLeast ≤ length before → text line byte ≡ []) → PieceOf text (cursor line byte) line byte before before (record { length = 0; line = line; byte = byte })
 unfolding laidOver
 no-piece e = record { piece = []; is = refl; stops = refl; lays = refl; long = refl; goes = λ room none. e room }
 

@@ -38,7 +38,8 @@ unfoldable pub rowFrom : List ℕ → List ℕ → ℕ → ℕ → List ℕ
 rowFrom rows bytes i zero = rowText rows bytes i
 rowFrom rows bytes i (suc k) = viewFrom (viewOf (rowOf rows i) bytes) k ++ (0x0a ∷ [])
 
--- what is still to print from a cursor on: line 0 is the first line, line i + 1 that of row i
+-- what is still to print from a cursor on: line 0 is the first line, line i + 1 that of row i; byte 0 is a line's beginning,
+-- byte 1 + k stands behind its numbers and k bytes of its view
 unfoldable pub textAt : ℕ → ℕ → ℕ → List ℕ → List ℕ → ℕ → ℕ → List ℕ
 textAt answer place count rows bytes zero byte = firstLine (reply answer place count) ++ linesFrom rows bytes 0 (linesOf answer count rows)
 textAt answer place count rows bytes (suc i) byte =

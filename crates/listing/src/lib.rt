@@ -19,14 +19,16 @@ ghost use Rattle.listing.specs.Stages.{Wrote};
 // Memory that holds a first line, or a row's numbers.
 const PIECE_LEAST: usize = 64;
 
-// How many bytes were written, and the cursor behind them. A cursor is a line and 0, or 1 and so many bytes of its row's view.
+// How many bytes were written, and the cursor behind them. Line 0 is the first line, line i + 1 that of row i;
+// byte 0 is a line's beginning, byte 1 + k stands behind its numbers and k bytes of its view.
 pub struct Piece {
     pub length: usize,
     pub line: usize,
     pub byte: usize,
 }
 
-// The next piece of the text, over the front of `out`; nothing behind it changes.
+// The next piece of the text, over the front of `out`; nothing behind it changes. Any numbers and any cursor have an answer.
+// No bytes mean that the text is at its end, or that `out` has fewer than 64.
 pub fn next(
     answer: u32,
     place: usize,

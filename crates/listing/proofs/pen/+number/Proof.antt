@@ -29,28 +29,47 @@ number-digit-requires : (t : ℕ) → number-lts.Need-digit-requires (calls t) (
 number-digit-requires t c κs = c .if1 .taken
 
 number-put-requires : (t : ℕ) → number-lts.Need-put-requires (calls t) (number-at t) number.Post
-number-put-requires t c κs = omega (arith, c .before .before .before .before .pre .1, decimal-some (c .before .before .before .before .args .value))
+number-put-requires t c κs =
+    let start = c .before .before .before .before in
+    omega (arith, start .pre .1, decimal-some (start .args .value))
 
 number-same-length : (t : ℕ) → number-lts.Need-same-length (calls t) (number-at t) number.Post
 number-same-length t c = c .before .before .put .kept .1 .0
 
 number-returns : (t : ℕ) → number-lts.Need-returns (calls t) (number-at t) number.Post
-number-returns t c = wrote-small (c .before .before .before .before .before .before .before .args .value) (c .before .before .before .before .before .if1 .taken) (c .before .before .before .before .digit .ensures) (c .before .before .put .ensures)
+number-returns t c =
+    let start = c .before .before .before .before .before .before .before in
+    let at-if1 = c .before .before .before .before .before in
+    let at-digit = c .before .before .before .before in
+    wrote-small (start .args .value) (at-if1 .if1 .taken) (at-digit .digit .ensures) (c .before .before .put .ensures)
 
 number-number-requires : (t : ℕ) → number-lts.Need-number-requires (calls t) (number-at t) number.Post
-number-number-requires t c κs = (omega (arith, c .before .before .before .pre .0, c .before .if1 .left), omega (arith, c .before .before .before .pre .1, decimal-longer (c .before .before .before .args .value) (c .before .if1 .left)))
+number-number-requires t c κs =
+    let start = c .before .before .before in
+    (omega (arith, start .pre .0, c .before .if1 .left), omega (arith, start .pre .1, decimal-longer (start .args .value) (c .before .if1 .left)))
 
 number-digit-requires-2 : (t : ℕ) → number-lts.Need-digit-requires-2 (calls t) (number-at t) number.Post
 number-digit-requires-2 t c κs = omega arith
 
 number-put-requires-2 : (t : ℕ) → number-lts.Need-put-requires-2 (calls t) (number-at t) number.Post
-number-put-requires-2 t c κs = omega (arith, c .before .before .before .before .before .before .before .before .pre .1, c .before .before .before .before .number .ensures .ends, c .before .before .before .before .number .kept .1 .0, decimal-longer (c .before .before .before .before .before .before .before .before .args .value) (c .before .before .before .before .before .before .if1 .left))
+number-put-requires-2 t c κs =
+    let start = c .before .before .before .before .before .before .before .before in
+    let at-if1 = c .before .before .before .before .before .before in
+    let at-number = c .before .before .before .before in
+    omega (arith, start .pre .1, at-number .number .ensures .ends, at-number .number .kept .1 .0, decimal-longer (start .args .value) (at-if1 .if1 .left))
 
 number-same-length-2 : (t : ℕ) → number-lts.Need-same-length-2 (calls t) (number-at t) number.Post
-number-same-length-2 t c = c .before .before .put2 .kept .1 .0 ∙ c .before .before .before .before .before .before .before .number .kept .1 .0
+number-same-length-2 t c =
+    let at-number = c .before .before .before .before .before .before .before in
+    c .before .before .put2 .kept .1 .0 ∙ at-number .number .kept .1 .0
 
 number-returns-2 : (t : ℕ) → number-lts.Need-returns-2 (calls t) (number-at t) number.Post
-number-returns-2 t c = wrote-more (c .before .before .before .before .before .before .before .before .before .before .before .args .value) (c .before .before .before .before .before .before .before .before .before .if1 .left) (c .before .before .before .before .before .before .before .number .ensures) (c .before .before .before .before .digit2 .ensures) (c .before .before .put2 .ensures)
+number-returns-2 t c =
+    let start = c .before .before .before .before .before .before .before .before .before .before .before in
+    let at-if1 = c .before .before .before .before .before .before .before .before .before in
+    let at-number = c .before .before .before .before .before .before .before in
+    let at-digit2 = c .before .before .before .before in
+    wrote-more (start .args .value) (at-if1 .if1 .left) (at-number .number .ensures) (at-digit2 .digit2 .ensures) (c .before .before .put2 .ensures)
 
 pub +number-spec : {M : Type 1} → statement M
 +number-spec =

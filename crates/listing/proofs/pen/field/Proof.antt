@@ -9,13 +9,20 @@ number-requires : tie.Need-number-requires
 number-requires c κs = omega (arith, c .before .before .pre)
 
 put-requires : tie.Need-put-requires
-put-requires c κs = omega (arith, c .before .before .before .before .before .before .pre, c .before .before .before .number .ensures .ends, c .before .before .before .number .kept .1 .0)
+put-requires c κs =
+    let start = c .before .before .before .before .before .before in
+    let at-number = c .before .before .before in
+    omega (arith, start .pre, at-number .number .ensures .ends, at-number .number .kept .1 .0)
 
 same-length : tie.Need-same-length
-same-length c = c .before .before .put .kept .1 .0 ∙ c .before .before .before .before .before .before .number .kept .1 .0
+same-length c =
+    let at-number = c .before .before .before .before .before .before in
+    c .before .before .put .kept .1 .0 ∙ at-number .number .kept .1 .0
 
 returns : tie.Need-returns
-returns c = wrote-then (c .before .before .before .before .before .before .number .ensures) (c .before .before .put .ensures)
+returns c =
+    let at-number = c .before .before .before .before .before .before in
+    wrote-then (at-number .number .ensures) (c .before .before .put .ensures)
 
 pub field-spec : {M : Type 1} → statement M
 field-spec = tie.close (tie.spec number-requires put-requires same-length returns)

@@ -22,7 +22,9 @@ shared-slice-read-pair : tie.Need-shared-slice-read-pair Inv-loop μ-loop
 shared-slice-read-pair c = omega arith
 
 pair-requires : tie.Need-pair-requires Inv-loop μ-loop
-pair-requires c κs = omega (arith, c .before .before .before .before .before .before .pre)
+pair-requires c κs =
+    let start = c .before .before .before .before .before .before in
+    omega (arith, start .pre)
 
 add-k : tie.Need-add-k Inv-loop μ-loop
 add-k c = omega arith
@@ -32,9 +34,11 @@ loop-less c = omega arith
 
 loop-again : tie.Need-loop-again Inv-loop μ-loop
 loop-again c =
-    let l = c .before .before .before .before .before .before .loop in
+    let at-loop = c .before .before .before .before .before .before in
+    let at-loop-test = c .before .before .before .before .before in
+    let l = at-loop .loop in
     let w = c .before .before .pair .ensures in
-    (omega arith, omega (arith, w .ends), c .before .before .pair .kept .1 .0 ∙ l .inv .2, printing-goes (λ b. hexCharacter (b / 16) ∷ hexCharacter (b % 16) ∷ []) (λ x xs. refl) (l .inv .3) (c .before .before .before .before .before .loop-test .taken) w)
+    (omega arith, omega (arith, w .ends), c .before .before .pair .kept .1 .0 ∙ l .inv .2, printing-goes (λ b. hexCharacter (b / 16) ∷ hexCharacter (b % 16) ∷ []) (λ x xs. refl) (l .inv .3) (at-loop-test .loop-test .taken) w)
 
 same-length : tie.Need-same-length Inv-loop μ-loop
 same-length c = c .before .loop .inv .2

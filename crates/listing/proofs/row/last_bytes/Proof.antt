@@ -10,13 +10,18 @@ hex-requires : tie.Need-hex-requires
 hex-requires c κs = search needs
 
 put-requires : tie.Need-put-requires
-put-requires c κs = omega (arith, c .before .before .before .before .before .before .before .pre, c .before .before .before .hex .ensures .ends, c .before .before .before .hex .kept .1 .0, hex-length (c .before .before .before .before .before .before .before .args .rest .now))
+put-requires c κs =
+    let start = c .before .before .before .before .before .before .before in
+    let at-hex = c .before .before .before in
+    omega (arith, start .pre, at-hex .hex .ensures .ends, at-hex .hex .kept .1 .0, hex-length (start .args .rest .now))
 
 same-length : tie.Need-same-length
 same-length c = search needs
 
 returns : tie.Need-returns
-returns c = wrote-then (c .before .before .before .before .before .before .hex .ensures) (c .before .before .put .ensures)
+returns c =
+    let at-hex = c .before .before .before .before .before .before in
+    wrote-then (at-hex .hex .ensures) (c .before .before .put .ensures)
 
 pub last-bytes-spec : {M : Type 1} → statement M
 last-bytes-spec = tie.close (tie.spec hex-requires put-requires same-length returns)

@@ -20,9 +20,12 @@ same-length c = search needs
 
 returns : tie.Need-returns
 returns c =
-    let w = wrote-then (c .before .before .before .before .before .before .put .ensures) (c .before .before .put2 .ensures) in
+    let start = c .before .before .before .before .before .before .before .before .before .before in
+    let at-if1 = c .before .before .before .before .before .before .before .before in
+    let at-put = c .before .before .before .before .before .before in
+    let w = wrote-then (at-put .put .ensures) (c .before .before .put2 .ensures) in
     record {
-      is = λ view h. wrote-as (ap (λ (x : List ℕ). x ++ (0x0a ∷ [])) (sym (view-none view (c .before .before .before .before .before .before .before .before .before .before .args .gone) (c .before .before .before .before .before .before .before .before .if1 .taken) h))) w;
+      is = λ view h. wrote-as (ap (λ (x : List ℕ). x ++ (0x0a ∷ [])) (sym (view-none view (start .args .gone) (at-if1 .if1 .taken) h))) w;
       some = omega (arith, w .ends);
     }
 
@@ -34,9 +37,11 @@ same-length-2 c = search needs
 
 returns-2 : tie.Need-returns-2
 returns-2 c =
+    let start = c .before .before .before .before .before .before in
+    let at-if1 = c .before .before .before .before in
     let w = c .before .before .put3 .ensures in
     record {
-      is = λ view h. wrote-as (ap (λ (x : List ℕ). x ++ (0x0a ∷ [])) (sym (view-over view (c .before .before .before .before .before .before .args .gone) (c .before .before .before .before .if1 .left) h))) w;
+      is = λ view h. wrote-as (ap (λ (x : List ℕ). x ++ (0x0a ∷ [])) (sym (view-over view (start .args .gone) (at-if1 .if1 .left) h))) w;
       some = omega (arith, w .ends);
     }
 

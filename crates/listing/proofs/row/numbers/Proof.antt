@@ -27,7 +27,9 @@ shared-slice-read-row-field : tie.Need-shared-slice-read-row-field Inv-loop μ-l
 shared-slice-read-row-field c = omega arith
 
 row-field-requires : tie.Need-row-field-requires Inv-loop μ-loop
-row-field-requires c κs = omega (arith, c .before .before .before .before .before .before .pre)
+row-field-requires c κs =
+    let start = c .before .before .before .before .before .before in
+    omega (arith, start .pre)
 
 add-j : tie.Need-add-j Inv-loop μ-loop
 add-j c = omega arith
@@ -37,9 +39,11 @@ loop-less c = omega arith
 
 loop-again : tie.Need-loop-again Inv-loop μ-loop
 loop-again c =
-    let l = c .before .before .before .before .before .before .loop in
+    let at-loop = c .before .before .before .before .before .before in
+    let at-loop-test = c .before .before .before .before .before in
+    let l = at-loop .loop in
     let w = c .before .before .row-field .ensures in
-    (omega arith, omega (arith, w .few), c .before .before .row-field .kept .1 .0 ∙ l .inv .2, printing-goes (λ n. decimal n ++ (0x09 ∷ [])) fields-next (l .inv .3) (c .before .before .before .before .before .loop-test .taken) (w .wrote))
+    (omega arith, omega (arith, w .few), c .before .before .row-field .kept .1 .0 ∙ l .inv .2, printing-goes (λ n. decimal n ++ (0x09 ∷ [])) fields-next (l .inv .3) (at-loop-test .loop-test .taken) (w .wrote))
 
 same-length : tie.Need-same-length Inv-loop μ-loop
 same-length c = c .before .loop .inv .2

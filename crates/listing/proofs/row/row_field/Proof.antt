@@ -11,7 +11,9 @@ same-length : tie.Need-same-length
 same-length c = c .before .before .field .kept .1 .1 .0
 
 returns : tie.Need-returns
-returns c = let w = c .before .before .field .ensures in record { wrote = w; few = omega (arith, field-end (c .before .before .before .before .before .args .number) 9 w, ten-digits (c .before .before .before .before .before .args .number) (omega arith)) }
+returns c =
+    let start = c .before .before .before .before .before in
+    let w = c .before .before .field .ensures in record { wrote = w; few = omega (arith, field-end (start .args .number) 9 w, ten-digits (start .args .number) (omega arith)) }
 
 pub row-field-spec : {M : Type 1} → statement M
 row-field-spec = tie.close (tie.spec field-requires same-length returns)

@@ -33,8 +33,10 @@ same-length c = search needs
 
 returns : tie.Need-returns
 returns c =
-    let a = c .before .before .before .before .before .before .before .before .before .args in
-    numbers-piece (a .rows .now) (a .bytes .now) (a .line) (a .byte) (c .before .before .before .before .if1 .taken) (c .before .before .before .before .before .before .before .before .before .pre .0) (c .before .before .before .before .before .before .before .before .before .pre .1) (c .before .before .numbers .ensures)
+    let start = c .before .before .before .before .before .before .before .before .before in
+    let at-if1 = c .before .before .before .before in
+    let a = start .args in
+    numbers-piece (a .rows .now) (a .bytes .now) (a .line) (a .byte) (at-if1 .if1 .taken) (start .pre .0) (start .pre .1) (c .before .before .numbers .ensures)
 
 sub-view-line : tie.Need-sub-view-line
 sub-view-line c = search needs
@@ -47,8 +49,10 @@ same-length-2 c = search needs
 
 returns-2 : tie.Need-returns-2
 returns-2 c =
-    let a = c .before .before .before .before .before .before .before .before .before .args in
-    view-piece (a .rows .now) (a .bytes .now) (a .line) (a .byte) (c .before .before .before .before .if1 .left) (c .before .before .view-line .ensures)
+    let start = c .before .before .before .before .before .before .before .before .before in
+    let at-if1 = c .before .before .before .before in
+    let a = start .args in
+    view-piece (a .rows .now) (a .bytes .now) (a .line) (a .byte) (at-if1 .if1 .left) (c .before .before .view-line .ensures)
 
 pub row-piece-spec : {M : Type 1} → statement M
 row-piece-spec =

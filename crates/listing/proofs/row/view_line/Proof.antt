@@ -38,7 +38,11 @@ same-length : tie.Need-same-length
 same-length c = search needs
 
 returns : tie.Need-returns
-returns c = view-held (c .before .before .before .before .before .before .before .before .before .before .before .before .args .row .now) (c .before .before .before .before .before .before .before .before .before .before .before .before .args .bytes .now) (c .before .before .before .before .before .before .before .least .ensures) (c .before .before .before .before .before .least2 .ensures) (c .before .before .view-piece .ensures)
+returns c =
+    let start = c .before .before .before .before .before .before .before .before .before .before .before .before in
+    let at-least = c .before .before .before .before .before .before .before in
+    let at-least2 = c .before .before .before .before .before in
+    view-held (start .args .row .now) (start .args .bytes .now) (at-least .least .ensures) (at-least2 .least2 .ensures) (c .before .before .view-piece .ensures)
 
 pub view-line-spec : {M : Type 1} → statement M
 view-line-spec =

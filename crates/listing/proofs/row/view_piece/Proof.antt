@@ -19,9 +19,11 @@ same-length c = search needs
 
 returns : tie.Need-returns
 returns c =
-    let a = c .before .before .before .before .before .before .before .args in
+    let start = c .before .before .before .before .before .before .before in
+    let at-if1 = c .before .before .before .before in
+    let a = start .args in
     let e = c .before .before .no-bytes .ensures in
-    view-ends (a .view .now) (a .gone) (a .line) (omega arith) (e .is (a .view .now) (c .before .before .before .before .if1 .taken)) (e .some)
+    view-ends (a .view .now) (a .gone) (a .line) (omega arith) (e .is (a .view .now) (at-if1 .if1 .taken)) (e .some)
 
 sub-room : tie.Need-sub-room
 sub-room c = search needs
@@ -49,8 +51,11 @@ same-length-2 c = search needs
 
 returns-2 : tie.Need-returns-2
 returns-2 c =
-    let a = c .before .before .before .before .before .before .before .before .before .args in
-    view-last (a .view .now) (a .gone) (a .line) (c .before .before .before .before .before .before .if1 .left) (c .before .before .before .before .before .if2 .taken) (c .before .before .last-bytes .ensures)
+    let start = c .before .before .before .before .before .before .before .before .before in
+    let at-if1 = c .before .before .before .before .before .before in
+    let at-if2 = c .before .before .before .before .before in
+    let a = start .args in
+    view-last (a .view .now) (a .gone) (a .line) (at-if1 .if1 .left) (at-if2 .if2 .taken) (c .before .before .last-bytes .ensures)
 
 add-shown : tie.Need-add-shown
 add-shown c = search needs
@@ -75,8 +80,10 @@ same-length-3 c = search needs
 
 returns-3 : tie.Need-returns-3
 returns-3 c =
-    let a = c .before .before .before .before .before .before .before .before .before .args in
-    view-goes (a .view .now) (a .gone) (a .line) (a .gone + (length (a .out .now) - 1) / 2) refl (c .before .before .before .before .before .before .before .before .before .pre .room) (c .before .before .before .before .before .if2 .left) (c .before .before .hex .ensures)
+    let start = c .before .before .before .before .before .before .before .before .before in
+    let at-if2 = c .before .before .before .before .before in
+    let a = start .args in
+    view-goes (a .view .now) (a .gone) (a .line) (a .gone + (length (a .out .now) - 1) / 2) refl (start .pre .room) (at-if2 .if2 .left) (c .before .before .hex .ensures)
 
 pub view-piece-spec : {M : Type 1} → statement M
 view-piece-spec =
