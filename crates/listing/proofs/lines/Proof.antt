@@ -1,0 +1,22 @@
+-- `lines` is its definition, test by test.
+use mathlib.Core.Path.{refl}
+use native.Mathlib.Omega.{arith}
+use borrow.Author.Tests.{eq-eqb, ne-eqb}
+use Rattle.listing.specs.Text.{linesOf}
+use Rattle.listing.proofs.lines.Statement.{statement}
+use Rattle.listing.proofs.lines.Tie as tie
+
+returns : tie.Need-returns
+unfolding linesOf
+returns c = rw (ne-eqb (c .before .args .answer) 0 (c .if1 .taken)) refl
+
+returns-2 : tie.Need-returns-2
+unfolding linesOf
+returns-2 c = rw (eq-eqb (c .before .before .args .answer) 0 (c .before .if1 .left)) (omega arith)
+
+returns-3 : tie.Need-returns-3
+unfolding linesOf
+returns-3 c = rw (eq-eqb (c .before .before .args .answer) 0 (c .before .if1 .left)) (omega arith)
+
+pub lines-spec : {M : Type 1} → statement M
+lines-spec = tie.close (tie.spec returns returns-2 returns-3)
