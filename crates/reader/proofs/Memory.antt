@@ -1,23 +1,22 @@
 -- The two passes agree, and rows stored one by one are the table laid over the lent memory. Only `put-over` knows how many numbers a row has.
-use Prim.Native.Nat.{ℕ, zero, suc, _+_, _-_, _*_, _/_, _≤_, _<_}
+use Prim.Native.Nat.{ℕ, zero, suc, _+_, _-_, _*_, _≤_, _<_}
 use mathlib.Core.List.{List, [], _∷_, _++_, append-assoc}
-use mathlib.Core.Bool.{Bool, true, false}
+use mathlib.Core.Bool.{true, false}
 use mathlib.Core.Path.{_≡_, refl, ap, sym, _∙_}
 use native.Mathlib.Nat.{zero-add}
 use native.Mathlib.Omega.{arith}
-use lib.Dec.{eqb, leb}
+use lib.Dec.{leb}
 use lib.ListN.{length, set, take, drop, length-append, length-drop}
 use lib.Seq.{take-all}
 use borrow.Author.Tests.{le-leb, lt-leb, ne-eqb}
-use Rattle.meaning.specs.Basics.{pick}
 use Rattle.meaning.specs.Editions.{Edition, B, D, known, labelOf}
-use Rattle.meaning.specs.Headers.{Placed, Answer, refused, accepted, envelopesMost, header, labelled, read}
+use Rattle.meaning.specs.Headers.{Placed, Answer, refused, accepted, envelopesMost, header, read}
 use Rattle.meaning.specs.Memory.{numbersOf, tableOf, roomOf, laidOver, readAnswer, readRows}
 use Rattle.meaning.specs.Payload.{payloadStart, payloadEnd, payloadBytes}
 use Rattle.reader.specs.declared.Answer as declared
 use Rattle.reader.specs.declared.Stage.{Stage}
 use Rattle.reader.specs.declared.Stage.the-variants.{Go, Refused}
-use Rattle.reader.specs.Stages.{put, Outcome, filled, stopped, Known}
+use Rattle.reader.specs.Stages.{put, filled, stopped, Known}
 use Rattle.reader.specs.Headers.{keepAll, finish, outcome, PlaceFits, HeaderRead}
 use Rattle.reader.specs.Promises.{ReadPromise, PayloadPromise, Counted, Surveyed}
 

@@ -2,6 +2,7 @@
 use crate::Stage;
 use crate::frame::Frame;
 use crate::frame::frame_at;
+use crate::kinds;
 use crate::parameters::read_parameters;
 use crate::received::read_received;
 use crate::rows;
@@ -69,7 +70,7 @@ fn read_opened(
 fn opening(base: bool) -> u32
     ensures { λ r. ⌜ r ≡ openingKind base ⌝ }
 {
-    if base { 2 } else { 1 }
+    if base { kinds::BASE_OPENS } else { kinds::EXTENSION_OPENS }
 }
 
 // "13: closing 01 before the declared end, byte after it."
