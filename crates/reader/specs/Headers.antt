@@ -79,9 +79,6 @@ pub record HeaderFramed (s : List ℕ) (at left : ℕ) (r : Frame) : Type 0 wher
 
 -- One envelope
 
-abbrev pub openingKind : Bool → ℕ
-openingKind base = opening base
-
 -- behind an envelope's closing 01: "13: closing 01 before the declared end, byte after it"
 abbrev pub closes : Bool → ℕ → (ℕ → ℕ → List ℕ → Outcome) → Outcome → Outcome
 closes base end more (stopped refusal p) = stopped refusal p

@@ -31,7 +31,16 @@ fn behind_date(s: &[u8], end: usize, at: usize, rows: &mut [u32], n: usize, allo
     else {
         return from;
     };
-    let id = texts::optional(s, end, after_from, rows, with_from, 0x03, kinds::RECEIVED_ID, 1);
+    let id = texts::optional(
+        s,
+        end,
+        after_from,
+        rows,
+        with_from,
+        0x03,
+        kinds::RECEIVED_ID,
+        1,
+    );
     let Stage::Go {
         at: after_id,
         rows: with_id,
@@ -39,7 +48,16 @@ fn behind_date(s: &[u8], end: usize, at: usize, rows: &mut [u32], n: usize, allo
     else {
         return id;
     };
-    let via = texts::optional(s, end, after_id, rows, with_id, 0x04, kinds::RECEIVED_VIA, 1);
+    let via = texts::optional(
+        s,
+        end,
+        after_id,
+        rows,
+        with_id,
+        0x04,
+        kinds::RECEIVED_VIA,
+        1,
+    );
     let Stage::Go {
         at: after_via,
         rows: with_via,
