@@ -4,13 +4,12 @@ use mathlib.Core.List.{List, [], _∷_}
 use mathlib.Core.Bool.{Bool, true, false}
 use mathlib.Core.Path.{_≡_, refl, ap, sym, _∙_}
 use native.Mathlib.Omega.{arith}
-use lib.Dec.{ltb}
 use lib.ListN.{length, getD, take, drop}
 use lib.Seq.{take-all}
 use borrow.Author.Tests.{lt-ltb, le-ltb, ne-eqb}
 use Rattle.meaning.specs.Bytes.{counted, short, highFirst}
 use Rattle.meaning.specs.Editions.{Edition}
-use Rattle.meaning.specs.Headers.{Answer, refused, envelopeMost, Onward, envelope, shortLeast, longLeast, sized, Identifier, neither, identifierOf, header}
+use Rattle.meaning.specs.Headers.{Answer, refused, envelopeMost, Onward, envelope, shortLeast, longLeast, sized, neither, identifierOf, header}
 use Rattle.laws.specs.From.{from, from-length, from-end, from-cons, from-drop}
 use Rattle.reader.specs.declared.frame.Frame.{Frame}
 use Rattle.reader.specs.declared.frame.Frame.the-variants.{Opens, Refused}

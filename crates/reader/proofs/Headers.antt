@@ -1,5 +1,5 @@
 -- An envelope's end and the header's answer, from what the stages of its inside answer: storing goes through `ends` and `behind`.
-use Prim.Native.Nat.{ℕ, zero, suc, _+_, _-_, _≤_, _<_}
+use Prim.Native.Nat.{ℕ, suc, _+_, _-_, _≤_, _<_}
 use mathlib.Core.List.{List, [], _∷_, _++_, map}
 use mathlib.Core.Bool.{Bool, true, false}
 use mathlib.Core.Path.{_≡_, refl, ap, sym, _∙_}
@@ -8,7 +8,7 @@ use lib.Dec.{eqb}
 use lib.ListN.{length, length-append, length-map}
 use borrow.Author.Tests.{eq-eqb, ne-eqb, eqb-true}
 use Rattle.meaning.specs.Basics.{pick}
-use Rattle.meaning.specs.Editions.{Edition, State, state, closed, shared, own, moves}
+use Rattle.meaning.specs.Editions.{Edition, state, closed, shared, own, moves}
 use Rattle.meaning.specs.Reading.{Seen, look, find, stepMove, step, Out, dry, fault, done, onward, inside}
 use Rattle.meaning.specs.Headers.{Placed, placedRow, placed, Answer, refused, accepted, behind, opening, start, Onward, ends}
 use Rattle.laws.specs.From.{from, from-length}
@@ -17,7 +17,7 @@ use Rattle.reader.specs.declared.Stage.the-variants.{Go, Refused}
 use Rattle.reader.specs.declared.envelope.Envelope.{Envelope}
 use Rattle.reader.specs.declared.envelope.Envelope.the-variants as envelope
 use Rattle.reader.specs.Stages.{put, store, Outcome, filled, stopped, pour, Source, source, runAt, after, Moved, Ran}
-use Rattle.reader.specs.Headers.{keepAll, finish, onwardFrom, opened, closes, closedBy, endedBy, behindEnvelope, EnvelopeEnds, EnvelopeOpened}
+use Rattle.reader.specs.Headers.{keepAll, finish, onwardFrom, closes, endedBy, behindEnvelope, EnvelopeEnds, EnvelopeOpened}
 use Rattle.reader.proofs.Logic.{run-step}
 
 -- Storing

@@ -3,6 +3,7 @@ pub mod Stages
 pub mod Steps
 pub mod Values
 pub mod Rooms
+pub mod AgentRooms
 pub mod Headers
 pub mod Frames
 pub mod Turns

@@ -1,5 +1,5 @@
 -- What an answer looked at says: rows poured, a byte seen.
-use Prim.Native.Nat.{ℕ, zero, suc, _+_, _-_, _≤_, _<_}
+use Prim.Native.Nat.{ℕ, suc, _+_, _-_}
 use mathlib.Core.List.{List, [], _∷_, _++_}
 use mathlib.Core.Bool.{Bool, true, false, _&&_}
 use mathlib.Core.Path.{_≡_, refl, ap, sym, _∙_, subst}
@@ -11,11 +11,14 @@ use Rattle.meaning.specs.Bytes.{Taken, took, failed}
 use Rattle.meaning.specs.Kinds.{agentName}
 use Rattle.meaning.specs.Basics.{pick}
 use Rattle.meaning.specs.Editions.{Edition, B, D, known, unknown, labelOf, State, go, Move, isQuiet}
-use Rattle.meaning.specs.Reading.{Seen, seen, reachBack, seenBy, levelMost, Step, stepTaken, step, Out, dry, fault, done, withRows, onward, inside}
+use Rattle.meaning.specs.Reading.{Seen, seen, reachBack, levelMost, stepTaken, step, Out, dry, fault, done, withRows, onward, inside}
 use Rattle.laws.specs.From.{from}
 use Rattle.laws.specs.Steps.{inside-onward, loud-seen}
 use Rattle.values.specs.Stages.{spans, span}
-use Rattle.reader.specs.Stages.{put, store, Outcome, pour, Source, runAt, landed}
+use Rattle.reader.specs.Stages.{put, store, pour, Source, runAt, landed}
+
+pub flip : {a b : ℕ} → (a ≡ b → ⊥) → b ≡ a → ⊥
+flip h q = h (sym q)
 
 -- a move of another kind than an agent's name is never too deep
 pub not-deep : (q : State) (kind : ℕ) → eqb kind agentName ≡ false → eqb kind agentName && ltb levelMost (q .level) ≡ false

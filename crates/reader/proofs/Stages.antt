@@ -1,9 +1,8 @@
 -- How the stages' answers are put together: a refusal goes up, reading goes on from where a stage went to, an equation stands before or behind it.
-use Prim.Native.Nat.{ℕ, _+_, _-_, _≤_, _<_}
+use Prim.Native.Nat.{ℕ, _+_, _≤_, _<_}
 use mathlib.Core.List.{List}
-use mathlib.Core.Path.{_≡_, refl, _∙_}
+use mathlib.Core.Path.{_≡_, _∙_}
 use native.Mathlib.Omega.{arith}
-use lib.ListN.{length}
 use Rattle.meaning.specs.Editions.{State}
 use Rattle.values.specs.Stages.{Inside}
 use Rattle.reader.specs.declared.Stage.{Stage}

@@ -1,7 +1,7 @@
 -- One turn of the loop over the envelopes: the header ends, or goes on behind an extension.
 use Prim.Native.Nat.{ℕ, _+_, _-_, _≤_}
 use mathlib.Core.List.{List}
-use mathlib.Core.Path.{_≡_, refl, _∙_}
+use mathlib.Core.Path.{_≡_, _∙_}
 use lib.ListN.{length}
 use Rattle.meaning.specs.Editions.{Edition}
 use Rattle.meaning.specs.Headers.{envelopeMost, envelopesMost, header}

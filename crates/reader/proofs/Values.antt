@@ -1,5 +1,5 @@
 -- A value's stage, with its row kept: what it promises is what reading comes to.
-use Prim.Native.Nat.{ℕ, _+_, _-_, _≤_, _<_}
+use Prim.Native.Nat.{ℕ, _+_, _-_, _≤_}
 use mathlib.Core.List.{List}
 use mathlib.Core.Path.{_≡_, refl, ap, _∙_}
 use native.Mathlib.Omega.{arith}
@@ -10,9 +10,8 @@ use Rattle.meaning.specs.Reading.{look, hit, takeValue, reachBack}
 use Rattle.laws.specs.From.{from, from-length, from-cons, from-end}
 use Rattle.values.specs.declared.Value.{Value}
 use Rattle.values.specs.declared.Value.the-variants.{Is, Refused}
-use Rattle.values.specs.Stages.{span, told, Stands, Valued, Bears, Coded, ended, unknown, valued}
-use Rattle.reader.specs.declared.Stage.{Stage}
-use Rattle.reader.specs.Stages.{put, Source, runAt, landed, after, Moved, Ran, Ready, headerMost, goesOn, keeps, Fits, Shaped}
+use Rattle.values.specs.Stages.{span, told, Stands, Valued, Coded, ended, unknown, valued}
+use Rattle.reader.specs.Stages.{Source, runAt, landed, after, Moved, Ran, Ready, goesOn, keeps, Fits, Shaped}
 use Rattle.reader.proofs.Logic.{not-deep}
 use Rattle.reader.proofs.Stages.{begun, arrives, refusing}
 use Rattle.reader.proofs.Steps.{coded, strange-code, at-end}

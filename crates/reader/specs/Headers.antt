@@ -1,5 +1,5 @@
 -- What the stages of the reader promise of envelopes and of a whole header, over the definitions of `meaning`.
-use Prim.Native.Nat.{ℕ, suc, _+_, _-_, _≤_}
+use Prim.Native.Nat.{ℕ, _+_, _-_, _≤_}
 use mathlib.Core.List.{List, [], _∷_}
 use mathlib.Core.Bool.{Bool, true, false}
 use mathlib.Core.Path.{_≡_}
@@ -78,9 +78,6 @@ pub record HeaderFramed (s : List ℕ) (at left : ℕ) (r : Frame) : Type 0 wher
   pub more : MayCome left r
 
 -- One envelope
-
-abbrev pub openingKind : Bool → ℕ
-openingKind base = opening base
 
 -- behind an envelope's closing 01: "13: closing 01 before the declared end, byte after it"
 abbrev pub closes : Bool → ℕ → (ℕ → ℕ → List ℕ → Outcome) → Outcome → Outcome

@@ -1,6 +1,6 @@
 -- What the stages of the reader promise of the inside of an envelope: one equation, over the definitions of `meaning`.
 -- Reading from where a stage began, with its rows stored in lent memory, is reading on from what the stage answered.
-use Prim.Native.Nat.{ℕ, suc, _+_, _-_, _*_, _≤_, _<_}
+use Prim.Native.Nat.{ℕ, _+_, _-_, _*_, _≤_, _<_}
 use mathlib.Core.List.{List, [], _∷_}
 use mathlib.Core.Bool.{Bool, true, false}
 use mathlib.Core.Path.{_≡_}

@@ -1,5 +1,6 @@
 // "Agent: 02, name text, optionally 02 and addresses (texts, then 01), optionally 03 and resolvers (an agent list), extras, 01."
 use crate::Stage;
+use crate::kinds;
 use crate::look::fault;
 use crate::look::peek;
 use crate::rows;
@@ -50,17 +51,17 @@ fn name_and_addresses(
     ensures { λ r. ⌜ ((e : Edition) (single : Bool) →
         TextRead e (now (s .entry)) end agentName level (state afterName level single) at n (now (rows .entry)) r (state afterAddresses level single) (now (rows .exit))) ⌝ }
 {
-    let r = rows::text(s, end, at, rows, n, 15, level);
+    let r = rows::text(s, end, at, rows, n, kinds::AGENT_NAME, level);
     let Stage::Go { at: p, rows: m } = r else {
         return r;
     };
     if peek(s, end, p) != 0x02 {
         return r;
     }
-    rows::put_row(rows, m, 16, level, p, 0);
+    rows::put_row(rows, m, kinds::ADDRESSES_OPEN, level, p, 0);
     let first = p + 1;
     let k = m + 1;
-    texts::texts(s, end, first, rows, k, 17, level)
+    texts::texts(s, end, first, rows, k, kinds::ADDRESS, level)
 }
 
 // After an agent's 02, up to its 01. There are `left` levels from this one on.
@@ -85,7 +86,7 @@ fn read_agent(
     if peek(s, end, p) != 0x03 {
         return behind_resolvers(s, end, p, rows, m, level, allows);
     }
-    rows::put_row(rows, m, 18, level, p, 0);
+    rows::put_row(rows, m, kinds::RESOLVERS_OPEN, level, p, 0);
     let first = p + 1;
     let k = m + 1;
     let t = read_list(s, end, first, rows, k, left - 1, allows);

@@ -2,6 +2,7 @@
 use crate::Stage;
 use crate::frame::Frame;
 use crate::frame::frame_at;
+use crate::kinds;
 use crate::parameters::read_parameters;
 use crate::received::read_received;
 use crate::rows;
@@ -11,9 +12,9 @@ ghost use mathlib.Core.Bool.{true, false};
 ghost use Rattle.meaning.specs.Editions.{Edition, known, labelOf, state, parameters, closed};
 ghost use Prim.Native.Nat.{_+_, _*_, _≤_, _<_};
 ghost use lib.ListN.{length};
-ghost use Rattle.meaning.specs.Headers.{start, envelopeMost};
+ghost use Rattle.meaning.specs.Headers.{opening, start, envelopeMost};
 ghost use Rattle.reader.specs.Stages.{Ready, Known, StateRead, headerMost};
-ghost use Rattle.reader.specs.Headers.{EnvelopeRead, EnvelopeOpened, openingKind, endedBy, closedBy};
+ghost use Rattle.reader.specs.Headers.{EnvelopeRead, EnvelopeOpened, endedBy, closedBy};
 
 // The base ends the header; behind an extension stands the next envelope.
 pub enum Envelope {
@@ -60,16 +61,20 @@ fn read_opened(
     ensures { λ r. ⌜ ((e : Edition) → labelOf (allows .edition) ≡ known e →
         EnvelopeOpened e (now (s .entry)) at first end base n (now (rows .entry)) r (now (rows .exit))) ⌝ }
 {
-    rows::put_row(rows, n, opening(base), 0, at, 0);
+    rows::put_row(rows, n, opening_kind(base), 0, at, 0);
     let k = n + 1;
     let r = read_inside(s, end, first, rows, k, base, allows);
     ended(r, end, base)
 }
 
-fn opening(base: bool) -> u32
-    ensures { λ r. ⌜ r ≡ openingKind base ⌝ }
+fn opening_kind(base: bool) -> u32
+    ensures { λ r. ⌜ r ≡ opening base ⌝ }
 {
-    if base { 2 } else { 1 }
+    if base {
+        kinds::BASE_OPENS
+    } else {
+        kinds::EXTENSION_OPENS
+    }
 }
 
 // "13: closing 01 before the declared end, byte after it."

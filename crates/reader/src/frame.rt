@@ -1,7 +1,6 @@
 // An envelope's identifier and length: "Per envelope: 3, then 17th, then 4, limit, 2, then the inside."
 ghost use mathlib.Core.Path.{_≡_};
-ghost use mathlib.Core.Bool.{Bool};
-ghost use Prim.Native.Nat.{ℕ, suc, _+_, _*_, _≤_, _<_};
+ghost use Prim.Native.Nat.{suc, _+_, _*_, _≤_, _<_};
 ghost use lib.ListN.{length, getD};
 ghost use Rattle.meaning.specs.Bytes.{highFirst};
 ghost use Rattle.meaning.specs.Headers.{envelope, sized};

@@ -3,6 +3,7 @@ mod agents;
 mod envelope;
 mod frame;
 mod header;
+mod kinds;
 mod look;
 mod parameters;
 mod received;

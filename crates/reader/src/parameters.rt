@@ -2,6 +2,7 @@
 use crate::Stage;
 use crate::agents::read_list;
 use crate::agents::read_one;
+use crate::kinds;
 use crate::look::fault;
 use crate::look::peek;
 use crate::received::read_received;
@@ -20,11 +21,11 @@ fn own(s: &[u8], end: usize, at: usize, rows: &mut [u32], n: usize) -> Stage
     requires { ⌜ Ready (now s) end at n ⌝ }
     ensures { λ r. ⌜ ((e : Edition) → TextRead e (now (s .entry)) end ownKey 0 (state ownText 0 false) at n (now (rows .entry)) r (state parameters 0 false) (now (rows .exit))) ⌝ }
 {
-    let r = rows::text(s, end, at, rows, n, 27, 0);
+    let r = rows::text(s, end, at, rows, n, kinds::OWN_KEY, 0);
     let Stage::Go { at: p, rows: m } = r else {
         return r;
     };
-    rows::text(s, end, p, rows, m, 28, 0)
+    rows::text(s, end, p, rows, m, kinds::OWN_VALUE, 0)
 }
 
 // "02 `to`, agent list"; "09 intended receiver, agent list", from the code on.
@@ -53,7 +54,7 @@ fn open_one(s: &[u8], end: usize, at: usize, rows: &mut [u32], n: usize, allows:
     ensures { λ r. ⌜ ((e : Edition) → labelOf (allows .edition) ≡ known e →
         OpenedRead e (now (s .entry)) end fromOpens (state oneAgent 1 true) at n (now (rows .entry)) r (state parameters 0 false) (now (rows .exit))) ⌝ }
 {
-    rows::put_row(rows, n, 13, 0, at, 0);
+    rows::put_row(rows, n, kinds::FROM_OPENS, 0, at, 0);
     let p = at + 1;
     let m = n + 1;
     read_one(s, end, p, rows, m, allows)
@@ -64,7 +65,7 @@ fn open_behaviour(s: &[u8], end: usize, at: usize, rows: &mut [u32], n: usize) -
     requires { ⌜ (Ready (now s) end at n) × (at < end) ⌝ }
     ensures { λ r. ⌜ ((e : Edition) → OpenedRead e (now (s .entry)) end behaviourOpens (state behaviourValue 0 false) at n (now (rows .entry)) r (state parameters 0 false) (now (rows .exit))) ⌝ }
 {
-    rows::put_row(rows, n, 29, 0, at, 0);
+    rows::put_row(rows, n, kinds::BEHAVIOUR_OPENS, 0, at, 0);
     let p = at + 1;
     let m = n + 1;
     rows::any(s, end, p, rows, m, 0)
@@ -75,10 +76,10 @@ fn open_encrypted(s: &[u8], end: usize, at: usize, rows: &mut [u32], n: usize) -
     requires { ⌜ (Ready (now s) end at n) × (at < end) ⌝ }
     ensures { λ r. ⌜ ((e : Edition) → OpenedRead e (now (s .entry)) end encryptedOpens (state encryptedTexts 0 false) at n (now (rows .entry)) r (state parameters 0 false) (now (rows .exit))) ⌝ }
 {
-    rows::put_row(rows, n, 25, 0, at, 0);
+    rows::put_row(rows, n, kinds::ENCRYPTED_OPENS, 0, at, 0);
     let p = at + 1;
     let m = n + 1;
-    texts::texts(s, end, p, rows, m, 26, 0)
+    texts::texts(s, end, p, rows, m, kinds::ENCRYPTED_ITEM, 0)
 }
 
 // "08 encrypted .. (B only)", and the refusal of any other code.
@@ -121,13 +122,13 @@ fn read_parameter(
 {
     match b {
         0x00 => own(s, end, at + 1, rows, n),
-        0x02 => open_list(s, end, at, rows, n, 12, allows),
+        0x02 => open_list(s, end, at, rows, n, kinds::TO_OPENS, allows),
         0x03 => open_one(s, end, at, rows, n, allows),
         0x04 => rows::representation(s, end, at + 1, rows, n),
-        0x05 => rows::text(s, end, at + 1, rows, n, 22, 0),
+        0x05 => rows::text(s, end, at + 1, rows, n, kinds::COMMENTS, 0),
         0x06 => rows::number(s, end, at + 1, rows, n),
-        0x07 => rows::text(s, end, at + 1, rows, n, 24, 0),
-        0x09 => open_list(s, end, at, rows, n, 14, allows),
+        0x07 => rows::text(s, end, at + 1, rows, n, kinds::PAYLOAD_ENCODING, 0),
+        0x09 => open_list(s, end, at, rows, n, kinds::RECEIVER_OPENS, allows),
         0x0a => read_received(s, end, at + 1, rows, n, allows),
         0x0b => open_behaviour(s, end, at, rows, n),
         _ => read_own(s, end, at, rows, n, b, allows),

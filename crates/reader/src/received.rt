@@ -1,5 +1,6 @@
 // "Received object: by (text), date, then optionally and in this order 02 from, 03 id, 04 via (texts), then in D extras, then 01."
 use crate::Stage;
+use crate::kinds;
 use crate::rows;
 use crate::texts;
 use values::Allows;
@@ -22,7 +23,7 @@ fn behind_date(s: &[u8], end: usize, at: usize, rows: &mut [u32], n: usize, allo
     ensures { λ r. ⌜ ((e : Edition) → labelOf (allows .edition) ≡ known e →
         StateRead e (now (s .entry)) end (state afterDate 1 false) at n (now (rows .entry)) r (state parameters 0 false) (now (rows .exit))) ⌝ }
 {
-    let from = texts::optional(s, end, at, rows, n, 0x02, 9, 1);
+    let from = texts::optional(s, end, at, rows, n, 0x02, kinds::RECEIVED_FROM, 1);
     let Stage::Go {
         at: after_from,
         rows: with_from,
@@ -30,7 +31,16 @@ fn behind_date(s: &[u8], end: usize, at: usize, rows: &mut [u32], n: usize, allo
     else {
         return from;
     };
-    let id = texts::optional(s, end, after_from, rows, with_from, 0x03, 10, 1);
+    let id = texts::optional(
+        s,
+        end,
+        after_from,
+        rows,
+        with_from,
+        0x03,
+        kinds::RECEIVED_ID,
+        1,
+    );
     let Stage::Go {
         at: after_id,
         rows: with_id,
@@ -38,7 +48,16 @@ fn behind_date(s: &[u8], end: usize, at: usize, rows: &mut [u32], n: usize, allo
     else {
         return id;
     };
-    let via = texts::optional(s, end, after_id, rows, with_id, 0x04, 11, 1);
+    let via = texts::optional(
+        s,
+        end,
+        after_id,
+        rows,
+        with_id,
+        0x04,
+        kinds::RECEIVED_VIA,
+        1,
+    );
     let Stage::Go {
         at: after_via,
         rows: with_via,
@@ -62,7 +81,7 @@ pub fn read_received(
     ensures { λ r. ⌜ ((e : Edition) → labelOf (allows .edition) ≡ known e →
         StateRead e (now (s .entry)) end (state receivedBegins 0 false) at n (now (rows .entry)) r (state parameters 0 false) (now (rows .exit))) ⌝ }
 {
-    let by = rows::text(s, end, at, rows, n, 8, 0);
+    let by = rows::text(s, end, at, rows, n, kinds::RECEIVED_BY, 0);
     let Stage::Go {
         at: after_by,
         rows: with_by,

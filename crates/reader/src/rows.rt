@@ -4,8 +4,6 @@ use values::Allows;
 use values::Value;
 ghost use mathlib.Core.Path.{_≡_};
 ghost use Prim.Native.Nat.{_+_, _/_, _≤_};
-ghost use Rattle.meaning.specs.Bytes.{takeNumber};
-ghost use Rattle.meaning.specs.Kinds.{payloadLength};
 ghost use Rattle.meaning.specs.Editions.{Edition, known, labelOf, State, anyValues, representations};
 ghost use Rattle.meaning.specs.Memory.{rowWidth};
 ghost use Rattle.values.specs.Dates.{datesOf};

@@ -1,5 +1,6 @@
 // Runs of rows of one shape: texts up to their 01, a text that may be left out, extras up to their 01.
 use crate::Stage;
+use crate::kinds;
 use crate::look::fault;
 use crate::look::peek;
 use crate::rows;
@@ -64,7 +65,7 @@ fn extra(s: &[u8], end: usize, at: usize, rows: &mut [u32], n: usize, level: u32
     requires { ⌜ Ready (now s) end at n ⌝ }
     ensures { λ r. ⌜ ((e : Edition) (q d : State) → Shaped e q d level 7 anyValues → TextRead e (now (s .entry)) end extraKey level q at n (now (rows .entry)) r d (now (rows .exit))) ⌝ }
 {
-    let r = rows::text(s, end, at, rows, n, 19, level);
+    let r = rows::text(s, end, at, rows, n, kinds::EXTRA_KEY, level);
     let Stage::Go { at: p, rows: m } = r else {
         return r;
     };

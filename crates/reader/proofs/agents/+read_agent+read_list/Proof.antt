@@ -13,7 +13,8 @@ use Rattle.meaning.specs.Kinds.{agentName, resolversOpen}
 use Rattle.meaning.specs.Reading.{levelMost}
 use Rattle.laws.specs.Envelopes.{before}
 use Rattle.reader.specs.Stages.{InList, Ran, runAt, source, textAt}
-use Rattle.reader.proofs.Rooms.{addresses-else, addresses-resolvers, end-alike, list-down, list-name, list-none, list-stop, list-up, stays-in-list, step-alike}
+use Rattle.reader.proofs.AgentRooms.{addresses-else, addresses-resolvers, list-down, list-name, list-none, list-stop, list-up, stays-in-list}
+use Rattle.reader.proofs.Rooms.{end-alike, step-alike}
 use Rattle.reader.proofs.Stages.{arrives, begun, going, handed, moved-to, ready-inside, ready-opened, ready-to, refusing, row-fits, went}
 use Rattle.reader.proofs.Steps.{alike-at, foreign, opened-at, passed-at, text-at, too-deep-at}
 use borrow.Fn.Kinds.{In}

@@ -2,7 +2,7 @@
 use mathlib.Core.Path.{_∙_, sym}
 use borrow.Author.Needs.{needs}
 use Rattle.meaning.specs.Editions.{afterResolvers, agentEnds, agentExtra, go, state}
-use Rattle.reader.proofs.Rooms.{agent-code, agent-extras}
+use Rattle.reader.proofs.AgentRooms.{agent-code, agent-extras}
 use Rattle.reader.proofs.agents.behind_resolvers.Statement.{statement}
 use Rattle.reader.proofs.agents.behind_resolvers.Tie as tie
 

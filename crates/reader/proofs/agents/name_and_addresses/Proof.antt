@@ -7,7 +7,8 @@ use borrow.Author.Needs.{needs}
 use Rattle.meaning.specs.Editions.{B, addressTexts, afterAddresses, afterName, parameters, state, stay}
 use Rattle.meaning.specs.Kinds.{addressesOpen}
 use Rattle.reader.specs.Stages.{source}
-use Rattle.reader.proofs.Rooms.{address-texts, end-alike, name-addresses, name-else, step-alike}
+use Rattle.reader.proofs.AgentRooms.{address-texts, name-addresses, name-else}
+use Rattle.reader.proofs.Rooms.{end-alike, step-alike}
 use Rattle.reader.proofs.Stages.{begun, going, handed, moved-to, ready-inside, ready-opened, ready-to, row-fits, went}
 use Rattle.reader.proofs.Steps.{alike-at, opened-at}
 use Rattle.reader.proofs.agents.name_and_addresses.Statement.{statement}

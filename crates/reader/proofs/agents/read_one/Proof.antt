@@ -6,7 +6,7 @@ use borrow.Author.Needs.{needs}
 use Rattle.meaning.specs.Editions.{afterName, oneAgent, state, stay}
 use Rattle.meaning.specs.Kinds.{agentName}
 use Rattle.reader.specs.Stages.{source}
-use Rattle.reader.proofs.Rooms.{one-name, one-none}
+use Rattle.reader.proofs.AgentRooms.{one-name, one-none}
 use Rattle.reader.proofs.Stages.{begun, ready-next}
 use Rattle.reader.proofs.Steps.{foreign, text-at}
 use Rattle.reader.proofs.agents.read_one.Statement.{statement}

@@ -2,7 +2,7 @@
 use mathlib.Core.Bool.{false}
 use native.Mathlib.Omega.{arith}
 use borrow.Author.Needs.{needs}
-use Rattle.reader.proofs.Rooms.{not-single}
+use Rattle.reader.proofs.AgentRooms.{not-single}
 use Rattle.reader.proofs.Stages.{ready-opened, row-fits}
 use Rattle.reader.proofs.parameters.open_list.Statement.{statement}
 use Rattle.reader.proofs.parameters.open_list.Tie as tie

@@ -11,7 +11,7 @@ use Rattle.meaning.specs.Editions.{B, Edition, State, afterResolvers, agentExtr
 use Rattle.meaning.specs.Kinds.{extraKey}
 use Rattle.laws.specs.Envelopes.{before}
 use Rattle.reader.specs.Stages.{Extras, Peeked, Ran, runAt, source, textAt}
-use Rattle.reader.proofs.Rooms.{agent-any}
+use Rattle.reader.proofs.AgentRooms.{agent-any}
 use Rattle.reader.proofs.Stages.{arrives, begun, going, handed, moved-to, went}
 use Rattle.reader.proofs.Steps.{foreign, passed-at, text-at}
 use Rattle.reader.proofs.texts.extras.Statement.{statement}
