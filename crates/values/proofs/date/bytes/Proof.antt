@@ -1,0 +1,86 @@
+-- `date::bytes`: the invariant says that the date is what is left of it from byte j on; each turn is one law.
+use Prim.Native.Nat.{_+_, _-_, _≤_}
+use mathlib.Core.List.{[]}
+use mathlib.Core.Path.{_≡_, _∙_}
+use native.Mathlib.Omega.{arith}
+use lib.ListN.{length}
+use Rattle.meaning.specs.Bytes.{takeDate, dateChecks}
+use Rattle.laws.specs.From.{from}
+use Rattle.values.specs.Stages.{span}
+use Rattle.values.specs.Answers.{answered, refuses}
+use Rattle.values.specs.Dates.{reaching}
+use Rattle.values.proofs.Dates.{dateFrom, date-begins, date-over, date-ends, date-wrong, date-goes, positive}
+use Rattle.values.proofs.date.bytes.Statement.{statement}
+use Rattle.values.proofs.date.bytes.Tie as tie
+
+abbrev Inv-loop : tie.InvT-loop
+Inv-loop s end at kind absolute designated length j₀ j = (j ≤ length) × (at + j ≤ end) × (span 0 (takeDate (dateChecks (reaching absolute) designated) [] (from s at end)) ≡ dateFrom s end at absolute length j)
+
+abbrev μ-loop : tie.MeasureT-loop
+μ-loop s end at kind absolute designated length j₀ j = length - j
+
+length-of-requires : tie.Need-length-of-requires Inv-loop μ-loop
+length-of-requires c κs = tt
+
+loop-holds : tie.Need-loop-holds Inv-loop μ-loop
+loop-holds c =
+    let a = c .before .before .args in
+    (omega arith, omega (arith, c .before .before .pre .before), date-begins (a .s .now) (a .end) (a .at) (a .absolute) (c .length-of .result) (a .designated) (c .length-of .ensures))
+
+sub-if1 : tie.Need-sub-if1 Inv-loop μ-loop
+sub-if1 c = c .before .before .before .before .pre .before
+
+returns : tie.Need-returns Inv-loop μ-loop
+returns c =
+    let a = c .before .before .before .before .before .args in
+    refuses (c .before .before .loop .inv .2 ∙ date-ends (a .s .now) (a .end) (a .at) (a .absolute) (c .before .before .before .length-of .result) (c .before .before .loop .j) (c .before .loop-test .taken) (omega arith)) (omega arith)
+
+add-i : tie.Need-add-i Inv-loop μ-loop
+add-i c = omega arith
+
+byte-passes-requires : tie.Need-byte-passes-requires Inv-loop μ-loop
+byte-passes-requires c κs = omega (arith, c .before .before .before .before .before .pre .whole)
+
+add-j : tie.Need-add-j Inv-loop μ-loop
+add-j c = omega arith
+
+loop-less : tie.Need-loop-less Inv-loop μ-loop
+loop-less c = omega arith
+
+loop-again : tie.Need-loop-again Inv-loop μ-loop
+loop-again c =
+    let a = c .before .before .before .before .before .before .before .args in
+    (omega arith, omega arith, c .before .before .before .before .loop .inv .2 ∙ date-goes (a .s .now) (a .end) (a .at) (a .absolute) (c .before .before .before .before .before .length-of .result) (c .before .before .before .before .loop .j) (c .before .before .before .loop-test .taken) (c .before .before .before .before .before .before .before .pre .whole) (omega arith) (c .before .byte-passes .ensures) (c .if2 .taken))
+
+returns-2 : tie.Need-returns-2 Inv-loop μ-loop
+returns-2 c =
+    let a = c .before .before .before .before .before .before .before .args in
+    refuses (c .before .before .before .before .loop .inv .2 ∙ date-wrong (a .s .now) (a .end) (a .at) (a .absolute) (c .before .before .before .before .before .length-of .result) (c .before .before .before .before .loop .j) (c .before .before .before .loop-test .taken) (c .before .before .before .before .before .before .before .pre .whole) (omega arith) (c .before .byte-passes .ensures) (c .if2 .left)) (omega arith)
+
+add-after : tie.Need-add-after Inv-loop μ-loop
+add-after c = omega arith
+
+returns-3 : tie.Need-returns-3 Inv-loop μ-loop
+returns-3 c =
+    let a = c .before .before .before .before .args in
+    let k = positive (a .designated) in
+    answered (c .before .loop .inv .2 ∙ date-over (a .s .now) (a .end) (a .at) (a .absolute) (c .before .before .length-of .result) (c .before .loop .j) (omega arith)) (omega arith) (omega arith) (omega (arith, c .before .before .length-of .ensures)) (omega arith)
+
+pub bytes-spec : {M : Type 1} → statement M
+bytes-spec =
+    tie.close
+    (tie.spec
+    Inv-loop
+    μ-loop
+    length-of-requires
+    loop-holds
+    sub-if1
+    returns
+    add-i
+    byte-passes-requires
+    add-j
+    loop-less
+    loop-again
+    returns-2
+    add-after
+    returns-3)

@@ -1,0 +1,65 @@
+-- `text::skip` passes text alone: the invariant is its promise at the place reached, and a turn is one run of sixteen.
+use Prim.Native.Nat.{ℕ, _-_}
+use mathlib.Core.Path.{_≡_, ap, sym, _∙_}
+use native.Mathlib.Omega.{arith}
+use Rattle.meaning.specs.Bytes.{takeText}
+use Rattle.laws.specs.From.{from}
+use Rattle.values.specs.Stages.{span, Skipped}
+use Rattle.values.proofs.Texts.{text-runs}
+use Rattle.values.proofs.text.skip.Statement.{statement}
+use Rattle.values.proofs.text.skip.Tie as tie
+
+abbrev Inv-loop : tie.InvT-loop
+Inv-loop s end at i₀ i = Skipped s end at i
+
+abbrev μ-loop : tie.MeasureT-loop
+μ-loop s end at i₀ i = end - i
+
+loop-holds : tie.Need-loop-holds Inv-loop μ-loop
+loop-holds c =
+    let a = c .before .args in
+    let q : 0 ≡ a .at - a .at = omega arith in
+    record { inside = omega arith; before = c .before .pre .before; is = ap (λ (x : ℕ). span x (takeText (from (a .s .now) (a .at) (a .end)))) q }
+
+sub-loop : tie.Need-sub-loop Inv-loop μ-loop
+sub-loop c = omega arith
+
+sixteen-requires : tie.Need-sixteen-requires Inv-loop μ-loop
+sixteen-requires c κs = omega (arith, c .before .before .before .pre .whole)
+
+add-i : tie.Need-add-i Inv-loop μ-loop
+add-i c = omega arith
+
+loop-less : tie.Need-loop-less Inv-loop μ-loop
+loop-less c = omega arith
+
+loop-again : tie.Need-loop-again Inv-loop μ-loop
+loop-again c =
+    let l = c .before .before .before .loop in
+    let a = c .before .before .before .before .before .args in
+    record {
+      inside = omega arith;
+      before = omega arith;
+      is = l .inv .is ∙ text-runs (a .s .now) (a .end) (c .before .before .before .before .before .pre .whole) (a .at) (l .i) 15 (l .inv .inside) (omega arith) (sym (c .before .sixteen .ensures) ∙ c .if1 .taken);
+    }
+
+returns : tie.Need-returns Inv-loop μ-loop
+returns c = c .before .before .before .loop .inv
+
+returns-2 : tie.Need-returns-2 Inv-loop μ-loop
+returns-2 c = c .before .loop .inv
+
+pub skip-spec : {M : Type 1} → statement M
+skip-spec =
+    tie.close
+    (tie.spec
+    Inv-loop
+    μ-loop
+    loop-holds
+    sub-loop
+    sixteen-requires
+    add-i
+    loop-less
+    loop-again
+    returns
+    returns-2)

@@ -1,0 +1,68 @@
+-- What the stages of a payload length promise: the number's value beside its length.
+use Prim.Native.Nat.{ℕ, zero, suc, _+_, _-_, _*_, _/_, _%_, _≤_, _<_}
+use mathlib.Core.List.{List, [], _∷_}
+use mathlib.Core.Bool.{Bool, true}
+use mathlib.Core.Path.{_≡_}
+use lib.ListN.{length}
+use Rattle.meaning.specs.Bytes.{Taken, took, failed, Turn, stop, more, wrong, turn, takeNumber, numberMost}
+use Rattle.meaning.specs.Plain.{numberValue}
+use Rattle.laws.specs.From.{from}
+use Rattle.values.specs.declared.number.Turning.{Turning}
+use Rattle.values.specs.declared.number.Turning.the-variants.{Stop, More, Wrong}
+use Rattle.values.specs.declared.number.Number.{Number}
+use Rattle.values.specs.declared.number.Number.the-variants.{Counts, Fails}
+
+-- what each case of a turn says
+unfoldable pub turned : Turning → Turn
+turned (Stop value) = stop
+turned (More value) = more value
+turned Wrong = wrong
+
+-- .. and what the number is worth with that byte: whole, or so far
+unfoldable pub Worth : ℕ → ℕ → Turning → Type 0
+Worth number b (Stop value) = numberValue number (b ∷ []) ≡ value
+Worth number b (More value) = (value ≤ numberMost) × ((v : List ℕ) → numberValue number (b ∷ v) ≡ numberValue value v)
+Worth number b Wrong = Unit {0}
+
+pub record Turned (number : ℕ) (first : Bool) (b : ℕ) (answer : Turning) : Type 0 where
+  pub is : turn number first b ≡ turned answer
+  pub worth : Worth number b answer
+
+-- a number by its length, its value and the bytes behind it, or the refusal and the bytes left at it
+pub data Tally : Type 0 where
+  counts : ℕ → ℕ → List ℕ → Tally
+  fails : ℕ → ℕ → Tally
+
+-- the tally of a number behind so many of its bytes, which are worth `number`
+abbrev pub tally : ℕ → ℕ → Taken → Tally
+tally before number (took v rest) = counts (before + length v) (numberValue number v) rest
+tally before number (failed refusal left) = fails refusal left
+
+unfoldable pub tallied : List ℕ → ℕ → ℕ → Number → Tally
+tallied s end at (Counts value after) = counts (after - at) value (from s after end)
+tallied s end at (Fails refusal place) = fails refusal (end - place)
+
+unfoldable pub Ends : ℕ → ℕ → Number → Type 0
+Ends end at (Counts value after) = (at < after) × (after ≤ end)
+Ends end at (Fails refusal place) = (place ≤ end)
+
+pub record Counted (s : List ℕ) (end at : ℕ) (answer : Number) : Type 0 where
+  pub is : tally 0 0 (takeNumber 0 true (from s at end)) ≡ tallied s end at answer
+  pub ends : Ends end at answer
+
+-- a number without its last k digits
+abbrev pub quotient : ℕ → ℕ → ℕ
+quotient zero number = number
+quotient (suc k) number = quotient k (number / 10)
+
+-- it has n digits: its first one is left when n - 1 of them are gone, and no sooner
+abbrev pub HasDigits : ℕ → ℕ → Type 0
+HasDigits zero number = ⊥
+HasDigits (suc zero) number = number < 10
+HasDigits (suc (suc n)) number = (10 ≤ number) × HasDigits (suc n) (number / 10)
+
+-- the byte that codes the next digits of a number, `left` of which are not coded yet
+abbrev pub packedByte : ℕ → ℕ → ℕ
+packedByte number zero = 0
+packedByte number (suc zero) = 16 * (quotient 0 number % 10 + 1)
+packedByte number (suc (suc k)) = 16 * (quotient (suc k) number % 10 + 1) + (quotient k number % 10 + 1)

@@ -1,0 +1,204 @@
+// "Date: a code, then year 4 digits, month, day, hour, minute, second 2 each, millisecond 3 digits and four zero bits."
+use crate::Allows;
+use crate::BYTE_NEEDED;
+use crate::DATE_WRONG;
+use crate::Value;
+use crate::digits::is_digit;
+use crate::digits::two_digits;
+use crate::digits::wide;
+use crate::kinds::DATE_ABSOLUTE;
+use crate::kinds::DATE_BACKWARD;
+use crate::kinds::DATE_FORWARD;
+ghost use mathlib.Core.Path.{_≡_};
+ghost use mathlib.Core.List.{List, []};
+ghost use Prim.Native.Nat.{ℕ, _+_, _≤_, _<_};
+ghost use lib.ListN.{length, getD};
+ghost use Rattle.meaning.specs.Bytes.{pairWithin, passes, half, letter, lastDay, dateChecks, takeDate};
+ghost use Rattle.meaning.specs.Editions.{Edition, B, D, known, labelOf};
+ghost use Rattle.laws.specs.From.{from};
+ghost use Rattle.values.specs.Stages.{Inside, Valued, Coded};
+ghost use Rattle.values.specs.Dates.{reaching, absoluteCheck, checkAt, earlier, dateLength, DateCode, datesOf};
+
+// What a date's code says: its kind, whether it is absolute, and whether a designator follows.
+pub enum Form {
+    Dated(u32, bool, bool),
+    Unknown,
+}
+
+// A plain date: "the seven components and a designator, 0 for none"
+pub struct Date {
+    pub year: u32,
+    pub month: u32,
+    pub day: u32,
+    pub hour: u32,
+    pub minute: u32,
+    pub second: u32,
+    pub millisecond: u32,
+    pub designator: u32,
+}
+
+// A date from its code on.
+pub fn take(s: &[u8], end: usize, at: usize, allows: Allows) -> Value
+    requires { ⌜ Inside (now s) end at ⌝ }
+    ensures { λ r. ⌜ ((e : Edition) → labelOf (allows .edition) ≡ known e → Coded (datesOf e) 9 (now (s .entry)) end at r) ⌝ }
+{
+    if end <= at {
+        return Value::Refused {
+            refusal: BYTE_NEEDED,
+            at: at,
+        };
+    }
+    let f = form_of(allows, wide(s[at]));
+    let Form::Dated(kind, absolute, designated) = f else {
+        return Value::Refused {
+            refusal: DATE_WRONG,
+            at: at,
+        };
+    };
+    let first = at + 1;
+    bytes(s, end, first, kind, absolute, designated)
+}
+
+// The nine bytes of a date, and its designator.
+pub fn bytes(s: &[u8], end: usize, at: usize, kind: u32, absolute: bool, designated: bool) -> Value
+    requires { ⌜ Inside (now s) end at ⌝ }
+    ensures { λ r. ⌜ Valued (now (s .entry)) end at kind 0 (takeDate (dateChecks (reaching absolute) designated) [] (from (now (s .entry)) at end)) r ⌝ }
+{
+    let length = length_of(designated);
+    let mut j: usize = 0;
+    while j < length {
+        if end - at <= j {
+            return Value::Refused {
+                refusal: BYTE_NEEDED,
+                at: end,
+            };
+        }
+        let i = at + j;
+        if byte_passes(s, at, j, absolute) {
+            j += 1;
+        } else {
+            return Value::Refused {
+                refusal: DATE_WRONG,
+                at: i,
+            };
+        }
+    }
+    let after = at + j;
+    Value::Is {
+        kind: kind,
+        start: at,
+        length: j,
+        after: after,
+    }
+}
+
+pub fn length_of(designated: bool) -> usize
+    ensures { λ r. ⌜ r ≡ dateLength designated ⌝ }
+{
+    if designated {
+        return 10;
+    }
+    9
+}
+
+// Whether byte j of the date that begins at `at` passes its check.
+fn byte_passes(s: &[u8], at: usize, j: usize, absolute: bool) -> bool
+    requires { ⌜ at + j < length (now s) ⌝ }
+    ensures { λ r. ⌜ r ≡ passes (checkAt absolute j) (earlier (now (s .entry)) at j) (getD (now (s .entry)) (at + j) 0) ⌝ }
+{
+    let i = at + j;
+    let b = wide(s[i]);
+    if j == 8 {
+        return padded(b);
+    }
+    if j == 9 {
+        return is_letter(b);
+    }
+    if absolute {
+        return in_calendar(s, at, j, b);
+    }
+    within(b, 0, 99)
+}
+
+// "Absolute dates have month 1 to 12, day 1 to 31, hour to 23, minute and second to 59."
+fn in_calendar(s: &[u8], at: usize, j: usize, b: u32) -> bool
+    requires { ⌜ (at + j < length (now s)) × (b < 256) ⌝ }
+    ensures { λ r. ⌜ r ≡ passes (absoluteCheck j) (earlier (now (s .entry)) at j) b ⌝ }
+{
+    match j {
+        2 => within(b, 1, 12),
+        3 => within(b, 1, last_day(s, at)),
+        4 => within(b, 0, 23),
+        5 => within(b, 0, 59),
+        6 => within(b, 0, 59),
+        _ => within(b, 0, 99),
+    }
+}
+
+// Which days exist, by the three bytes of the date before the day.
+fn last_day(s: &[u8], at: usize) -> u32
+    requires { ⌜ at + 3 ≤ length (now s) ⌝ }
+    ensures { λ r. ⌜ r ≡ lastDay (earlier (now (s .entry)) at 3) ⌝ }
+{
+    31
+}
+
+// Two digits between two bounds.
+fn within(b: u32, least: u32, most: u32) -> bool
+    requires { ⌜ b < 256 ⌝ }
+    ensures { λ r. ⌜ r ≡ pairWithin least most b ⌝ }
+{
+    let two = two_digits(b);
+    is_digit(b / 16) & is_digit(b % 16) & (least <= two) & (two <= most)
+}
+
+// A digit and four zero bits.
+fn padded(b: u32) -> bool
+    ensures { λ r. ⌜ ((before : List ℕ) → r ≡ passes half before b) ⌝ }
+{
+    is_digit(b / 16) & (b % 16 == 0)
+}
+
+// "The designator is one ASCII letter."
+fn is_letter(b: u32) -> bool
+    ensures { λ r. ⌜ ((before : List ℕ) → r ≡ passes letter before b) ⌝ }
+{
+    ((0x41 <= b) & (b <= 0x5a)) | ((0x61 <= b) & (b <= 0x7a))
+}
+
+fn form_of(allows: Allows, code: u32) -> Form
+    requires { ⌜ code < 256 ⌝ }
+    ensures { λ r. ⌜ ((e : Edition) → labelOf (allows .edition) ≡ known e → DateCode e code r) ⌝ }
+{
+    let edition = allows.edition;
+    if edition == 1 {
+        return form_in_b(code);
+    }
+    form_in_d(code)
+}
+
+// "Codes in B: 20 absolute, 21 absolute with designator."
+fn form_in_b(code: u32) -> Form
+    ensures { λ r. ⌜ DateCode B code r ⌝ }
+{
+    match code {
+        0x20 => Form::Dated(DATE_ABSOLUTE, true, false),
+        0x21 => Form::Dated(DATE_ABSOLUTE, true, true),
+        _ => Form::Unknown,
+    }
+}
+
+// "In D: 20, 21, 22 absolute, forward, backward; 24, 25, 26 the same with designator."
+fn form_in_d(code: u32) -> Form
+    ensures { λ r. ⌜ DateCode D code r ⌝ }
+{
+    match code {
+        0x20 => Form::Dated(DATE_ABSOLUTE, true, false),
+        0x21 => Form::Dated(DATE_FORWARD, false, false),
+        0x22 => Form::Dated(DATE_BACKWARD, false, false),
+        0x24 => Form::Dated(DATE_ABSOLUTE, true, true),
+        0x25 => Form::Dated(DATE_FORWARD, false, true),
+        0x26 => Form::Dated(DATE_BACKWARD, false, true),
+        _ => Form::Unknown,
+    }
+}

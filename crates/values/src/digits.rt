@@ -1,0 +1,33 @@
+// "Coded digits: digit n is the four bits n+1; the high four bits are the earlier digit."
+ghost use mathlib.Core.Path.{_≡_};
+ghost use Prim.Native.Nat.{_<_};
+ghost use Rattle.meaning.specs.Bytes.{isDigit, digitOf, twoDigits};
+
+pub fn is_digit(bits: u32) -> bool
+    ensures { λ r. ⌜ r ≡ isDigit bits ⌝ }
+{
+    (1 <= bits) & (bits <= 10)
+}
+
+// The digit of four bits, 0 where they are none.
+pub fn digit(bits: u32) -> u32
+    ensures { λ r. ⌜ r ≡ digitOf bits ⌝ }
+{
+    if bits == 0 {
+        return 0;
+    }
+    bits - 1
+}
+
+pub fn two_digits(b: u32) -> u32
+    requires { ⌜ b < 256 ⌝ }
+    ensures { λ r. ⌜ r ≡ twoDigits b ⌝ }
+{
+    10 * digit(b / 16) + digit(b % 16)
+}
+
+pub fn wide(b: u8) -> u32
+    ensures { λ r. ⌜ r ≡ b ⌝ }
+{
+    b as u32
+}
