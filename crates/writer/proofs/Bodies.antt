@@ -25,7 +25,7 @@ use Rattle.writer.proofs.Laying.{laid-then, laid-none}
 
 -- The cells
 
-cells-next : (pool rows : List ℕ) (i : ℕ) → i < length rows / 4 → cellsAt pool rows i ≡ rowCell pool rows i ∷ cellsAt pool rows (i + 1)
+pub cells-next : (pool rows : List ℕ) (i : ℕ) → i < length rows / 4 → cellsAt pool rows i ≡ rowCell pool rows i ∷ cellsAt pool rows (i + 1)
 unfolding cellsAt cellsFor
 cells-next pool rows i h =
     let q : length rows / 4 - i ≡ suc (length rows / 4 - (i + 1)) = omega arith in

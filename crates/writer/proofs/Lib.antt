@@ -6,3 +6,8 @@ pub mod Openings
 pub mod Rows
 pub mod Tallies
 pub mod Bodies
+pub mod Closed
+pub mod Wholes
+pub mod Envelopes
+pub mod Passing
+pub mod Answers

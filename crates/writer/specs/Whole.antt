@@ -1,16 +1,20 @@
 -- From the insides of envelopes to `meaning`'s plan, and what the check over all rows answers.
-use Prim.Native.Nat.{ℕ, zero, suc, _+_, _-_, _*_, _≤_}
+use Prim.Native.Nat.{ℕ, zero, suc, _+_, _-_, _*_, _/_, _≤_}
 use mathlib.Core.List.{List, [], _∷_, _++_}
 use mathlib.Core.Bool.{Bool, true, false}
 use mathlib.Core.Path.{_≡_}
 use lib.Dec.{leb, eqb}
-use lib.ListN.{length}
+use lib.ListN.{length, take, drop}
 use Rattle.meaning.specs.Basics.{pick}
 use Rattle.meaning.specs.Editions.{Edition, State}
 use Rattle.meaning.specs.Headers.{start, envelopeMost}
-use Rattle.meaning.specs.Writing.{Cell, cell, broken, Opens, envelopeRow, innerRow, opensOf, Envelope, Plan, stuck, plan, newPlan, planOf, wholePlan, envelopeSize, withinLimit, headerOf, Limit, fine, exceeds, limits, Written, written, unwritten}
+use Rattle.meaning.specs.Writing.{Cell, cell, broken, Opens, envelopeRow, innerRow, opensOf, Envelope, Plan, stuck, plan, newPlan, planOf, wholePlan, envelopeSize, withinLimit, wrap, envelopeLength, headerOf, Limit, fine, exceeds, limits, Written, written, unwritten}
+use Rattle.writer.specs.Moves.{editionOf}
 use Rattle.writer.specs.Fitting.{standing}
-use Rattle.writer.specs.Bodies.{Body, halt, body}
+use Rattle.writer.specs.Laying.{capped}
+use Rattle.writer.specs.Bodies.{Body, halt, body, cellsAt}
+use Rattle.writer.specs.declared.body.Bodied.{Bodied}
+use Rattle.writer.specs.declared.body.Bodied.the-variants.{Stuck, Ended}
 use Rattle.writer.specs.declared.fit.Standing.{Standing}
 use Rattle.writer.specs.declared.measure.Tally.{Tally}
 use Rattle.writer.specs.declared.measure.Checked.{Checked}
@@ -54,6 +58,18 @@ abbrev pub sized : ℕ → ℕ → ℕ → Limit
 sized zero i k = exceeds i
 sized (suc n) i k = pick (withinLimit k) fine (exceeds i)
 
+-- the verdict where the base ends before these cells
+abbrev pub endVerdict : List Cell → ℕ → ℕ → Limit → Verdict
+endVerdict [] j t o = verdictOf t o
+endVerdict (c ∷ cells) j t o = bad 15 j
+
+-- a body that was measured
+abbrev pub Measured : Body → List ℕ → List ℕ → Bodied → Type 0
+Measured (halt j) pool rows (Stuck i) = i ≡ j
+Measured (halt j) pool rows (Ended row many) = ⊥
+Measured (body bytes j cells) pool rows (Stuck i) = ⊥
+Measured (body bytes j cells) pool rows (Ended row many) = (row ≡ j) × (row ≤ length rows / 4) × (cells ≡ cellsAt pool rows row) × (many ≡ capped (length bytes))
+
 abbrev pub checkedOf : Verdict → Checked
 checkedOf (bad answer place) = Bad answer place
 checkedOf (needs t) = Needs t
@@ -76,3 +92,28 @@ pub record Tallied (t : Tally) (i many : ℕ) (r : Tally) : Type 0 where
 -- the state at an envelope's front, by what opens: 2 the base
 abbrev pub startAt : ℕ → Standing
 startAt o = pick (eqb o 2) (standing 1 0 false) (standing 0 0 false)
+
+-- what the pass that writes asks: the check was passed, and its bytes have room
+pub record Writable (inD : Bool) (rows pool output : List ℕ) : Type 0 where
+  pub bytes-needed : ℕ
+  pub passed : verdict 16 0 fine (wholePlan (editionOf inD) (cellsAt pool rows 0)) ≡ needs bytes-needed
+  pub room : bytes-needed ≤ length output
+
+-- what writing an envelope asks: it opens before row `from`, its inside was measured, and the output has room for it
+pub record EnvelopeRequires (inD : Bool) (rows pool : List ℕ) (from opened many : ℕ) (output : List ℕ) (at : ℕ) : Type 0 where
+  pub inside : from ≤ length rows / 4
+  pub opens : 1 ≤ opened
+  pub small : many ≤ 1048576
+  pub room : at + envelopeSize many ≤ length output
+
+-- the envelope's bytes are laid from `at` on
+pub record EnvelopeWritten (b : Body) (base : Bool) (many : ℕ) (before : List ℕ) (at : ℕ) (after : List ℕ) (end : ℕ) : Type 0 where
+  pub ends : end ≡ at + envelopeSize many
+  pub laid : (bytes : List ℕ) (j : ℕ) (cells : List Cell) → b ≡ body bytes j cells → length bytes ≡ many → after ≡ take at before ++ (wrap base bytes ++ drop end before)
+
+-- identifier and length of an envelope with so many bytes inside
+abbrev pub identifierOf : Bool → ℕ
+identifierOf base = pick base 0xfe 0xfd
+
+abbrev pub headOf : Bool → ℕ → List ℕ
+headOf base many = identifierOf base ∷ envelopeLength many

@@ -5,11 +5,14 @@ use crate::body::open_at;
 use crate::fit::Standing;
 ghost use mathlib.Core.Path.{_≡_};
 ghost use mathlib.Core.Bool.{false};
-ghost use Prim.Native.Nat.{_+_, _*_, _≤_};
+ghost use mathlib.Core.List.{List};
+ghost use Prim.Native.Nat.{ℕ, _+_, _*_, _/_, _≤_};
+ghost use lib.ListN.{length};
 ghost use Rattle.meaning.specs.Writing.{envelopeSize, wholePlan, fine};
 ghost use Rattle.writer.specs.Moves.{editionOf};
-ghost use Rattle.writer.specs.Bodies.{cellsAt};
-ghost use Rattle.writer.specs.Whole.{Tallied, startAt, verdict, checkedOf};
+ghost use Rattle.writer.specs.Bodies.{cellsAt, bodyOf};
+ghost use Rattle.writer.specs.Fitting.{stateOf, Good};
+ghost use Rattle.writer.specs.Whole.{Measured, Tallied, startAt, limitOf, endVerdict, verdict, checkedOf};
 
 // A refusal, or the bytes needed.
 pub enum Checked {
@@ -96,5 +99,77 @@ pub fn start_of(opened: usize) -> Standing
         room: 0,
         level: 0,
         single: false,
+    }
+}
+
+// The inside of an envelope, only measured: its part of the output is empty.
+pub fn measure(in_d: bool, rows: &[u32], pool: &[u8], from: usize, s: Standing) -> Bodied
+    requires { ⌜ (Good s) × (from ≤ length (now rows) / 4) ⌝ }
+    ensures { λ r. ⌜ Measured (bodyOf (editionOf in_d) (cellsAt (now (pool .entry)) (now (rows .entry)) from) from (stateOf s)) (now (pool .entry)) (now (rows .entry)) r ⌝ }
+{
+    let mut none = [0u8; 1];
+    body(in_d, rows, pool, from, s, &mut none[..0])
+}
+
+// The answer behind the base: no row may follow.
+fn ended(rows: &[u32], row: usize, t: Tally) -> Checked
+    ensures { λ r. ⌜ ((pool : List ℕ) → r ≡ checkedOf (endVerdict (cellsAt pool (now (rows .entry)) row) row (t .total) (limitOf (t .over) (t .first)))) ⌝ }
+{
+    if row < rows.len() / 4 {
+        return Checked::Bad {
+            answer: 15,
+            place: row,
+        };
+    }
+    if rows.len() % 4 != 0 {
+        return Checked::Bad {
+            answer: 15,
+            place: row,
+        };
+    }
+    if t.over {
+        return Checked::Bad {
+            answer: 5,
+            place: t.first,
+        };
+    }
+    Checked::Needs(t.total)
+}
+
+// What the rows come to: a refusal, or the bytes that they need.
+pub fn check(in_d: bool, rows: &[u32], pool: &[u8]) -> Checked
+    ensures { λ r. ⌜ r ≡ checkedOf (verdict 16 0 fine (wholePlan (editionOf in_d) (cellsAt (now (pool .entry)) (now (rows .entry)) 0))) ⌝ }
+{
+    let mut i: usize = 0;
+    let mut t = Tally {
+        left: 16,
+        total: 0,
+        over: false,
+        first: 0,
+    };
+    loop {
+        let opened = open_at(rows, pool, i);
+        if opened == 0 {
+            return Checked::Bad {
+                answer: 15,
+                place: i,
+            };
+        }
+        let from = i + 1;
+        let s = start_of(opened);
+        let r = measure(in_d, rows, pool, from, s);
+        match r {
+            Bodied::Stuck(j) => return Checked::Bad {
+                answer: 15,
+                place: j,
+            },
+            Bodied::Ended { row, many } => {
+                t = count_in(t, i, many);
+                if opened == 2 {
+                    return ended(rows, row, t);
+                }
+                i = row;
+            }
+        }
     }
 }
