@@ -1,14 +1,14 @@
 -- From the verdict to the public promise: what is answered, and what the output holds.
 use Prim.Native.Nat.{ℕ, zero, suc, _+_, _-_, _*_, _/_, _%_, _≤_, _<_}
 use mathlib.Core.List.{List, [], _∷_}
-use mathlib.Core.Bool.{Bool, true, false}
+use mathlib.Core.Bool.{Bool}
 use mathlib.Core.Path.{_≡_, refl, ap, sym, _∙_}
 use native.Mathlib.Omega.{arith}
 use lib.Dec.{eqb, leb}
 use lib.ListN.{length, getD}
 use borrow.Author.Tests.{le-leb, lt-leb, eq-eqb, ne-eqb}
 use Rattle.meaning.specs.Basics.{pick}
-use Rattle.meaning.specs.Editions.{Edition, B, D, Label, known, unknown, labelOf}
+use Rattle.meaning.specs.Editions.{B, D, known, unknown, labelOf}
 use Rattle.meaning.specs.Writing.{Cell, broken, Envelope, Plan, stuck, plan, wholePlan, headerOf, Limit, fine, exceeds, limits, Written, written, unwritten, limited, planned, writeRows}
 use Rattle.meaning.specs.Memory.{cellOf, cellsOf, reply, laidOver, write, writeAnswer, writeOutput}
 use Rattle.writer.specs.Bodies.{rowCell, cellsFor, cellsAt}

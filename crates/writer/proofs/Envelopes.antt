@@ -1,26 +1,26 @@
 -- An envelope's parts laid into the output: what was laid before it stays, and what lies behind it is as it was.
-use Prim.Native.Nat.{ℕ, zero, suc, _+_, _-_, _/_, _≤_, _<_}
-use mathlib.Core.List.{List, [], _∷_, _++_, append-assoc, append-nil}
+use Prim.Native.Nat.{ℕ, suc, _+_, _-_, _≤_, _<_}
+use mathlib.Core.List.{List, _∷_, _++_, append-assoc, append-nil}
 use mathlib.Core.Bool.{Bool, true, false}
 use mathlib.Core.Path.{_≡_, refl, ap, sym, _∙_, subst}
 use native.Mathlib.Omega.{arith}
-use lib.Dec.{leb, ltb, eqb}
-use lib.ListN.{length, take, drop, length-append, length-take, length-drop}
+use lib.Dec.{leb, eqb}
+use lib.ListN.{length, take, drop, length-append, length-take}
 use lib.Seq.{sets, sets-eq, take-at, drop-length, length-take-le}
-use borrow.Rule.Slice.PartMut.{putMid, midOf, postOf, post-is, mid-len, drop-put}
+use borrow.Rule.Slice.PartMut.{putMid, postOf, post-is, mid-len, drop-put, same-len-mid}
 use borrow.Author.Tests.{le-leb, lt-leb}
 use Rattle.meaning.specs.Basics.{pick}
 use Rattle.meaning.specs.Bytes.{lengthBytes, twoBytes, fourBytes}
 use Rattle.meaning.specs.Editions.{Edition}
-use Rattle.meaning.specs.Writing.{Cell, envelopeSize, envelopeLength, wrap}
-use Rattle.writer.specs.Laying.{one, capped, Laid, Layable}
+use Rattle.meaning.specs.Writing.{Cell, envelopeSize}
+use Rattle.writer.specs.Laying.{one, capped, Laid}
 use Rattle.writer.specs.Fitting.{standing, stateOf, Good}
 use Rattle.writer.specs.Bodies.{Body, halt, body, bodyOf, BodyIs}
 use Rattle.writer.specs.Whole.{Measured, startAt, identifierOf, headOf, EnvelopeWritten}
 use Rattle.writer.specs.declared.fit.Standing.{Standing}
 use Rattle.writer.specs.declared.body.Bodied.{Bodied}
 use Rattle.writer.specs.declared.body.Bodied.the-variants.{Stuck, Ended}
-use Rattle.writer.proofs.Laying.{laid-as, laid-then}
+use Rattle.writer.proofs.Laying.{laid-as}
 
 -- a part that is filled whole
 sets-all : (m bs : List ℕ) → length m ≡ length bs → sets m 0 bs ≡ bs
@@ -94,7 +94,7 @@ module _ (out : List ℕ) (at n end many : ℕ) (base : Bool) (e : end ≡ at + 
       let hl = head-length base many in
       let lhIs : lh ≡ headOf base many = laid-all a head-part in
       let lhLength : length lh ≡ n - at = ap length lhIs ∙ (let q : length (headOf base many) ≡ n - at = omega (arith, n-is) in q) in
-      let whole : length (putMid at (n - at) out lh) ≡ length out = borrow.Rule.Slice.PartMut.same-len-mid at (n - at) out lh (lhLength ∙ sym (mid-len at n out (omega arith))) in
+      let whole : length (putMid at (n - at) out lh) ≡ length out = same-len-mid at (n - at) out lh (lhLength ∙ sym (mid-len at n out (omega arith))) in
       let m : length (take (end - n) (drop n (putMid at (n - at) out lh))) ≡ many = mid-len n end (putMid at (n - at) out lh) (omega arith) ∙ (let q : end - n ≡ many = omega (arith, n-is, head-length base many) in q) in
       record {
         ends = e;

@@ -9,5 +9,6 @@ pub mod Bodies
 pub mod Closed
 pub mod Wholes
 pub mod Envelopes
-pub mod Passing
+pub mod Checking
+pub mod Writing
 pub mod Answers

@@ -1,14 +1,14 @@
 -- Which rows open an envelope, by level, length and kind.
-use mathlib.Core.Path.{_≡_, refl, sym, ap, _∙_}
+use mathlib.Core.Path.{_≡_, refl}
 use mathlib.Core.Bool.{Bool, true, false, _&&_}
 use mathlib.Core.List.{List, [], _∷_}
-use Prim.Native.Nat.{ℕ, suc}
+use Prim.Native.Nat.{ℕ}
 use native.Mathlib.Omega.{arith}
 use lib.Dec.{eqb}
 use lib.ListN.{length}
 use borrow.Author.Tests.{eq-eqb, ne-eqb}
-use Rattle.meaning.specs.Basics.{pick, isEmpty}
-use Rattle.meaning.specs.Writing.{opensOf}
+use Rattle.meaning.specs.Basics.{pick}
+use Rattle.meaning.specs.Writing.{opensOf, envelopeRow, innerRow}
 use Rattle.writer.specs.Laying.{rowWith}
 use Rattle.writer.specs.Bodies.{opensNumber}
 
@@ -19,14 +19,14 @@ pub opens-some : (kind level : ℕ) (v : List ℕ) → (length v ≡ 0 → ⊥) 
 opens-some kind level [] h = absurd (h refl)
 opens-some kind level (b ∷ v) h = at (eqb level 0)
   where
-    at : (z : Bool) → 0 ≡ opensNumber (pick (z && false) (pick (eqb kind 1) (Rattle.meaning.specs.Writing.envelopeRow false) (pick (eqb kind 2) (Rattle.meaning.specs.Writing.envelopeRow true) Rattle.meaning.specs.Writing.innerRow)) Rattle.meaning.specs.Writing.innerRow)
+    at : (z : Bool) → 0 ≡ opensNumber (pick (z && false) (pick (eqb kind 1) (envelopeRow false) (pick (eqb kind 2) (envelopeRow true) innerRow)) innerRow)
     at true = refl
     at false = refl
 
 pub opens-by : (kind level : ℕ) (v : List ℕ) → level ≡ 0 → length v ≡ 0 → pick (eqb kind 1) 1 (pick (eqb kind 2) 2 0) ≡ opensNumber (opensOf (rowWith kind level v))
 opens-by kind level [] l q = rw (eq-eqb level 0 l) (at (eqb kind 1) (eqb kind 2))
   where
-    at : (a b : Bool) → pick a 1 (pick b 2 0) ≡ opensNumber (pick a (Rattle.meaning.specs.Writing.envelopeRow false) (pick b (Rattle.meaning.specs.Writing.envelopeRow true) Rattle.meaning.specs.Writing.innerRow))
+    at : (a b : Bool) → pick a 1 (pick b 2 0) ≡ opensNumber (pick a (envelopeRow false) (pick b (envelopeRow true) innerRow))
     at true b = refl
     at false true = refl
     at false false = refl

@@ -1,29 +1,29 @@
 -- One row and one closing: `fit-once` and `close-once` at the moves that the searches found, and the bytes so far put together.
 use mathlib.Core.Path.{_≡_, refl, sym, ap, _∙_, subst}
-use mathlib.Core.Bool.{Bool, true, false, _&&_, _||_, not}
+use mathlib.Core.Bool.{Bool, true, false}
 use mathlib.Core.Logic.{_⊎_, inl, inr}
 use mathlib.Core.List.{List, [], _∷_, _++_, append-assoc, append-nil}
-use Prim.Native.Nat.{ℕ, zero, suc, _+_, _*_, _≤_, _<_}
+use Prim.Native.Nat.{ℕ, _≤_, _<_}
 use native.Mathlib.Omega.{arith}
 use lib.Dec.{T, eqb}
 use lib.ListN.{length}
 use borrow.Author.Tests.{eq-eqb, ne-eqb}
 use Rattle.meaning.specs.Basics.{pick}
-use Rattle.meaning.specs.Editions.{Edition, Room, State, go, isQuiet, Move, closing, moves}
-use Rattle.meaning.specs.Reading.{Row, Found, none, hit, find, orElse, isClosed, tooDeep}
-use Rattle.meaning.specs.Writing.{valid, writeValue, standsFor, isPass, wayTo, Way, byOwn, byPass, nowhere, ways, atLevel, wayOf, Fit, unfit, fits, led, lead, place, fitBy, fitRow, closeBy, close}
+use Rattle.meaning.specs.Editions.{Edition, Room, State, go, isQuiet, closing}
+use Rattle.meaning.specs.Reading.{Row, Found, none, find, orElse, isClosed}
+use Rattle.meaning.specs.Writing.{valid, writeValue, standsFor, isPass, wayTo, Way, byOwn, byPass, ways, atLevel, wayOf, Fit, unfit, fits, led, place, fitBy, fitRow, closeBy, close}
 use Rattle.laws.specs.Logic.{is-true}
 use Rattle.laws.specs.Tables.{In, Hits, find-hits, roomNumber, allRooms, each-room}
 use Rattle.laws.specs.Lookups.{stands, WayIs, way-is, pass-facts}
 use Rattle.laws.specs.Fits.{heavy, pass-lightens, fit-once, close-once}
-use Rattle.writer.specs.Moves.{editionOf, roomOf, codeIn, formIn, kindIn, nextIn, targetIn, formOf, moveOf, foundIn, Known, movesAt, Finds}
+use Rattle.writer.specs.Moves.{editionOf, roomOf, codeIn, formIn, nextIn, targetIn, formOf, moveOf, foundIn, Known, movesAt, Finds}
 use Rattle.writer.specs.Laying.{rowWith, one, leadOf, Laid, Layable}
-use Rattle.writer.specs.Fitting.{stateOf, goTo, deepAt, Good, FitIs, CloseIs, Onto}
+use Rattle.writer.specs.Fitting.{stateOf, goTo, deepAt, FitIs, CloseIs, Onto}
 use Rattle.writer.specs.declared.fit.Standing.{Standing}
 use Rattle.writer.specs.declared.fit.Fitted.{Fitted}
 use Rattle.writer.specs.declared.fit.Fitted.the-variants.{Unfit, Fits}
 use Rattle.writer.proofs.Laying.{laid-then, laid-none}
-use Rattle.writer.proofs.Search.{found-some, found-none, room-back}
+use Rattle.writer.proofs.Search.{alike, alike-is, found-some, found-none, room-back}
 use Rattle.writer.proofs.Steps.{go-is, goes-good}
 
 -- A row's own move in its place
@@ -104,16 +104,6 @@ module _ (inD : Bool) (s : Standing) (kind level : ℕ) (v : List ℕ) {x : ℕ}
           ∙ ap (λ (st : State). led (codeIn y ∷ []) (fitRow (editionOf inD) st row)) (sym (go-is s y))
 
 -- The closing
-
-abbrev alike : Bool → Bool → Bool
-alike true b = b
-alike false b = not b
-
-alike-is : (a b : Bool) → T (alike a b) → a ≡ b
-alike-is true true t = refl
-alike-is true false t = absurd t
-alike-is false true t = absurd t
-alike-is false false t = refl
 
 abbrev closedLast : Edition → Room → Bool
 closedLast e r = alike (isClosed r) (eqb (roomNumber r) 21)

@@ -8,13 +8,13 @@ use lib.Dec.{T, eqb, leb, ltb, eqb→eq, leb→le, ltb→lt}
 use lib.ListN.{length, getD}
 use borrow.Author.Tests.{eq-eqb, ne-eqb}
 use Rattle.meaning.specs.Basics.{pick, every}
-use Rattle.meaning.specs.Editions.{Room, closed, isQuiet, Move, moves}
+use Rattle.meaning.specs.Editions.{Room, closed, isQuiet, Move}
 use Rattle.meaning.specs.Reading.{Found, none, hit, find, orElse}
 use Rattle.meaning.specs.Writing.{isPass, wayTo, atLevel}
 use Rattle.laws.specs.Logic.{left-of, right-of}
-use Rattle.laws.specs.From.{from, from-cons, from-end}
+use Rattle.laws.specs.From.{from-cons, from-end}
 use Rattle.laws.specs.Tables.{rooms, roomNumber}
-use Rattle.writer.specs.Moves.{editionOf, roomOf, codeIn, formIn, targetIn, formOf, moveOf, inEdition, packed, firsts, firstOf, select, between, table-is, foundIn, Known, movesAt, Finds}
+use Rattle.writer.specs.Moves.{roomOf, codeIn, formIn, targetIn, formOf, moveOf, inEdition, packed, firsts, firstOf, select, between, table-is, foundIn, Known, movesAt, Finds}
 
 -- the rooms' numbers
 abbrev numbered : List Room → ℕ → Bool
@@ -51,11 +51,11 @@ unfolding firsts
 first-most n = small-at firsts n tt
 
 -- what holds of every number in the table
-abbrev alike : Bool → Bool → Bool
+abbrev pub alike : Bool → Bool → Bool
 alike true b = b
 alike false b = not b
 
-alike-is : (a b : Bool) → T (alike a b) → a ≡ b
+pub alike-is : (a b : Bool) → T (alike a b) → a ≡ b
 alike-is true true t = refl
 alike-is true false t = absurd t
 alike-is false true t = absurd t

@@ -1,14 +1,14 @@
 -- Where a move leads, by numbers and by `meaning`; and that a move without a row makes what is left of the search lighter.
 use mathlib.Core.Path.{_≡_, refl, sym, ap, _∙_, subst}
 use mathlib.Core.Bool.{Bool, true, false, _&&_}
-use Prim.Native.Nat.{ℕ, zero, suc, _+_, _-_, _*_, _≤_, _<_}
+use Prim.Native.Nat.{ℕ, zero, suc, _+_, _-_, _≤_, _<_}
 use native.Mathlib.Omega.{arith}
 use native.Mathlib.Numerals.{add-one}
 use lib.Dec.{eqb, ltb}
 use borrow.Author.Tests.{ne-eqb, ltb-true, ltb-false}
 use Rattle.meaning.specs.Basics.{pick}
-use Rattle.meaning.specs.Editions.{Edition, Room, parameters, agentList, afterResolvers, State, state, Next, outer, inner, innerOne, stay, deeper, listEnds, agentEnds, listEnd, go, isQuiet, Move, moves}
-use Rattle.laws.specs.Fits.{heavy, weight, heavy-most}
+use Rattle.meaning.specs.Editions.{Room, parameters, agentList, afterResolvers, state, Next, outer, inner, innerOne, stay, deeper, listEnds, agentEnds, listEnd, go, B}
+use Rattle.laws.specs.Fits.{heavy, heavy-most}
 use Rattle.writer.specs.Moves.{roomOf, nextIn, targetIn, nextOf, moveOf, Known}
 use Rattle.writer.specs.Fitting.{standing, stateOf, listEnding, agentEnding, goTo, Good}
 use Rattle.writer.specs.declared.fit.Standing.{Standing}
@@ -81,7 +81,7 @@ module _ (s : Standing) where
   goes-good {x} q k h = subst Good (sym q) (record { room = go-good x (k .target-room) .0; level = omega (arith, go-good x (k .target-room) .1) })
 
   pub good-heavy : Good s → heavy (stateOf s) ≤ 8589934597
-  good-heavy g = omega (arith, heavy-most Rattle.meaning.specs.Editions.B (stateOf s), g .level)
+  good-heavy g = omega (arith, heavy-most B (stateOf s), g .level)
 
   pub heavy-level : (n : ℕ) → heavy (stateOf s) ≤ n → s .level ≤ n
   heavy-level n h = omega arith

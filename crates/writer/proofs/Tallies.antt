@@ -6,7 +6,7 @@ use native.Mathlib.Omega.{arith}
 use lib.Dec.{leb}
 use borrow.Author.Tests.{le-leb, lt-leb}
 use Rattle.meaning.specs.Basics.{pick}
-use Rattle.meaning.specs.Writing.{envelopeSize, Limit, fine, exceeds}
+use Rattle.meaning.specs.Writing.{envelopeSize, fine, exceeds}
 use Rattle.writer.specs.Whole.{firstOver, limitOf, sized, Tallied}
 use Rattle.writer.specs.declared.measure.Tally.{Tally}
 

@@ -2,14 +2,14 @@
 use mathlib.Core.Path.{_≡_, refl, sym, ap, _∙_, subst}
 use mathlib.Core.Bool.{Bool, true, false, _&&_}
 use mathlib.Core.List.{List, [], _∷_, _++_, append-nil}
-use Prim.Native.Nat.{ℕ, zero, suc, _+_, _-_, _≤_, _<_}
+use Prim.Native.Nat.{ℕ, suc, _+_, _-_, _≤_, _<_}
 use native.Mathlib.Omega.{arith}
 use lib.Dec.{T, eqb, leb, ltb}
 use lib.ListN.{length, getD}
-use borrow.Author.Tests.{eq-eqb, ne-eqb, le-leb, lt-leb, lt-ltb, le-ltb, ltb-true}
+use borrow.Author.Tests.{ne-eqb, le-leb, lt-leb, ltb-true, leb-false, leb-true}
 use Rattle.meaning.specs.Basics.{pick, isEmpty}
-use Rattle.meaning.specs.Bytes.{Taken, took, failed, textByte, textOk, numberOk, takeNumber, dateOk, takeDate, Check, dateChecks, blockOk, lengthBytes, oneByte, twoBytes, fourBytes, Reach, absolute, relative}
-use Rattle.meaning.specs.Editions.{Form, text, date, number, block, itself, opens, quiet}
+use Rattle.meaning.specs.Bytes.{Taken, took, failed, textByte, textOk, numberOk, takeNumber, dateOk, takeDate, Check, blockOk, lengthBytes, oneByte, Width, fewest, past}
+use Rattle.meaning.specs.Editions.{Form, block, itself, opens, quiet}
 use Rattle.meaning.specs.Writing.{isOnly, valid, writeValue}
 use Rattle.laws.specs.Logic.{is-true}
 use Rattle.laws.specs.From.{from, from-length, from-end}
@@ -75,8 +75,8 @@ module _ (stage : List ℕ → Taken) (ok : List ℕ → Bool) (into : (v : List
     value-whole {many = many} {after = after} a q = by (leb end after) refl (valued-at a q .0)
       where
         by : (b : Bool) → leb end after ≡ b → span 0 (stage v) ≡ spans many (from s after end) → leb end after ≡ ok v
-        by true e p = e ∙ sym (whole-at (stage v) many after refl p (borrow.Author.Tests.leb-true end after e))
-        by false e p = e ∙ sym (part-at (stage v) many after refl p (borrow.Author.Tests.leb-false end after e))
+        by true e p = e ∙ sym (whole-at (stage v) many after refl p (leb-true end after e))
+        by false e p = e ∙ sym (part-at (stage v) many after refl p (leb-false end after e))
 
     pub value-refused : {kind back : ℕ} {r : Value} {refusal place : ℕ} → Valued s end at kind back (stage v) r → r ≡ Refused refusal place → false ≡ ok v
     value-refused a q = sym (none-at (stage v) _ _ refl (valued-refused a q .0))
@@ -161,9 +161,9 @@ module _ (n c : ℕ) (v : List ℕ) where
       at true = empty
       at false = empty
 
-pub block-is : (w : Rattle.meaning.specs.Bytes.Width) (v : List ℕ) (many : ℕ) → length v ≡ many → (leb (Rattle.meaning.specs.Bytes.fewest w) many && ltb many (Rattle.meaning.specs.Bytes.past w)) ≡ blockOk w v
+pub block-is : (w : Width) (v : List ℕ) (many : ℕ) → length v ≡ many → (leb (fewest w) many && ltb many (past w)) ≡ blockOk w v
 unfolding blockOk
-block-is w v many e = ap (λ (n : ℕ). leb (Rattle.meaning.specs.Bytes.fewest w) n && ltb n (Rattle.meaning.specs.Bytes.past w)) (sym e)
+block-is w v many e = ap (λ (n : ℕ). leb (fewest w) n && ltb n (past w)) (sym e)
 
 -- what a form writes
 pub writes-as : (n : ℕ) (v bs : List ℕ) {f : Form} → formOf n ≡ f → bs ≡ writeValue f v → bs ≡ writeValue (formOf n) v
@@ -174,17 +174,17 @@ unfolding writeValue
 writes-none n v n₁ n₂ n₅ n₆ n₇ n₈ n₉ n₁₀ n₁₁ = rest-form n (λ f. _≡_ {A = List ℕ} [] (writeValue f v)) refl refl refl n₁ n₂ n₅ n₆ n₇ n₈ n₉ n₁₀ n₁₁
 
 -- a block's length fits its width
-pub block-small : (n c : ℕ) (v : List ℕ) (many : ℕ) (w : Rattle.meaning.specs.Bytes.Width) → length v ≡ many → formOf n ≡ block w → valid (formOf n) c v ≡ true → many < Rattle.meaning.specs.Bytes.past w
+pub block-small : (n c : ℕ) (v : List ℕ) (many : ℕ) (w : Width) → length v ≡ many → formOf n ≡ block w → valid (formOf n) c v ≡ true → many < past w
 unfolding valid
 block-small n c v many w e f q =
-    let h : (leb (Rattle.meaning.specs.Bytes.fewest w) many && ltb many (Rattle.meaning.specs.Bytes.past w)) ≡ true = block-is w v many e ∙ sym (ap (λ (g : Form). valid g c v) f) ∙ q in
-    ltb-true many (Rattle.meaning.specs.Bytes.past w) (second (leb (Rattle.meaning.specs.Bytes.fewest w) many) (ltb many (Rattle.meaning.specs.Bytes.past w)) h)
+    let h : (leb (fewest w) many && ltb many (past w)) ≡ true = block-is w v many e ∙ sym (ap (λ (g : Form). valid g c v) f) ∙ q in
+    ltb-true many (past w) (second (leb (fewest w) many) (ltb many (past w)) h)
   where
     second : (a b : Bool) → (a && b) ≡ true → b ≡ true
     second true b q = q
     second false b q = cc
 
-pub block-writes : (w : Rattle.meaning.specs.Bytes.Width) (v : List ℕ) (many : ℕ) → length v ≡ many → lengthBytes w many ++ v ≡ writeValue (block w) v
+pub block-writes : (w : Width) (v : List ℕ) (many : ℕ) → length v ≡ many → lengthBytes w many ++ v ≡ writeValue (block w) v
 unfolding writeValue
 block-writes w v many e = ap (λ (n : ℕ). lengthBytes w n ++ v) (sym e)
 

@@ -1,13 +1,13 @@
 -- `meaning`'s plan is that of the bodies and the edges between them; and the verdict over all rows goes envelope by envelope.
-use Prim.Native.Nat.{ℕ, zero, suc, _+_, _-_, _*_, _/_, _≤_, _<_}
+use Prim.Native.Nat.{ℕ, zero, suc, _+_, _-_, _≤_}
 use mathlib.Core.List.{List, [], _∷_, _++_}
 use mathlib.Core.Bool.{Bool, true, false}
-use mathlib.Core.Path.{_≡_, refl, ap, sym, _∙_, subst}
+use mathlib.Core.Path.{_≡_, refl, ap, sym, _∙_}
 use native.Mathlib.Omega.{arith}
 use native.Mathlib.Numerals.{add-one}
-use lib.Dec.{eqb, leb, ltb}
+use lib.Dec.{eqb, ltb}
 use lib.ListN.{length, length-append}
-use borrow.Author.Tests.{lt-leb, ltb-false, eq-eqb, ne-eqb}
+use borrow.Author.Tests.{lt-leb, ltb-false}
 use Rattle.meaning.specs.Basics.{pick}
 use Rattle.meaning.specs.Editions.{Edition, State, state, closed}
 use Rattle.meaning.specs.Reading.{Row}
@@ -17,7 +17,7 @@ use Rattle.laws.specs.Fits.{close-once}
 use Rattle.laws.specs.Envelopes.{wrap-length}
 use Rattle.writer.specs.Laying.{capped}
 use Rattle.writer.specs.Bodies.{Body, halt, body, onBody, sealBody, rowBody, cellBody, bodyOf, opensNumber, openNumber}
-use Rattle.writer.specs.Whole.{openPlan, edge, fromBody, Verdict, bad, needs, firstOver, verdictOf, verdict, sized, endVerdict, limitOf, Tallied, bytesOfPlan}
+use Rattle.writer.specs.Whole.{openPlan, edge, fromBody, needs, firstOver, verdictOf, verdict, sized, endVerdict, limitOf, Tallied}
 use Rattle.writer.specs.declared.measure.Tally.{Tally}
 use Rattle.writer.proofs.Closed.{closed-unfit}
 
@@ -186,13 +186,16 @@ sized-capped n i k = at (ltb k 1048576) refl
     at false q = let h = ltb-false k 1048576 q in sized-past n i 1048576 (omega arith) ∙ sym (sized-past n i k h)
 
 -- where no limit is passed the count is exact
-exact : (n i k : ℕ) (o : Limit) → firstOver o (sized n i k) ≡ fine → capped k ≡ k
-exact n i k (exceeds j) q = let z : _≡_ {A = ℕ} 0 1 = cc q in absurd (omega arith)
-exact n i k fine q = at (ltb k 1048576) refl
+pub small-count : (n i k : ℕ) → sized n i k ≡ fine → capped k ≡ k
+small-count n i k q = at (ltb k 1048576) refl
   where
     at : (b : Bool) → ltb k 1048576 ≡ b → pick b k 1048576 ≡ k
     at true e = refl
     at false e = let p : exceeds i ≡ fine = sym (sized-past n i k (ltb-false k 1048576 e)) ∙ q in let z : _≡_ {A = ℕ} 0 1 = cc p in absurd (omega arith)
+
+exact : (n i k : ℕ) (o : Limit) → firstOver o (sized n i k) ≡ fine → capped k ≡ k
+exact n i k (exceeds j) q = let z : _≡_ {A = ℕ} 0 1 = cc q in absurd (omega arith)
+exact n i k fine q = small-count n i k q
 
 module _ {t : Tally} {i many : ℕ} {r : Tally} (a : Tallied t i many r) (k : ℕ) (m : many ≡ capped k) where
   tallied-limit : limitOf (r .over) (r .first) ≡ firstOver (limitOf (t .over) (t .first)) (sized (t .left) i k)

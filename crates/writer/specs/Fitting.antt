@@ -69,7 +69,6 @@ deepAt x level = eqb (kindIn x) agentName && ltb levelMost level
 -- what laying a row by its own move asks
 pub record PlaceRequires (x : ℕ) (s : Standing) (pool : List ℕ) (start many : ℕ) (part : List ℕ) (at : ℕ) : Type 0 where
   pub known : Known x
-  pub room : s .room < 22
   pub level : s .level ≤ 4294967295
   pub inside : start + many ≤ length pool
   pub ok : valid (formOf (formIn x)) (codeIn x) (view pool start many) ≡ true

@@ -1,15 +1,15 @@
 -- The table of moves as the code holds it: a number for each move, with its parts as hex digits, and the place of each room's first move.
 -- By computation it is `meaning`'s table.
-use Prim.Native.Nat.{ℕ, zero, suc, _+_, _/_, _%_, _≤_, _<_}
+use Prim.Native.Nat.{ℕ, _+_, _/_, _%_, _≤_, _<_}
 use mathlib.Core.List.{List, [], _∷_}
-use mathlib.Core.Bool.{Bool, true, false, _&&_, _||_, not}
+use mathlib.Core.Bool.{Bool, true, false, _||_}
 use mathlib.Core.Path.{_≡_, refl}
-use lib.Dec.{T, eqb, leb, ltb}
+use lib.Dec.{eqb}
 use lib.ListN.{getD}
 use Rattle.meaning.specs.Basics.{pick}
 use Rattle.meaning.specs.Bytes.{absolute, relative, oneByte, twoBytes, fourBytes}
 use Rattle.meaning.specs.Editions.{Edition, B, D, Room, receivedBegins, headRepresentation, headDate, parameters, ownText, parameterRepresentation, behaviourValue, encryptedTexts, receivedDate, afterDate, afterFrom, afterId, afterVia, receivedExtra, agentList, oneAgent, afterName, addressTexts, afterAddresses, afterResolvers, agentExtra, closed, Next, outer, inner, innerOne, stay, deeper, listEnds, agentEnds, Form, text, date, number, block, itself, opens, quiet, isQuiet, Move, moves, shared, own}
-use Rattle.meaning.specs.Reading.{Found, none, hit, find}
+use Rattle.meaning.specs.Reading.{Found, none, hit}
 use Rattle.laws.specs.From.{from}
 use Rattle.laws.specs.Tables.{rooms, roomNumber}
 

@@ -3,12 +3,12 @@ use Prim.Native.Nat.{ℕ, zero, suc, _+_, _-_, _*_, _/_, _≤_}
 use mathlib.Core.List.{List, [], _∷_, _++_}
 use mathlib.Core.Bool.{Bool, true, false}
 use mathlib.Core.Path.{_≡_}
-use lib.Dec.{leb, eqb}
+use lib.Dec.{eqb}
 use lib.ListN.{length, take, drop}
 use Rattle.meaning.specs.Basics.{pick}
-use Rattle.meaning.specs.Editions.{Edition, State}
-use Rattle.meaning.specs.Headers.{start, envelopeMost}
-use Rattle.meaning.specs.Writing.{Cell, cell, broken, Opens, envelopeRow, innerRow, opensOf, Envelope, Plan, stuck, plan, newPlan, planOf, wholePlan, envelopeSize, withinLimit, wrap, envelopeLength, headerOf, Limit, fine, exceeds, limits, Written, written, unwritten}
+use Rattle.meaning.specs.Editions.{Edition}
+use Rattle.meaning.specs.Headers.{start}
+use Rattle.meaning.specs.Writing.{Cell, cell, broken, Opens, envelopeRow, innerRow, opensOf, Plan, stuck, plan, newPlan, planOf, wholePlan, envelopeSize, withinLimit, wrap, envelopeLength, headerOf, Limit, fine, exceeds, limits}
 use Rattle.writer.specs.Moves.{editionOf}
 use Rattle.writer.specs.Fitting.{standing}
 use Rattle.writer.specs.Laying.{capped}

@@ -19,6 +19,11 @@ pub enum Bodied {
     Ended { row: usize, many: usize },
 }
 
+const EXTENSION_OPENS: usize = 1;
+
+const BASE_OPENS: usize = 2;
+
+// A number of a row; only here and where a row is read stands how many it has.
 fn word(rows: &[u32], k: usize) -> usize
     requires { ⌜ k < length (now rows) ⌝ }
     ensures { λ r. ⌜ (r ≡ getD (now (rows .entry)) k 0) × (r ≤ 4294967295) ⌝ }
@@ -37,10 +42,10 @@ fn opening(kind: usize, level: usize, pool: &[u8], start: usize, many: usize) ->
     if many != 0 {
         return 0;
     }
-    if kind == 1 {
+    if kind == EXTENSION_OPENS {
         return 1;
     }
-    if kind == 2 {
+    if kind == BASE_OPENS {
         return 2;
     }
     0

@@ -38,7 +38,26 @@ pub enum Fitted {
 
 const CLOSING: usize = 0x01;
 
+// The form of a move that has no row.
+const QUIET: usize = 12;
+
+// Rooms by number.
+const PARAMETERS: usize = 3;
+
+const AGENT_LIST: usize = 14;
+
+const AFTER_RESOLVERS: usize = 19;
+
 const CLOSED: usize = 21;
+
+// Kinds of rows.
+const STANDARD_REPRESENTATION: usize = 3;
+
+const OWN_REPRESENTATION: usize = 4;
+
+const RECEIVED_BY: usize = 8;
+
+const AGENT_NAME: usize = 15;
 
 // Whether a move is a row's own: of its kind, in a form that its bytes have.
 fn is_own(x: usize, in_d: bool, kind: usize, pool: &[u8], start: usize, many: usize) -> bool
@@ -47,7 +66,7 @@ fn is_own(x: usize, in_d: bool, kind: usize, pool: &[u8], start: usize, many: us
 {
     if in_edition(x, in_d) {
         let form = form_of(x);
-        if form == 12 {
+        if form == QUIET {
             return false;
         }
         if kind_of(x) != kind {
@@ -81,7 +100,7 @@ fn is_pass(x: usize, in_d: bool, code: usize) -> bool
     ensures { λ r. ⌜ r ≡ (inEdition x in_d && isPass code (moveOf x)) ⌝ }
 {
     if in_edition(x, in_d) {
-        if form_of(x) == 12 {
+        if form_of(x) == QUIET {
             return code_of(x) == code;
         }
     }
@@ -128,10 +147,10 @@ fn own_move(
 fn way_to(kind: usize) -> usize
     ensures { λ r. ⌜ r ≡ wayTo kind ⌝ }
 {
-    if (kind == 3) | (kind == 4) {
+    if (kind == STANDARD_REPRESENTATION) | (kind == OWN_REPRESENTATION) {
         return 0x04;
     }
-    if kind == 8 {
+    if kind == RECEIVED_BY {
         return 0x0a;
     }
     CLOSING
@@ -182,9 +201,9 @@ fn list_ends(level: usize, single: bool) -> Standing
     ensures { λ r. ⌜ r ≡ listEnding level single ⌝ }
 {
     if level < 2 {
-        return stand(3, 0, false);
+        return stand(PARAMETERS, 0, false);
     }
-    stand(19, level - 1, single)
+    stand(AFTER_RESOLVERS, level - 1, single)
 }
 
 // The one agent of `from` ends its parameter; any other goes on with its list.
@@ -192,16 +211,16 @@ fn agent_ends(level: usize, single: bool) -> Standing
     ensures { λ r. ⌜ r ≡ agentEnding level single ⌝ }
 {
     if single & (level == 1) {
-        return stand(3, 0, false);
+        return stand(PARAMETERS, 0, false);
     }
-    stand(14, level, single)
+    stand(AGENT_LIST, level, single)
 }
 
 // "12: agent of level 9"; for the writer "Level 9 is 15".
 fn too_deep(x: usize, level: usize) -> bool
     ensures { λ r. ⌜ r ≡ deepAt x level ⌝ }
 {
-    (kind_of(x) == 15) & (8 < level)
+    (kind_of(x) == AGENT_NAME) & (8 < level)
 }
 
 // A row by its own move.

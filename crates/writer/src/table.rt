@@ -1,10 +1,12 @@
 // The editions' tables of moves, as numbers. `meaning` says what a move is; the tie is `table-is`.
 ghost use mathlib.Core.Path.{_≡_};
-ghost use Prim.Native.Nat.{_≤_, _<_};
-ghost use Rattle.writer.specs.Moves.{Known, packed, firstOf, inEdition, targetIn, nextIn, formIn, kindIn, codeIn};
+ghost use Prim.Native.Nat.{_<_};
+ghost use Rattle.writer.specs.Moves.{packed, firstOf, inEdition, targetIn, nextIn, formIn, kindIn, codeIn};
 ghost use lib.ListN.{getD};
 
 // Hex digits: edition (0 both, 1 B, 2 D), code (100 none), the row's kind, form, next, target room.
+// Forms: 1 text, 2 number, 3 the code itself, 4 opens, 5 to 7 blocks of 1, 2 and 4 length bytes, 8 and 9 absolute dates without and with
+// designator, a and b relative ones, c no row. Next: 0 envelope level, 1 inside, 2 the one agent, 3 same level, 4 deeper, 5 list ends, 6 agent ends.
 const MOVES: [usize; 81] = [
     // receivedBegins
     0x0_100_08_1_1_08,

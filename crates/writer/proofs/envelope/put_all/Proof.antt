@@ -1,8 +1,9 @@
 -- `envelope::put_all`: the bytes so far, in front of the output as it was; the check rules out what is not written.
 use Prim.Native.Nat.{_-_, _/_}
 use Rattle.meaning.specs.Editions.{opens}
+use Rattle.writer.proofs.Checking.{ends-here, ends-later, ends-small, row-inside, stuck-here}
 use Rattle.writer.proofs.Envelopes.{start-good}
-use Rattle.writer.proofs.Passing.{Writing, ends-here, ends-later, ends-small, row-inside, stuck-here, writing-ends, writing-length, writing-none, writing-on, writing-room, writing-starts, writing-stuck}
+use Rattle.writer.proofs.Writing.{Writing, writing-ends, writing-length, writing-none, writing-on, writing-room, writing-starts, writing-stuck}
 use Rattle.writer.specs.Whole.{Writable}
 use borrow.Author.Needs.{needs}
 use lib.ListN.{length}

@@ -31,7 +31,7 @@ own-move-requires : tie.Need-own-move-requires Inv-loop μ-loop
 own-move-requires c κs = (c .loop .inv .0, c .before .before .before .pre .inside)
 
 place-row-requires : tie.Need-place-row-requires Inv-loop μ-loop
-place-row-requires c κs = record { known = c .before .before .own-move .ensures .0 .known (c .before .if1 .taken); room = c .before .before .before .loop .inv .0; level = own-level (c .before .before .own-move .ensures .1) (c .before .if1 .taken) (c .before .before .before .before .before .before .pre .level-most); inside = c .before .before .before .before .before .before .pre .inside; ok = own-valid (c .before .before .before .before .before .before .args .in-d) (c .before .before .before .loop .s) (c .before .before .before .before .before .before .args .kind) (c .before .before .before .before .before .before .args .level) (view (c .before .before .before .before .before .before .args .pool .now) (c .before .before .before .before .before .before .args .start) (c .before .before .before .before .before .before .args .many)) (c .before .before .own-move .ensures .0) (c .before .if1 .taken); layable = c .before .before .before .loop .inv .2 }
+place-row-requires c κs = record { known = c .before .before .own-move .ensures .0 .known (c .before .if1 .taken); level = own-level (c .before .before .own-move .ensures .1) (c .before .if1 .taken) (c .before .before .before .before .before .before .pre .level-most); inside = c .before .before .before .before .before .before .pre .inside; ok = own-valid (c .before .before .before .before .before .before .args .in-d) (c .before .before .before .loop .s) (c .before .before .before .before .before .before .args .kind) (c .before .before .before .before .before .before .args .level) (view (c .before .before .before .before .before .before .args .pool .now) (c .before .before .before .before .before .before .args .start) (c .before .before .before .before .before .before .args .many)) (c .before .before .own-move .ensures .0) (c .before .if1 .taken); layable = c .before .before .before .loop .inv .2 }
 
 same-length : tie.Need-same-length Inv-loop μ-loop
 same-length c = search needs

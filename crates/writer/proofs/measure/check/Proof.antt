@@ -1,8 +1,8 @@
 -- `measure::check`: the verdict of all rows is that of the tally so far and the rows from here on.
 use Prim.Native.Nat.{_*_, _+_, _-_, _/_, _≤_}
 use Rattle.meaning.specs.Writing.{fine, wholePlan}
+use Rattle.writer.proofs.Checking.{check-base, check-extension, check-none, check-stuck, ends-here, ends-later, ends-small, rest, row-inside, stuck-here}
 use Rattle.writer.proofs.Envelopes.{start-good}
-use Rattle.writer.proofs.Passing.{check-base, check-extension, check-none, check-stuck, ends-here, ends-later, ends-small, rest, row-inside, stuck-here}
 use Rattle.writer.proofs.Wholes.{whole-edge}
 use Rattle.writer.specs.Bodies.{cellsAt}
 use Rattle.writer.specs.Moves.{editionOf}

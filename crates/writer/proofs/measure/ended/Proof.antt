@@ -1,5 +1,5 @@
 -- `measure::ended`: no cell may follow the base; then the limits.
-use Rattle.writer.proofs.Passing.{end-all, end-more, end-part, over-limit, under-limit}
+use Rattle.writer.proofs.Checking.{end-all, end-more, end-part, over-limit, under-limit}
 use Rattle.writer.specs.Whole.{checkedOf, limitOf}
 use mathlib.Core.Path.{_∙_, ap}
 use Rattle.writer.proofs.measure.ended.Statement.{statement}
