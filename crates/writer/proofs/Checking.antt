@@ -1,0 +1,149 @@
+-- The check, envelope by envelope: what opens at a row, the body behind it, and what the tally says of the rest.
+use Prim.Native.Nat.{ℕ, _+_, _/_, _%_, _≤_, _<_}
+use mathlib.Core.List.{List, []}
+use mathlib.Core.Bool.{Bool, true, false}
+use mathlib.Core.Path.{_≡_, refl, ap, sym, _∙_, subst}
+use native.Mathlib.Omega.{arith}
+use lib.Dec.{eqb, ltb}
+use lib.ListN.{length}
+use borrow.Author.Tests.{ltb-true, ltb-false, eq-eqb, ne-eqb}
+use Rattle.meaning.specs.Basics.{pick}
+use Rattle.meaning.specs.Editions.{State}
+use Rattle.meaning.specs.Headers.{start}
+use Rattle.meaning.specs.Writing.{Cell, Plan, stuck, newPlan, Limit}
+use Rattle.writer.specs.Moves.{editionOf, roomOf}
+use Rattle.writer.specs.Laying.{capped}
+use Rattle.writer.specs.Fitting.{standing, stateOf}
+use Rattle.writer.specs.Bodies.{cellsAt, Body, halt, body, bodyOf, openNumber}
+use Rattle.writer.specs.Whole.{edge, fromBody, Verdict, bad, needs, verdictOf, verdict, endVerdict, limitOf, checkedOf, Measured, Tallied, startAt}
+use Rattle.writer.specs.declared.fit.Standing.{Standing}
+use Rattle.writer.specs.declared.measure.Tally.{Tally}
+use Rattle.writer.specs.declared.body.Bodied.{Bodied}
+use Rattle.writer.specs.declared.body.Bodied.the-variants.{Stuck, Ended}
+use Rattle.writer.proofs.Laying.{capped-most}
+use Rattle.writer.proofs.Bodies.{cells-next, cells-none, cells-part, open-end}
+use Rattle.writer.proofs.Wholes.{edge-none, edge-open, tally-extension, tally-base, Later, body-later, opened}
+
+-- the plan from row i on, where an envelope must open
+abbrev pub rest : Bool → List ℕ → List ℕ → ℕ → Plan
+rest inD pool rows i = edge (editionOf inD) false [] i (cellsAt pool rows i)
+
+start-is : (n : ℕ) → stateOf (startAt n) ≡ start (eqb n 2)
+unfolding roomOf
+start-is n = at (eqb n 2)
+  where
+    at : (b : Bool) → stateOf (pick b (standing 1 0 false) (standing 0 0 false)) ≡ start b
+    at true = refl
+    at false = refl
+
+inside-rows : (pool rows : List ℕ) (i n : ℕ) → n ≡ openNumber (cellsAt pool rows i) → (n ≡ 0 → ⊥) → i < length rows / 4
+inside-rows pool rows i n q h = at (ltb i (length rows / 4)) refl
+  where
+    at : (b : Bool) → ltb i (length rows / 4) ≡ b → i < length rows / 4
+    at true e = ltb-true i (length rows / 4) e
+    at false e = absurd (h (q ∙ sym (open-end pool rows i (ltb-false i (length rows / 4) e))))
+
+-- what the envelope that opens at row i is
+module _ (inD : Bool) (pool rows : List ℕ) (i : ℕ) {n : ℕ} (q : n ≡ openNumber (cellsAt pool rows i)) where
+  pub rest-none : n ≡ 0 → rest inD pool rows i ≡ stuck i
+  rest-none z = edge-none (editionOf inD) [] i (cellsAt pool rows i) (sym q ∙ z)
+
+  module _ (h : n ≡ 0 → ⊥) where
+    pub row-inside : i < length rows / 4
+    row-inside = inside-rows pool rows i n q h
+
+    abbrev pub here : Body
+    here = bodyOf (editionOf inD) (cellsAt pool rows (i + 1)) (i + 1) (stateOf (startAt n))
+
+    pub rest-opens : rest inD pool rows i ≡ newPlan i (eqb n 2) [] (fromBody (editionOf inD) (eqb n 2) here)
+    rest-opens =
+        let c = cells-next pool rows i row-inside in
+        edge-open (editionOf inD) [] i (cellsAt pool rows i) (cellsAt pool rows (i + 1)) q h (ap opened c)
+        ∙ ap (λ (st : State). newPlan i (eqb n 2) [] (fromBody (editionOf inD) (eqb n 2) (bodyOf (editionOf inD) (cellsAt pool rows (i + 1)) (i + 1) st))) (sym (start-is n))
+
+-- a body that was measured, by the answer
+abbrev pub Ends : Body → List ℕ → List ℕ → ℕ → ℕ → Type 0
+Ends b pool rows row many = (bytes : List ℕ) × (b ≡ body bytes row (cellsAt pool rows row)) × (many ≡ capped (length bytes)) × (row ≤ length rows / 4)
+
+measured-stuck : (b : Body) (pool rows : List ℕ) {r : Bodied} {j : ℕ} → r ≡ Stuck j → Measured b pool rows r → b ≡ halt j
+measured-stuck b pool rows {r} {j} e m = at b (subst (Measured b pool rows) e m)
+  where
+    at : (b : Body) → Measured b pool rows (Stuck j) → b ≡ halt j
+    at (halt k) z = ap halt (sym z)
+    at (body bytes k cells) z = absurd z
+
+measured-ended : (b : Body) (pool rows : List ℕ) {r : Bodied} {row many : ℕ} → r ≡ Ended row many → Measured b pool rows r → Ends b pool rows row many
+measured-ended b pool rows {r} {row} {many} e m = at b (subst (Measured b pool rows) e m)
+  where
+    at : (b : Body) → Measured b pool rows (Ended row many) → Ends b pool rows row many
+    at (halt k) z = absurd z
+    at (body bytes k cells) z = (bytes, rw (sym (z .0), sym (z .2)) refl, z .3, z .1)
+
+-- the same where the code stands at row i
+module _ (inD : Bool) (pool rows : List ℕ) (i : ℕ) {n : ℕ} (q : n ≡ openNumber (cellsAt pool rows i)) (h : n ≡ 0 → ⊥) {s : Standing} (g : s ≡ startAt n) (r : Bodied)
+    (m : Measured (bodyOf (editionOf inD) (cellsAt pool rows (i + 1)) (i + 1) (stateOf s)) pool rows r) where
+  measured-here : Measured (here inD pool rows i q h) pool rows r
+  measured-here = subst (λ (x : Standing). Measured (bodyOf (editionOf inD) (cellsAt pool rows (i + 1)) (i + 1) (stateOf x)) pool rows r) g m
+
+  pub stuck-here : {j : ℕ} → r ≡ Stuck j → here inD pool rows i q h ≡ halt j
+  stuck-here e = measured-stuck (here inD pool rows i q h) pool rows e measured-here
+
+  pub ends-here : {row many : ℕ} → r ≡ Ended row many → Ends (here inD pool rows i q h) pool rows row many
+  ends-here e = measured-ended (here inD pool rows i q h) pool rows e measured-here
+
+pub ends-small : (bytes : List ℕ) {many : ℕ} → many ≡ capped (length bytes) → many ≤ 1048576
+ends-small bytes q = omega (arith, q, capped-most (length bytes))
+
+-- The check, envelope by envelope
+module _ (inD : Bool) (pool rows : List ℕ) (i : ℕ) {n : ℕ} (q : n ≡ openNumber (cellsAt pool rows i)) (t : Tally) where
+  abbrev so-far : Verdict
+  so-far = verdict (t .left) (t .total) (limitOf (t .over) (t .first)) (rest inD pool rows i)
+
+  pub check-none : n ≡ 0 → so-far ≡ bad 15 i
+  check-none z = ap (verdict (t .left) (t .total) (limitOf (t .over) (t .first))) (rest-none inD pool rows i q z)
+
+  module _ (h : n ≡ 0 → ⊥) where
+    abbrev behind : Body → Verdict
+    behind b = verdict (t .left) (t .total) (limitOf (t .over) (t .first)) (newPlan i (eqb n 2) [] (fromBody (editionOf inD) (eqb n 2) b))
+
+    opened-so-far : so-far ≡ behind (here inD pool rows i q h)
+    opened-so-far = ap (verdict (t .left) (t .total) (limitOf (t .over) (t .first))) (rest-opens inD pool rows i q h)
+
+    pub check-stuck : {j : ℕ} → here inD pool rows i q h ≡ halt j → so-far ≡ bad 15 j
+    check-stuck e = opened-so-far ∙ ap behind e
+
+    pub check-base : {row many : ℕ} {r : Tally} → Ends (here inD pool rows i q h) pool rows row many → Tallied t i many r → n ≡ 2 → so-far ≡ endVerdict (cellsAt pool rows row) row (r .total) (limitOf (r .over) (r .first))
+    check-base {row} (bytes, e, m, l) a two =
+        opened-so-far ∙ ap behind e
+        ∙ ap (λ (b : Bool). verdict (t .left) (t .total) (limitOf (t .over) (t .first)) (newPlan i b [] (edge (editionOf inD) b bytes row (cellsAt pool rows row)))) (eq-eqb n 2 two)
+        ∙ tally-base a (length bytes) m (editionOf inD) bytes row (cellsAt pool rows row) refl
+
+    pub check-extension : {row many : ℕ} {r : Tally} → Ends (here inD pool rows i q h) pool rows row many → Tallied t i many r → (n ≡ 2 → ⊥)
+        → so-far ≡ verdict (r .left) (r .total) (limitOf (r .over) (r .first)) (rest inD pool rows row)
+    check-extension {row} (bytes, e, m, l) a two =
+        opened-so-far ∙ ap behind e
+        ∙ ap (λ (b : Bool). verdict (t .left) (t .total) (limitOf (t .over) (t .first)) (newPlan i b [] (edge (editionOf inD) b bytes row (cellsAt pool rows row)))) (ne-eqb n 2 two)
+        ∙ tally-extension a (length bytes) m (editionOf inD) bytes row (cellsAt pool rows row) refl
+
+    -- the next envelope opens further on
+    pub ends-later : {row many : ℕ} → Ends (here inD pool rows i q h) pool rows row many → i < row
+    ends-later {row} (bytes, e, m, l) =
+        let w : i + 1 ≤ row = subst (Later (i + 1)) e (body-later (editionOf inD) (cellsAt pool rows (i + 1)) (i + 1) (stateOf (startAt n))) in
+        omega arith
+
+-- behind the base
+module _ (pool rows : List ℕ) (row total : ℕ) (o : Limit) where
+  pub end-more : row < length rows / 4 → bad 15 row ≡ endVerdict (cellsAt pool rows row) row total o
+  end-more h = sym (ap (λ (x : List Cell). endVerdict x row total o) (cells-next pool rows row h))
+
+  pub end-part : length rows / 4 ≤ row → (length rows % 4 ≡ 0 → ⊥) → bad 15 row ≡ endVerdict (cellsAt pool rows row) row total o
+  end-part h k = sym (ap (λ (x : List Cell). endVerdict x row total o) (cells-part pool rows row h k))
+
+  pub end-all : length rows / 4 ≤ row → length rows % 4 ≡ 0 → verdictOf total o ≡ endVerdict (cellsAt pool rows row) row total o
+  end-all h k = sym (ap (λ (x : List Cell). endVerdict x row total o) (cells-none pool rows row h k))
+
+pub over-limit : (total first : ℕ) {over : Bool} → over ≡ true → checkedOf (bad 5 first) ≡ checkedOf (verdictOf total (limitOf over first))
+over-limit total first q = ap (λ (b : Bool). checkedOf (verdictOf total (limitOf b first))) (sym q)
+
+pub under-limit : (total first : ℕ) {over : Bool} → over ≡ false → checkedOf (needs total) ≡ checkedOf (verdictOf total (limitOf over first))
+under-limit total first q = ap (λ (b : Bool). checkedOf (verdictOf total (limitOf b first))) (sym q)

@@ -1,0 +1,133 @@
+-- Bytes laid one behind the other are the bytes of both laid at once; a count that stops at the limit adds up as any other.
+use mathlib.Core.Path.{_≡_, refl, sym, ap, _∙_, subst}
+use mathlib.Core.Bool.{Bool, true, false}
+use mathlib.Core.List.{List, [], _∷_, _++_}
+use Prim.Native.Nat.{ℕ, suc, _+_, _-_, _/_, _%_, _≤_, _<_}
+use native.Mathlib.Omega.{arith}
+use native.Mathlib.Numerals.{add-one}
+use lib.ListN.{length, drop, getD, set, length-append, length-drop}
+use lib.Seq.{sets, length-sets, set-out, drop-cons, take-suc, getD-drop, length-take-le}
+use lib.Dec.{ltb}
+use borrow.Author.Tests.{le-ltb, ltb-true, ltb-false}
+use Rattle.meaning.specs.Basics.{pick}
+use Rattle.meaning.specs.Bytes.{lengthBytes, twoBytes, fourBytes}
+use Rattle.writer.specs.Laying.{view, capped, one, Laid, Layable}
+
+capped-id : (n : ℕ) → n ≤ 1048576 → n ≡ capped n
+capped-id n h = at (ltb n 1048576) refl
+  where
+    at : (b : Bool) → ltb n 1048576 ≡ b → n ≡ pick b n 1048576
+    at true q = refl
+    at false q = let k = ltb-false n 1048576 q in omega arith
+
+pub capped-most : (n : ℕ) → capped n ≤ 1048576
+capped-most n = at (ltb n 1048576) refl
+  where
+    at : (b : Bool) → ltb n 1048576 ≡ b → pick b n 1048576 ≤ 1048576
+    at true q = let k = ltb-true n 1048576 q in omega arith
+    at false q = omega arith
+
+capped-add : (x y : ℕ) → capped (capped x + y) ≡ capped (x + y)
+capped-add x y = at (ltb x 1048576) refl
+  where
+    at : (b : Bool) → ltb x 1048576 ≡ b → capped (pick b x 1048576 + y) ≡ capped (x + y)
+    at true q = refl
+    at false q = let k = ltb-false x 1048576 q in rw (le-ltb (1048576 + y) 1048576 (omega arith), le-ltb (x + y) 1048576 (omega arith)) refl
+
+sets-past : (m : List ℕ) (at : ℕ) (bs : List ℕ) → length m ≤ at → sets m at bs ≡ m
+sets-past m at [] h = refl
+sets-past m at (b ∷ bs) h = ap (λ (x : List ℕ). sets x (suc at) bs) (set-out m at b h) ∙ sets-past m (suc at) bs (omega arith)
+
+sets-capped : (m : List ℕ) (x : ℕ) (cs : List ℕ) → length m ≤ 1048576 → sets m (capped x) cs ≡ sets m x cs
+sets-capped m x cs h = at (ltb x 1048576) refl
+  where
+    at : (b : Bool) → ltb x 1048576 ≡ b → sets m (pick b x 1048576) cs ≡ sets m x cs
+    at true q = refl
+    at false q = let k = ltb-false x 1048576 q in sets-past m 1048576 cs h ∙ sym (sets-past m x cs (omega arith))
+
+pub sets-append : (m : List ℕ) (at : ℕ) (bs cs : List ℕ) → sets m at (bs ++ cs) ≡ sets (sets m at bs) (at + length bs) cs
+sets-append m at [] cs = let q : at ≡ at + 0 = omega arith in ap (λ (x : ℕ). sets m x cs) q
+sets-append m at (b ∷ bs) cs =
+    let q : suc at + length bs ≡ at + suc (length bs) = omega arith in
+    sets-append (set m at b) (suc at) bs cs ∙ ap (λ (x : ℕ). sets (sets (set m at b) (suc at) bs) x cs) q
+
+-- one byte: stored, or counted, or past the limit
+pub laid-one : (m : List ℕ) (at b : ℕ) → at < length m → Layable m at → Laid m at (one b) (set m at b) (at + 1)
+laid-one m at b h l = record { memory = refl; counted = capped-id (at + 1) (omega (arith, l .small)) }
+
+pub laid-out : (m : List ℕ) (at b : ℕ) → length m ≤ at → at < 1048576 → Laid m at (one b) m (at + 1)
+laid-out m at b h k = record { memory = sym (set-out m at b h); counted = capped-id (at + 1) (omega arith) }
+
+pub laid-full : (m : List ℕ) (at b : ℕ) → length m ≤ at → 1048576 ≤ at → Layable m at → Laid m at (one b) m at
+laid-full m at b h k l =
+    record { memory = sym (set-out m at b h); counted = let q : at ≡ 1048576 = omega (arith, l .counted) in rw (le-ltb (at + 1) 1048576 (omega arith)) q }
+
+pub laid-none : (m : List ℕ) (at : ℕ) → Layable m at → Laid m at [] m at
+laid-none m at l = record { memory = refl; counted = let q : at ≡ at + 0 = omega arith in capped-id at (l .counted) ∙ ap capped q }
+
+module _ {m : List ℕ} {at : ℕ} {bs m₁ : List ℕ} {p₁ : ℕ} (l : Laid m at bs m₁ p₁) where
+  pub laid-most : p₁ ≤ 1048576
+  laid-most = omega (arith, l .counted, capped-most (at + length bs))
+
+  pub laid-length : length m₁ ≡ length m
+  laid-length = ap length (l .memory) ∙ length-sets m at bs
+
+  pub laid-layable : Layable m at → Layable m₁ p₁
+  laid-layable a = record { counted = laid-most; small = omega (arith, laid-length, a .small) }
+
+  pub laid-as : (cs : List ℕ) → bs ≡ cs → Laid m at cs m₁ p₁
+  laid-as cs q = subst (λ (x : List ℕ). Laid m at x m₁ p₁) q l
+
+  pub laid-then : {cs m₂ : List ℕ} {p₂ : ℕ} → length m ≤ 1048576 → Laid m₁ p₁ cs m₂ p₂ → Laid m at (bs ++ cs) m₂ p₂
+  laid-then {cs} {m₂} {p₂} h k =
+      let s : length (sets m at bs) ≤ 1048576 = omega (arith, length-sets m at bs) in
+      let e : at + length bs + length cs ≡ at + length (bs ++ cs) = omega (arith, length-append bs cs) in
+      record {
+        memory = k .memory ∙ ap (λ (x : List ℕ). sets x p₁ cs) (l .memory) ∙ ap (λ (x : ℕ). sets (sets m at bs) x cs) (l .counted) ∙ sets-capped (sets m at bs) (at + length bs) cs s ∙ sym (sets-append m at bs cs);
+        counted = k .counted ∙ ap (λ (x : ℕ). capped (x + length cs)) (l .counted) ∙ capped-add (at + length bs) (length cs) ∙ ap capped e;
+      }
+
+-- The bytes that a row views
+
+pub view-length : (pool : List ℕ) (start many : ℕ) → start + many ≤ length pool → length (view pool start many) ≡ many
+view-length pool start many h = length-take-le many (drop start pool) (omega (arith, length-drop start pool))
+
+view-cons : (pool : List ℕ) (start n : ℕ) → start < length pool → view pool start (suc n) ≡ getD pool start 0 ∷ view pool (suc start) n
+view-cons pool start n h = rw (drop-cons pool start 0 h) refl
+
+pub view-at : (pool : List ℕ) (start many : ℕ) → start + many ≤ length pool → 0 < many → view pool start many ≡ getD pool start 0 ∷ view pool (start + 1) (many - 1)
+view-at pool start many h k =
+    let q : many ≡ suc (many - 1) = omega arith in
+    ap (view pool start) q ∙ view-cons pool start (many - 1) (omega arith) ∙ ap (λ (n : ℕ). getD pool start 0 ∷ view pool n (many - 1)) (sym (add-one start))
+
+pub view-single : (pool : List ℕ) (start many : ℕ) → start + many ≤ length pool → many ≡ 1 → view pool start many ≡ getD pool start 0 ∷ []
+view-single pool start many h q =
+    let z : many - 1 ≡ 0 = omega arith in
+    view-at pool start many h (omega arith) ∙ ap (λ (n : ℕ). getD pool start 0 ∷ view pool (start + 1) n) z
+
+view-next : (pool : List ℕ) (start i : ℕ) → start ≤ i → i < length pool → view pool start (i + 1 - start) ≡ view pool start (i - start) ++ one (getD pool i 0)
+view-next pool start i h k =
+    let q : i + 1 - start ≡ suc (i - start) = omega arith in
+    let p : start + (i - start) ≡ i = omega arith in
+    ap (view pool start) q ∙ take-suc (drop start pool) (i - start) 0 (omega (arith, length-drop start pool))
+    ∙ ap (λ (b : ℕ). view pool start (i - start) ++ one b) (getD-drop start pool (i - start) 0 ∙ ap (λ (n : ℕ). getD pool n 0) p)
+
+-- a view copied byte by byte
+module _ (pool : List ℕ) (start : ℕ) {m₀ : List ℕ} {at : ℕ} where
+  pub copy-start : Layable m₀ at → Laid m₀ at (view pool start (start - start)) m₀ at
+  copy-start l = let q : start - start ≡ 0 = omega arith in rw q (laid-none m₀ at l)
+
+  pub copy-on : {i : ℕ} {m : List ℕ} {p : ℕ} {m₁ : List ℕ} {p₁ : ℕ} → start ≤ i → i < length pool → length m₀ ≤ 1048576
+      → Laid m₀ at (view pool start (i - start)) m p → Laid m p (one (getD pool i 0)) m₁ p₁ → Laid m₀ at (view pool start (i + 1 - start)) m₁ p₁
+  copy-on {i} h k l a b = laid-as (laid-then a l b) (view pool start (i + 1 - start)) (sym (view-next pool start i h k))
+
+  pub copy-done : (many : ℕ) {i : ℕ} {m : List ℕ} {p : ℕ} → i ≡ start + many → Laid m₀ at (view pool start (i - start)) m p → Laid m₀ at (view pool start many) m p
+  copy-done many {i} q a = let e : i - start ≡ many = omega arith in laid-as a (view pool start many) (ap (view pool start) e)
+
+pub four-is : (n : ℕ) → lengthBytes twoBytes (n / 65536) ++ lengthBytes twoBytes (n % 65536) ≡ lengthBytes fourBytes n
+four-is n =
+    let a : n / 65536 / 256 ≡ n / 16777216 = omega arith in
+    let b : n / 65536 % 256 ≡ n / 65536 % 256 = refl in
+    let c : n % 65536 / 256 ≡ n / 256 % 256 = omega arith in
+    let d : n % 65536 % 256 ≡ n % 256 = omega arith in
+    rw (a, c, d) refl

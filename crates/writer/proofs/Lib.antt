@@ -1,0 +1,14 @@
+pub mod Laying
+pub mod Search
+pub mod Values
+pub mod Steps
+pub mod Openings
+pub mod Rows
+pub mod Tallies
+pub mod Bodies
+pub mod Closed
+pub mod Wholes
+pub mod Envelopes
+pub mod Checking
+pub mod Writing
+pub mod Answers

@@ -1,0 +1,53 @@
+-- One envelope more in the tally.
+use mathlib.Core.Path.{_≡_, refl, sym, ap, _∙_}
+use mathlib.Core.Bool.{Bool, true, false}
+use Prim.Native.Nat.{ℕ, zero, suc, _+_, _-_, _*_, _≤_, _<_}
+use native.Mathlib.Omega.{arith}
+use lib.Dec.{leb}
+use borrow.Author.Tests.{le-leb, lt-leb}
+use Rattle.meaning.specs.Basics.{pick}
+use Rattle.meaning.specs.Writing.{envelopeSize, fine, exceeds}
+use Rattle.writer.specs.Whole.{firstOver, limitOf, sized, Tallied}
+use Rattle.writer.specs.declared.measure.Tally.{Tally}
+
+pub sized-zero : (n i k : ℕ) → n ≡ 0 → sized n i k ≡ exceeds i
+sized-zero n i k q = ap (λ (x : ℕ). sized x i k) q
+
+pub sized-big : (n i k : ℕ) {s : ℕ} → s ≡ envelopeSize k → 1048576 < s → sized n i k ≡ exceeds i
+sized-big zero i k q h = refl
+sized-big (suc n) i k {s} q h = ap (λ (x : ℕ). pick (leb x 1048576) fine (exceeds i)) (sym q) ∙ rw (lt-leb s 1048576 h) refl
+
+pub sized-ok : (n i k : ℕ) {s : ℕ} → (n ≡ 0 → ⊥) → s ≡ envelopeSize k → s ≤ 1048576 → sized n i k ≡ fine
+sized-ok zero i k z q h = absurd (z refl)
+sized-ok (suc n) i k {s} z q h = ap (λ (x : ℕ). pick (leb x 1048576) fine (exceeds i)) (sym q) ∙ rw (le-leb s 1048576 h) refl
+
+differ : {A : Type 0} (b : Bool) → b ≡ true → b ≡ false → A
+differ b p q = let z : _≡_ {A = ℕ} 0 1 = cc (p, q) in absurd (omega arith)
+
+module _ (t : Tally) (i many : ℕ) (r : Tally) (l : r .left ≡ t .left - 1) (b : r .total + r .left * 1048576 ≤ 16777216) where
+  pub stays-over : t .over ≡ true → r .over ≡ true → r .first ≡ t .first → Tallied t i many r
+  stays-over p q f =
+      record {
+        limit = ap (λ (x : Bool). limitOf x (r .first)) q ∙ ap exceeds f ∙ sym (ap (λ (x : Bool). firstOver (limitOf x (t .first)) (sized (t .left) i many)) p);
+        less = l;
+        sum = λ z. differ (r .over) q z;
+        bound = b;
+      }
+
+  pub goes-over : t .over ≡ false → sized (t .left) i many ≡ exceeds i → r .over ≡ true → r .first ≡ i → Tallied t i many r
+  goes-over p s q f =
+      record {
+        limit = ap (λ (x : Bool). limitOf x (r .first)) q ∙ ap exceeds f ∙ sym (ap (λ (x : Bool). firstOver (limitOf x (t .first)) (sized (t .left) i many)) p ∙ s);
+        less = l;
+        sum = λ z. differ (r .over) q z;
+        bound = b;
+      }
+
+  pub stays-fine : t .over ≡ false → sized (t .left) i many ≡ fine → r .over ≡ false → r .total ≡ t .total + envelopeSize many → Tallied t i many r
+  stays-fine p s q f =
+      record {
+        limit = ap (λ (x : Bool). limitOf x (r .first)) q ∙ sym (ap (λ (x : Bool). firstOver (limitOf x (t .first)) (sized (t .left) i many)) p ∙ s);
+        less = l;
+        sum = λ z. f;
+        bound = b;
+      }

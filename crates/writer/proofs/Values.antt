@@ -1,0 +1,192 @@
+-- A value is valid for a form exactly if the reader's stage over the view takes it whole; and what each form's number says.
+use mathlib.Core.Path.{_≡_, refl, sym, ap, _∙_, subst}
+use mathlib.Core.Bool.{Bool, true, false, _&&_}
+use mathlib.Core.List.{List, [], _∷_, _++_, append-nil}
+use Prim.Native.Nat.{ℕ, suc, _+_, _-_, _≤_, _<_}
+use native.Mathlib.Omega.{arith}
+use lib.Dec.{T, eqb, leb, ltb}
+use lib.ListN.{length, getD}
+use borrow.Author.Tests.{ne-eqb, le-leb, lt-leb, ltb-true, leb-false, leb-true}
+use Rattle.meaning.specs.Basics.{pick, isEmpty}
+use Rattle.meaning.specs.Bytes.{Taken, took, failed, textByte, textOk, numberOk, takeNumber, dateOk, takeDate, Check, blockOk, lengthBytes, oneByte, Width, fewest, past}
+use Rattle.meaning.specs.Editions.{Form, block, itself, opens, quiet}
+use Rattle.meaning.specs.Writing.{isOnly, valid, writeValue}
+use Rattle.laws.specs.Logic.{is-true}
+use Rattle.laws.specs.From.{from, from-length, from-end}
+use Rattle.laws.specs.Values.{Was, date-in, date-out, number-in, number-out}
+use Rattle.values.specs.declared.Value.{Value}
+use Rattle.values.specs.declared.Value.the-variants.{Is, Refused}
+use Rattle.values.specs.Stages.{span, spans, misses, Valued}
+use Rattle.values.specs.Answers.{valued-at, valued-refused}
+use Rattle.writer.specs.Moves.{formOf}
+use Rattle.writer.specs.Laying.{view}
+use Rattle.writer.proofs.Laying.{view-at, view-single, view-length}
+
+-- Text, byte by byte
+
+module _ (pool : List ℕ) (i n : ℕ) (h : i + n ≤ length pool) (k : 0 < n) where
+  pub text-on : 32 ≤ getD pool i 0 → textOk (view pool i n) ≡ textOk (view pool (i + 1) (n - 1))
+  unfolding textOk textByte
+  text-on q = ap textOk (view-at pool i n h k) ∙ rw (le-leb 32 (getD pool i 0) q) refl
+
+  pub text-bad : getD pool i 0 < 32 → textOk (view pool i n) ≡ false
+  unfolding textOk textByte
+  text-bad q = ap textOk (view-at pool i n h k) ∙ rw (lt-leb 32 (getD pool i 0) q) refl
+
+pub text-end : (pool : List ℕ) (i n : ℕ) → n ≡ 0 → textOk (view pool i n) ≡ true
+unfolding textOk
+text-end pool i n q = ap (λ (k : ℕ). textOk (view pool i k)) q
+
+-- A value that a stage takes whole, and no other
+
+module _ (stage : List ℕ → Taken) (ok : List ℕ → Bool) (into : (v : List ℕ) → T (ok v) → stage (v ++ []) ≡ took v []) (out : (v : List ℕ) → Was (λ v. v) ok v (stage v)) where
+  holds : (v w rest : List ℕ) → stage v ≡ took w rest → rest ≡ [] → ok v ≡ true
+  holds v w rest q e =
+      let i = subst (Was (λ v. v) ok v) q (out v) in
+      let d : v ≡ w = i .0 ∙ ap (λ (x : List ℕ). w ++ x) e ∙ append-nil w in
+      is-true (ok v) (subst (λ (x : List ℕ). T (ok x)) (sym d) (i .1))
+
+  not-ok : (v : List ℕ) → (stage v ≡ took v [] → ⊥) → ok v ≡ false
+  not-ok v h = at (ok v) refl
+    where
+      at : (b : Bool) → ok v ≡ b → ok v ≡ false
+      at true q = absurd (h (ap stage (sym (append-nil v)) ∙ into v (subst T (sym q) tt)))
+      at false q = q
+
+  module _ (s : List ℕ) (at end : ℕ) (h : at ≤ end) (k : end ≤ length s) where
+    abbrev v : List ℕ
+    v = from s at end
+
+    whole-at : (t : Taken) (many after : ℕ) → stage v ≡ t → span 0 t ≡ spans many (from s after end) → end ≤ after → ok v ≡ true
+    whole-at (took w rest) many after e q l = let r : rest ≡ from s after end = cc q in holds v w rest e (r ∙ from-end s after end l)
+    whole-at (failed refusal left) many after e q l = let z : _≡_ {A = ℕ} 0 1 = cc q in absurd (omega arith)
+
+    part-at : (t : Taken) (many after : ℕ) → stage v ≡ t → span 0 t ≡ spans many (from s after end) → after < end → ok v ≡ false
+    part-at (took w rest) many after e q l =
+        let r : rest ≡ from s after end = cc q in
+        not-ok v (λ p. let z : rest ≡ [] = cc (e, p) in let n : length (from s after end) ≡ 0 = ap length (sym r ∙ z) in omega (arith, from-length s after end (omega arith) k))
+    part-at (failed refusal left) many after e q l = let z : _≡_ {A = ℕ} 0 1 = cc q in absurd (omega arith)
+
+    none-at : (t : Taken) (refusal left : ℕ) → stage v ≡ t → span 0 t ≡ misses refusal left → ok v ≡ false
+    none-at (took w rest) refusal left e q = let z : _≡_ {A = ℕ} 0 1 = cc q in absurd (omega arith)
+    none-at (failed refusal₁ left₁) refusal left e q = not-ok v (λ p. let z : _≡_ {A = ℕ} 0 1 = cc (e, p) in omega arith)
+
+    pub value-whole : {kind back : ℕ} {r : Value} {kd start many after : ℕ} → Valued s end at kind back (stage v) r → r ≡ Is kd start many after → leb end after ≡ ok v
+    value-whole {many = many} {after = after} a q = by (leb end after) refl (valued-at a q .0)
+      where
+        by : (b : Bool) → leb end after ≡ b → span 0 (stage v) ≡ spans many (from s after end) → leb end after ≡ ok v
+        by true e p = e ∙ sym (whole-at (stage v) many after refl p (leb-true end after e))
+        by false e p = e ∙ sym (part-at (stage v) many after refl p (leb-false end after e))
+
+    pub value-refused : {kind back : ℕ} {r : Value} {refusal place : ℕ} → Valued s end at kind back (stage v) r → r ≡ Refused refusal place → false ≡ ok v
+    value-refused a q = sym (none-at (stage v) _ _ refl (valued-refused a q .0))
+
+view-from : (pool : List ℕ) (start many : ℕ) → from pool start (start + many) ≡ view pool start many
+unfolding from
+view-from pool start many = let q : start + many - start ≡ many = omega arith in ap (view pool start) q
+
+module _ (pool : List ℕ) (start many : ℕ) (h : start + many ≤ length pool) where
+  abbrev numberHere : List ℕ → Bool
+  numberHere v = numberOk 0 true v
+
+  pub number-whole : {kind back : ℕ} {r : Value} {kd s n after : ℕ} → Valued pool (start + many) start kind back (takeNumber 0 true (from pool start (start + many))) r → r ≡ Is kd s n after
+      → leb (start + many) after ≡ numberOk 0 true (view pool start many)
+  number-whole a q =
+      value-whole (takeNumber 0 true) numberHere (λ v t. number-in 0 true v [] t) (number-out 0 true) pool start (start + many) (omega arith) h a q ∙ ap numberHere (view-from pool start many)
+
+  pub number-refused : {kind back : ℕ} {r : Value} {refusal place : ℕ} → Valued pool (start + many) start kind back (takeNumber 0 true (from pool start (start + many))) r → r ≡ Refused refusal place
+      → false ≡ numberOk 0 true (view pool start many)
+  number-refused a q =
+      value-refused (takeNumber 0 true) numberHere (λ v t. number-in 0 true v [] t) (number-out 0 true) pool start (start + many) (omega arith) h a q ∙ ap numberHere (view-from pool start many)
+
+  module _ (cs : List Check) where
+    pub date-whole : {kind back : ℕ} {r : Value} {kd s n after : ℕ} → Valued pool (start + many) start kind back (takeDate cs [] (from pool start (start + many))) r → r ≡ Is kd s n after
+        → leb (start + many) after ≡ dateOk cs [] (view pool start many)
+    date-whole a q =
+        value-whole (takeDate cs []) (dateOk cs []) (λ v t. date-in cs [] v [] t) (date-out cs []) pool start (start + many) (omega arith) h a q ∙ ap (dateOk cs []) (view-from pool start many)
+
+    pub date-refused : {kind back : ℕ} {r : Value} {refusal place : ℕ} → Valued pool (start + many) start kind back (takeDate cs [] (from pool start (start + many))) r → r ≡ Refused refusal place
+        → false ≡ dateOk cs [] (view pool start many)
+    date-refused a q =
+        value-refused (takeDate cs []) (dateOk cs []) (λ v t. date-in cs [] v [] t) (date-out cs []) pool start (start + many) (omega arith) h a q ∙ ap (dateOk cs []) (view-from pool start many)
+
+-- A single byte that is the code
+
+other-length : (c : ℕ) (v : List ℕ) → (length v ≡ 1 → ⊥) → isOnly c v ≡ false
+other-length c [] h = refl
+other-length c (b ∷ []) h = absurd (h refl)
+other-length c (b ∷ (d ∷ v)) h = refl
+
+module _ (c : ℕ) (pool : List ℕ) (start many : ℕ) (h : start + many ≤ length pool) where
+  pub only-other : (many ≡ 1 → ⊥) → false ≡ isOnly c (view pool start many)
+  only-other k = sym (other-length c (view pool start many) (λ q. k (sym (view-length pool start many h) ∙ q)))
+
+  pub only-byte : {b : ℕ} → many ≡ 1 → b ≡ getD pool start 0 → eqb b c ≡ isOnly c (view pool start many)
+  only-byte k q = sym (ap (isOnly c) (view-single pool start many h k) ∙ ap (λ (x : ℕ). eqb x c) (sym q))
+
+-- The forms by their numbers
+
+empty-is : (v : List ℕ) → isEmpty v ≡ eqb (length v) 0
+empty-is [] = refl
+empty-is (b ∷ v) = sym (ne-eqb (suc (length v)) 0 (λ q. omega arith))
+
+pub as-form : {n k : ℕ} {f : Form} → n ≡ k → formOf k ≡ f → formOf n ≡ f
+as-form q e = ap formOf q ∙ e
+
+-- the forms that are left when these are not it
+pub rest-form : (n : ℕ) (P : Form → Type 0) → P itself → P opens → P quiet → (n ≡ 1 → ⊥) → (n ≡ 2 → ⊥) → (n ≡ 5 → ⊥) → (n ≡ 6 → ⊥) → (n ≡ 7 → ⊥) → (n ≡ 8 → ⊥) → (n ≡ 9 → ⊥) → (n ≡ 10 → ⊥) → (n ≡ 11 → ⊥) → P (formOf n)
+unfolding formOf
+rest-form n P i o q n₁ n₂ n₅ n₆ n₇ n₈ n₉ n₁₀ n₁₁ =
+    rw (ne-eqb n 1 n₁, ne-eqb n 2 n₂, ne-eqb n 5 n₅, ne-eqb n 6 n₆, ne-eqb n 7 n₇, ne-eqb n 8 n₈, ne-eqb n 9 n₉, ne-eqb n 10 n₁₀, ne-eqb n 11 n₁₁) (at (eqb n 3) (eqb n 4))
+  where
+    at : (a b : Bool) → P (pick a itself (pick b opens quiet))
+    at true b = i
+    at false true = o
+    at false false = q
+
+module _ (n c : ℕ) (v : List ℕ) where
+  pub valid-as : {f : Form} → formOf n ≡ f → {b : Bool} → b ≡ valid f c v → b ≡ valid (formOf n) c v
+  valid-as e q = q ∙ ap (λ (f : Form). valid f c v) (sym e)
+
+  pub valid-rest : (many : ℕ) → length v ≡ many → (n ≡ 3 → ⊥) → (n ≡ 1 → ⊥) → (n ≡ 2 → ⊥) → (n ≡ 5 → ⊥) → (n ≡ 6 → ⊥) → (n ≡ 7 → ⊥) → (n ≡ 8 → ⊥) → (n ≡ 9 → ⊥) → (n ≡ 10 → ⊥) → (n ≡ 11 → ⊥)
+      → eqb many 0 ≡ valid (formOf n) c v
+  unfolding formOf valid
+  valid-rest many e n₃ n₁ n₂ n₅ n₆ n₇ n₈ n₉ n₁₀ n₁₁ =
+      rw (ne-eqb n 1 n₁, ne-eqb n 2 n₂, ne-eqb n 3 n₃, ne-eqb n 5 n₅, ne-eqb n 6 n₆, ne-eqb n 7 n₇, ne-eqb n 8 n₈, ne-eqb n 9 n₉, ne-eqb n 10 n₁₀, ne-eqb n 11 n₁₁) (at (eqb n 4))
+    where
+      empty : eqb many 0 ≡ isEmpty v
+      empty = ap (λ (k : ℕ). eqb k 0) (sym e) ∙ sym (empty-is v)
+
+      at : (b : Bool) → eqb many 0 ≡ valid (pick b opens quiet) c v
+      at true = empty
+      at false = empty
+
+pub block-is : (w : Width) (v : List ℕ) (many : ℕ) → length v ≡ many → (leb (fewest w) many && ltb many (past w)) ≡ blockOk w v
+unfolding blockOk
+block-is w v many e = ap (λ (n : ℕ). leb (fewest w) n && ltb n (past w)) (sym e)
+
+-- what a form writes
+pub writes-as : (n : ℕ) (v bs : List ℕ) {f : Form} → formOf n ≡ f → bs ≡ writeValue f v → bs ≡ writeValue (formOf n) v
+writes-as n v bs e q = q ∙ ap (λ (f : Form). writeValue f v) (sym e)
+
+pub writes-none : (n : ℕ) (v : List ℕ) → (n ≡ 1 → ⊥) → (n ≡ 2 → ⊥) → (n ≡ 5 → ⊥) → (n ≡ 6 → ⊥) → (n ≡ 7 → ⊥) → (n ≡ 8 → ⊥) → (n ≡ 9 → ⊥) → (n ≡ 10 → ⊥) → (n ≡ 11 → ⊥) → _≡_ {A = List ℕ} [] (writeValue (formOf n) v)
+unfolding writeValue
+writes-none n v n₁ n₂ n₅ n₆ n₇ n₈ n₉ n₁₀ n₁₁ = rest-form n (λ f. _≡_ {A = List ℕ} [] (writeValue f v)) refl refl refl n₁ n₂ n₅ n₆ n₇ n₈ n₉ n₁₀ n₁₁
+
+-- a block's length fits its width
+pub block-small : (n c : ℕ) (v : List ℕ) (many : ℕ) (w : Width) → length v ≡ many → formOf n ≡ block w → valid (formOf n) c v ≡ true → many < past w
+unfolding valid
+block-small n c v many w e f q =
+    let h : (leb (fewest w) many && ltb many (past w)) ≡ true = block-is w v many e ∙ sym (ap (λ (g : Form). valid g c v) f) ∙ q in
+    ltb-true many (past w) (second (leb (fewest w) many) (ltb many (past w)) h)
+  where
+    second : (a b : Bool) → (a && b) ≡ true → b ≡ true
+    second true b q = q
+    second false b q = cc
+
+pub block-writes : (w : Width) (v : List ℕ) (many : ℕ) → length v ≡ many → lengthBytes w many ++ v ≡ writeValue (block w) v
+unfolding writeValue
+block-writes w v many e = ap (λ (n : ℕ). lengthBytes w n ++ v) (sym e)
+
+pub short-block-is : (v : List ℕ) (many : ℕ) → length v ≡ many → ltb many 256 ≡ blockOk oneByte v
+short-block-is v many e = ap (λ (b : Bool). b && ltb many 256) (sym (le-leb 0 many (omega arith))) ∙ block-is oneByte v many e

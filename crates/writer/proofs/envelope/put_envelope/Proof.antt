@@ -1,0 +1,74 @@
+-- `envelope::put_envelope`: the head's part and the inside's part, put back.
+use Prim.Native.Nat.{_+_, _-_, ℕ}
+use Rattle.writer.proofs.Envelopes.{envelope-laid, size-least, start-good, take-most, written-from}
+use Rattle.writer.proofs.Laying.{laid-length}
+use Rattle.writer.specs.Bodies.{cellsAt}
+use Rattle.writer.specs.Moves.{editionOf}
+use borrow.Author.Needs.{needs}
+use lib.Dec.{eqb}
+use lib.ListN.{drop, length-take}
+use mathlib.Core.Path.{ap, refl}
+use native.Mathlib.Omega.{arith}
+use Rattle.writer.proofs.envelope.put_envelope.Statement.{statement}
+use Rattle.writer.proofs.envelope.put_envelope.Tie as tie
+
+size-of-requires : tie.Need-size-of-requires
+size-of-requires c κs = search needs
+
+add-end : tie.Need-add-end
+add-end c = search needs
+
+sub-inside : tie.Need-sub-inside
+sub-inside c = omega (arith, c .size-of .ensures .0, size-least (c .before .before .before .before .args .many) .0)
+
+sub-put-head : tie.Need-sub-put-head
+sub-put-head c = omega (arith, c .size-of .ensures .0, size-least (c .before .before .before .before .args .many) .0)
+
+part-put-head-start : tie.Need-part-put-head-start
+part-put-head-start c = omega (arith, c .size-of .ensures .0, size-least (c .before .before .before .before .args .many) .0)
+
+part-put-head-end : tie.Need-part-put-head-end
+part-put-head-end c = omega (arith, c .size-of .ensures .0, c .before .before .before .before .pre .room)
+
+put-head-requires : tie.Need-put-head-requires
+put-head-requires c κs = (c .before .before .before .before .before .pre .small, omega (arith, take-most (c .before .before .before .before .before .args .at + c .before .size-of .result - c .before .before .before .before .before .args .many - c .before .before .before .before .before .args .at) (drop (c .before .before .before .before .before .args .at) (c .before .before .before .before .before .args .output .now)), c .before .size-of .ensures .0, size-least (c .before .before .before .before .before .args .many) .1))
+
+start-of-requires : tie.Need-start-of-requires
+start-of-requires c κs = search needs
+
+sub-body : tie.Need-sub-body
+sub-body c = search needs
+
+part-body-start : tie.Need-part-body-start
+part-body-start c = search needs
+
+part-body-end : tie.Need-part-body-end
+part-body-end c = omega (arith, c .before .before .before .before .before .size-of .ensures .0, c .before .before .before .before .before .before .before .before .before .pre .room, laid-length (c .before .before .before .put-head .ensures))
+
+body-requires : tie.Need-body-requires
+body-requires c κs = (start-good (c .before .before .before .before .before .before .before .before .before .before .args .opened) (c .before .start-of .ensures), c .before .before .before .before .before .before .before .before .before .before .pre .inside, simp length-take (omega (arith, c .before .before .before .before .before .before .before .before .before .before .pre .small)))
+
+same-length : tie.Need-same-length
+same-length c = search needs
+
+returns : tie.Need-returns
+returns c = written-from (editionOf (c .before .before .before .before .before .before .before .before .before .before .before .before .before .args .in-d)) (cellsAt (c .before .before .before .before .before .before .before .before .before .before .before .before .before .args .pool .now) (c .before .before .before .before .before .before .before .before .before .before .before .before .before .args .rows .now) (c .before .before .before .before .before .before .before .before .before .before .before .before .before .args .from)) (c .before .before .before .before .before .before .before .before .before .before .before .before .before .args .from) (c .before .before .before .before .start-of .ensures) (envelope-laid (c .before .before .before .before .before .before .before .before .before .before .before .before .before .args .output .now) (c .before .before .before .before .before .before .before .before .before .before .before .before .before .args .at) (c .before .before .before .before .before .before .before .before .before .before .before .before .before .args .at + c .before .before .before .before .before .before .before .before .before .size-of .result - c .before .before .before .before .before .before .before .before .before .before .before .before .before .args .many) (c .before .before .before .before .before .before .before .before .before .before .before .before .before .args .at + c .before .before .before .before .before .before .before .before .before .size-of .result) (c .before .before .before .before .before .before .before .before .before .before .before .before .before .args .many) (eqb (c .before .before .before .before .before .before .before .before .before .before .before .before .before .args .opened) 2) (ap (λ (n : ℕ). c .before .before .before .before .before .before .before .before .before .before .before .before .before .args .at + n) (c .before .before .before .before .before .before .before .before .before .size-of .ensures .0)) refl (omega (arith, c .before .before .before .before .before .before .before .before .before .size-of .ensures .0, c .before .before .before .before .before .before .before .before .before .before .before .before .before .pre .room)) _ _ _ _ _ _ (c .before .before .before .before .before .before .before .put-head .ensures) (c .before .before .body .ensures))
+
+pub put-envelope-spec : {M : Type 1} → statement M
+put-envelope-spec =
+    tie.close
+    (tie.spec
+    size-of-requires
+    add-end
+    sub-inside
+    sub-put-head
+    part-put-head-start
+    part-put-head-end
+    put-head-requires
+    start-of-requires
+    sub-body
+    part-body-start
+    part-body-end
+    body-requires
+    same-length
+    returns)

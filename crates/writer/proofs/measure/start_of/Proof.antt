@@ -1,0 +1,13 @@
+-- `measure::start_of`: the base, or an extension.
+use borrow.Author.Tests.{eq-eqb, ne-eqb}
+use Rattle.writer.proofs.measure.start_of.Statement.{statement}
+use Rattle.writer.proofs.measure.start_of.Tie as tie
+
+returns : tie.Need-returns
+returns c = simp (eq-eqb _ _ (c .if1 .taken))
+
+returns-2 : tie.Need-returns-2
+returns-2 c = simp (ne-eqb _ _ (c .if1 .left))
+
+pub start-of-spec : {M : Type 1} → statement M
+start-of-spec = tie.close (tie.spec returns returns-2)

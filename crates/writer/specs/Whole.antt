@@ -1,0 +1,119 @@
+-- From the insides of envelopes to `meaning`'s plan, and what the check over all rows answers.
+use Prim.Native.Nat.{ℕ, zero, suc, _+_, _-_, _*_, _/_, _≤_}
+use mathlib.Core.List.{List, [], _∷_, _++_}
+use mathlib.Core.Bool.{Bool, true, false}
+use mathlib.Core.Path.{_≡_}
+use lib.Dec.{eqb}
+use lib.ListN.{length, take, drop}
+use Rattle.meaning.specs.Basics.{pick}
+use Rattle.meaning.specs.Editions.{Edition}
+use Rattle.meaning.specs.Headers.{start}
+use Rattle.meaning.specs.Writing.{Cell, cell, broken, Opens, envelopeRow, innerRow, opensOf, Plan, stuck, plan, newPlan, planOf, wholePlan, envelopeSize, withinLimit, wrap, envelopeLength, headerOf, Limit, fine, exceeds, limits}
+use Rattle.writer.specs.Moves.{editionOf}
+use Rattle.writer.specs.Fitting.{standing}
+use Rattle.writer.specs.Laying.{capped}
+use Rattle.writer.specs.Bodies.{Body, halt, body, cellsAt}
+use Rattle.writer.specs.declared.body.Bodied.{Bodied}
+use Rattle.writer.specs.declared.body.Bodied.the-variants.{Stuck, Ended}
+use Rattle.writer.specs.declared.fit.Standing.{Standing}
+use Rattle.writer.specs.declared.measure.Tally.{Tally}
+use Rattle.writer.specs.declared.measure.Checked.{Checked}
+use Rattle.writer.specs.declared.measure.Checked.the-variants.{Bad, Needs}
+
+-- what follows the inside of an envelope; base: it was the base
+abbrev pub openPlan : ℕ → List ℕ → (Bool → Plan) → Opens → Plan
+openPlan j bytes f innerRow = stuck j
+openPlan j bytes f (envelopeRow c) = newPlan j c bytes (f c)
+
+abbrev pub edge : Edition → Bool → List ℕ → ℕ → List Cell → Plan
+edge e true bytes j [] = plan bytes []
+edge e false bytes j [] = stuck j
+edge e base bytes j (broken ∷ cells) = stuck j
+edge e true bytes j (cell row ∷ cells) = stuck j
+edge e false bytes j (cell row ∷ cells) = openPlan j bytes (λ c. planOf e cells (suc j) c (start c)) (opensOf row)
+
+abbrev pub fromBody : Edition → Bool → Body → Plan
+fromBody e base (halt j) = stuck j
+fromBody e base (body bytes j cells) = edge e base bytes j cells
+
+-- the check: the answer by what was seen so far. n: envelopes that may still come; t: bytes so far; o: the first envelope past a limit
+pub data Verdict : Type 0 where
+  bad : ℕ → ℕ → Verdict
+  needs : ℕ → Verdict
+
+abbrev pub firstOver : Limit → Limit → Limit
+firstOver fine p = p
+firstOver (exceeds i) p = exceeds i
+
+abbrev pub verdictOf : ℕ → Limit → Verdict
+verdictOf t fine = needs t
+verdictOf t (exceeds i) = bad 5 i
+
+abbrev pub verdict : ℕ → ℕ → Limit → Plan → Verdict
+verdict n t o (stuck i) = bad 15 i
+verdict n t o (plan bytes vs) = verdictOf (t + length (headerOf vs)) (firstOver o (limits n vs))
+
+-- one envelope more: what its size says
+abbrev pub sized : ℕ → ℕ → ℕ → Limit
+sized zero i k = exceeds i
+sized (suc n) i k = pick (withinLimit k) fine (exceeds i)
+
+-- the verdict where the base ends before these cells
+abbrev pub endVerdict : List Cell → ℕ → ℕ → Limit → Verdict
+endVerdict [] j t o = verdictOf t o
+endVerdict (c ∷ cells) j t o = bad 15 j
+
+-- a body that was measured
+abbrev pub Measured : Body → List ℕ → List ℕ → Bodied → Type 0
+Measured (halt j) pool rows (Stuck i) = i ≡ j
+Measured (halt j) pool rows (Ended row many) = ⊥
+Measured (body bytes j cells) pool rows (Stuck i) = ⊥
+Measured (body bytes j cells) pool rows (Ended row many) = (row ≡ j) × (row ≤ length rows / 4) × (cells ≡ cellsAt pool rows row) × (many ≡ capped (length bytes))
+
+abbrev pub checkedOf : Verdict → Checked
+checkedOf (bad answer place) = Bad answer place
+checkedOf (needs t) = Needs t
+
+abbrev pub limitOf : Bool → ℕ → Limit
+limitOf true i = exceeds i
+limitOf false i = fine
+
+-- the bytes of the envelopes of a plan
+abbrev pub bytesOfPlan : Plan → List ℕ
+bytesOfPlan (stuck i) = []
+bytesOfPlan (plan bytes vs) = headerOf vs
+
+pub record Tallied (t : Tally) (i many : ℕ) (r : Tally) : Type 0 where
+  pub limit : limitOf (r .over) (r .first) ≡ firstOver (limitOf (t .over) (t .first)) (sized (t .left) i many)
+  pub less : r .left ≡ t .left - 1
+  pub sum : r .over ≡ false → r .total ≡ t .total + envelopeSize many
+  pub bound : r .total + r .left * 1048576 ≤ 16777216
+
+-- the state at an envelope's front, by what opens: 2 the base
+abbrev pub startAt : ℕ → Standing
+startAt o = pick (eqb o 2) (standing 1 0 false) (standing 0 0 false)
+
+-- what the pass that writes asks: the check was passed, and its bytes have room
+pub record Writable (inD : Bool) (rows pool output : List ℕ) : Type 0 where
+  pub bytes-needed : ℕ
+  pub passed : verdict 16 0 fine (wholePlan (editionOf inD) (cellsAt pool rows 0)) ≡ needs bytes-needed
+  pub room : bytes-needed ≤ length output
+
+-- what writing an envelope asks: it opens before row `from`, its inside was measured, and the output has room for it
+pub record EnvelopeRequires (inD : Bool) (rows pool : List ℕ) (from opened many : ℕ) (output : List ℕ) (at : ℕ) : Type 0 where
+  pub inside : from ≤ length rows / 4
+  pub opens : 1 ≤ opened
+  pub small : many ≤ 1048576
+  pub room : at + envelopeSize many ≤ length output
+
+-- the envelope's bytes are laid from `at` on
+pub record EnvelopeWritten (b : Body) (base : Bool) (many : ℕ) (before : List ℕ) (at : ℕ) (after : List ℕ) (end : ℕ) : Type 0 where
+  pub ends : end ≡ at + envelopeSize many
+  pub laid : (bytes : List ℕ) (j : ℕ) (cells : List Cell) → b ≡ body bytes j cells → length bytes ≡ many → after ≡ take at before ++ (wrap base bytes ++ drop end before)
+
+-- identifier and length of an envelope with so many bytes inside
+abbrev pub identifierOf : Bool → ℕ
+identifierOf base = pick base 0xfe 0xfd
+
+abbrev pub headOf : Bool → ℕ → List ℕ
+headOf base many = identifierOf base ∷ envelopeLength many

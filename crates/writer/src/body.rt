@@ -1,0 +1,125 @@
+// The inside of one envelope, row by row.
+use crate::fit::Fitted;
+use crate::fit::Standing;
+use crate::fit::close_all;
+use crate::fit::fit_row;
+ghost use mathlib.Core.Path.{_≡_};
+ghost use mathlib.Core.List.{List};
+ghost use Prim.Native.Nat.{ℕ, _+_, _/_, _≤_, _<_};
+ghost use lib.ListN.{length, getD};
+ghost use Rattle.meaning.specs.Writing.{opensOf, close};
+ghost use Rattle.writer.specs.Moves.{editionOf};
+ghost use Rattle.writer.specs.Laying.{view, rowWith, Layable};
+ghost use Rattle.writer.specs.Fitting.{stateOf, Good};
+ghost use Rattle.writer.specs.Bodies.{cellsAt, sealBody, bodyOf, BodyIs, opensNumber, openNumber};
+
+// "15: .. row number from 0"; or the row behind the envelope, and how many bytes its inside has.
+pub enum Bodied {
+    Stuck(usize),
+    Ended { row: usize, many: usize },
+}
+
+const EXTENSION_OPENS: usize = 1;
+
+const BASE_OPENS: usize = 2;
+
+// A number of a row; only here and where a row is read stands how many it has.
+fn word(rows: &[u32], k: usize) -> usize
+    requires { ⌜ k < length (now rows) ⌝ }
+    ensures { λ r. ⌜ (r ≡ getD (now (rows .entry)) k 0) × (r ≤ 4294967295) ⌝ }
+{
+    rows[k] as usize
+}
+
+// Whether a row opens an envelope: 1 an extension, 2 the base, 0 neither.
+fn opening(kind: usize, level: usize, pool: &[u8], start: usize, many: usize) -> usize
+    requires { ⌜ start + many ≤ length (now pool) ⌝ }
+    ensures { λ r. ⌜ r ≡ opensNumber (opensOf (rowWith kind level (view (now (pool .entry)) start many))) ⌝ }
+{
+    if level != 0 {
+        return 0;
+    }
+    if many != 0 {
+        return 0;
+    }
+    if kind == EXTENSION_OPENS {
+        return 1;
+    }
+    if kind == BASE_OPENS {
+        return 2;
+    }
+    0
+}
+
+// The same of row i; 0 too where there is no such row, or it views past the pool.
+pub fn open_at(rows: &[u32], pool: &[u8], i: usize) -> usize
+    ensures { λ r. ⌜ r ≡ openNumber (cellsAt (now (pool .entry)) (now (rows .entry)) i) ⌝ }
+{
+    if rows.len() / 4 <= i {
+        return 0;
+    }
+    let k = i * 4;
+    let kind = word(rows, k);
+    let level = word(rows, k + 1);
+    let start = word(rows, k + 2);
+    let many = word(rows, k + 3);
+    if pool.len() < start + many {
+        return 0;
+    }
+    opening(kind, level, pool, start, many)
+}
+
+// The end of an envelope before row i.
+fn seal(in_d: bool, i: usize, s: Standing, output: &mut [u8], at: usize) -> Bodied
+    requires { ⌜ (Good s) × Layable (now output) at ⌝ }
+    ensures { λ r. ⌜ ((pool rows : List ℕ) → i ≤ length rows / 4 → BodyIs (sealBody i (cellsAt pool rows i) (close (editionOf in_d) (stateOf s))) pool rows (now (output .entry)) at r (now (output .exit))) ⌝ }
+{
+    let f = close_all(in_d, s, output, at);
+    let Fitted::Fits { to: _, at: p } = f else {
+        return Bodied::Stuck(i);
+    };
+    Bodied::Ended { row: i, many: p }
+}
+
+// The inside of an envelope, from the row after its own.
+pub fn body(
+    in_d: bool,
+    rows: &[u32],
+    pool: &[u8],
+    from: usize,
+    s: Standing,
+    output: &mut [u8],
+) -> Bodied
+    requires { ⌜ (Good s) × (from ≤ length (now rows) / 4) × (length (now output) ≤ 1048576) ⌝ }
+    ensures { λ r. ⌜ BodyIs (bodyOf (editionOf in_d) (cellsAt (now (pool .entry)) (now (rows .entry)) from) from (stateOf s)) (now (pool .entry)) (now (rows .entry)) (now (output .entry)) 0 r (now (output .exit)) ⌝ }
+{
+    let n = rows.len() / 4;
+    let mut i = from;
+    let mut t = s;
+    let mut p: usize = 0;
+    while i < n {
+        let next = i + 1;
+        let k = i * 4;
+        let kind = word(rows, k);
+        let level = word(rows, k + 1);
+        let start = word(rows, k + 2);
+        let many = word(rows, k + 3);
+        if pool.len() < start + many {
+            return Bodied::Stuck(i);
+        }
+        if opening(kind, level, pool, start, many) != 0 {
+            return seal(in_d, i, t, output, p);
+        }
+        let f = fit_row(in_d, t, kind, level, pool, start, many, output, p);
+        let Fitted::Fits { to, at } = f else {
+            return Bodied::Stuck(i);
+        };
+        t = to;
+        p = at;
+        i = next;
+    }
+    if rows.len() % 4 != 0 {
+        return Bodied::Stuck(i);
+    }
+    seal(in_d, i, t, output, p)
+}

@@ -1,0 +1,109 @@
+// Bytes laid into the part that is lent, or counted where it has no room: so the same functions measure and write.
+// The count stops at an envelope's limit: no sum wraps, whatever the rows view.
+ghost use mathlib.Core.Path.{_≡_};
+ghost use mathlib.Core.Bool.{true};
+ghost use Prim.Native.Nat.{_+_, _≤_, _<_};
+ghost use lib.ListN.{length};
+ghost use Rattle.meaning.specs.Bytes.{lengthBytes, twoBytes, fourBytes};
+ghost use Rattle.meaning.specs.Writing.{valid, writeValue};
+ghost use Rattle.writer.specs.Moves.{formOf};
+ghost use Rattle.writer.specs.Laying.{view, one, Laid, Layable, leadOf};
+
+const MOST: usize = 1048576;
+
+pub fn put(output: &mut [u8], at: usize, b: u8) -> usize
+    requires { ⌜ Layable (now output) at ⌝ }
+    ensures { λ r. ⌜ Laid (now (output .entry)) at (one b) (now (output .exit)) r ⌝ }
+{
+    if at < output.len() {
+        output[at] = b;
+        return at + 1;
+    }
+    if at < MOST {
+        return at + 1;
+    }
+    at
+}
+
+// A view's bytes.
+fn copy(pool: &[u8], start: usize, many: usize, output: &mut [u8], at: usize) -> usize
+    requires { ⌜ (start + many ≤ length (now pool)) × Layable (now output) at ⌝ }
+    ensures { λ r. ⌜ Laid (now (output .entry)) at (view (now (pool .entry)) start many) (now (output .exit)) r ⌝ }
+{
+    let end = start + many;
+    let mut i = start;
+    let mut p = at;
+    while i < end {
+        p = put(output, p, pool[i]);
+        i += 1;
+    }
+    p
+}
+
+// A number of two bytes, high first.
+pub fn put_two(n: usize, output: &mut [u8], at: usize) -> usize
+    requires { ⌜ (n < 65536) × Layable (now output) at ⌝ }
+    ensures { λ r. ⌜ Laid (now (output .entry)) at (lengthBytes twoBytes n) (now (output .exit)) r ⌝ }
+{
+    let p = put(output, at, (n / 256) as u8);
+    put(output, p, (n % 256) as u8)
+}
+
+// A number of four bytes.
+pub fn put_four(n: usize, output: &mut [u8], at: usize) -> usize
+    requires { ⌜ (n < 4294967296) × Layable (now output) at ⌝ }
+    ensures { λ r. ⌜ Laid (now (output .entry)) at (lengthBytes fourBytes n) (now (output .exit)) r ⌝ }
+{
+    let p = put_two(n / 65536, output, at);
+    put_two(n % 65536, output, p)
+}
+
+// A value behind its code: a text has 00 behind it, a block its length before it.
+pub fn put_value(
+    form: usize,
+    code: usize,
+    pool: &[u8],
+    start: usize,
+    many: usize,
+    output: &mut [u8],
+    at: usize,
+) -> usize
+    requires { ⌜ (start + many ≤ length (now pool)) × (Layable (now output) at) × (valid (formOf form) code (view (now pool) start many) ≡ true) ⌝ }
+    ensures { λ r. ⌜ Laid (now (output .entry)) at (writeValue (formOf form) (view (now (pool .entry)) start many)) (now (output .exit)) r ⌝ }
+{
+    match form {
+        1 => {
+            let p = copy(pool, start, many, output, at);
+            put(output, p, 0)
+        }
+        2 => copy(pool, start, many, output, at),
+        5 => {
+            let p = put(output, at, many as u8);
+            copy(pool, start, many, output, p)
+        }
+        6 => {
+            let p = put_two(many, output, at);
+            copy(pool, start, many, output, p)
+        }
+        7 => {
+            let p = put_four(many, output, at);
+            copy(pool, start, many, output, p)
+        }
+        8 => copy(pool, start, many, output, at),
+        9 => copy(pool, start, many, output, at),
+        10 => copy(pool, start, many, output, at),
+        11 => copy(pool, start, many, output, at),
+        _ => at,
+    }
+}
+
+// A move's code, unless it has none.
+pub fn put_code(code: usize, output: &mut [u8], at: usize) -> usize
+    requires { ⌜ (code ≤ 256) × Layable (now output) at ⌝ }
+    ensures { λ r. ⌜ Laid (now (output .entry)) at (leadOf code) (now (output .exit)) r ⌝ }
+{
+    if code == 256 {
+        return at;
+    }
+    put(output, at, code as u8)
+}

@@ -1,0 +1,175 @@
+// The pass that checks and measures: "15 over all rows, then 5 (place: the envelope's row)".
+use crate::body::Bodied;
+use crate::body::body;
+use crate::body::open_at;
+use crate::fit::Standing;
+ghost use mathlib.Core.Path.{_≡_};
+ghost use mathlib.Core.Bool.{false};
+ghost use mathlib.Core.List.{List};
+ghost use Prim.Native.Nat.{ℕ, _+_, _*_, _/_, _≤_};
+ghost use lib.ListN.{length};
+ghost use Rattle.meaning.specs.Writing.{envelopeSize, wholePlan, fine};
+ghost use Rattle.writer.specs.Moves.{editionOf};
+ghost use Rattle.writer.specs.Bodies.{cellsAt, bodyOf};
+ghost use Rattle.writer.specs.Fitting.{stateOf, Good};
+ghost use Rattle.writer.specs.Whole.{Measured, Tallied, startAt, limitOf, endVerdict, verdict, checkedOf};
+
+// A refusal, or the bytes needed.
+pub enum Checked {
+    Bad { answer: u32, place: usize },
+    Needs(usize),
+}
+
+// The envelopes so far: how many may still come, their bytes, and the row of the first that is past a limit.
+pub struct Tally {
+    pub left: usize,
+    pub total: usize,
+    pub over: bool,
+    pub first: usize,
+}
+
+const MOST: usize = 1048576;
+
+// "The long form is used exactly if the envelope in the short form would pass 65,535 bytes."
+pub fn size_of(many: usize) -> usize
+    requires { ⌜ many ≤ 1048576 ⌝ }
+    ensures { λ r. ⌜ (r ≡ envelopeSize many) × (r ≤ 1048583) ⌝ }
+{
+    let n = 3 + many;
+    if n <= 65535 {
+        return n;
+    }
+    7 + many
+}
+
+// One envelope more, of row i, with so many bytes inside. Past a limit no bytes are added: 5 comes before 16.
+fn count_in(t: Tally, i: usize, many: usize) -> Tally
+    requires { ⌜ (many ≤ 1048576) × (t .total + t .left * 1048576 ≤ 16777216) ⌝ }
+    ensures { λ r. ⌜ Tallied t i many r ⌝ }
+{
+    let left = t.left;
+    let total = t.total;
+    let size = size_of(many);
+    if left == 0 {
+        if t.over {
+            return t;
+        }
+        return Tally {
+            left: 0,
+            total: total,
+            over: true,
+            first: i,
+        };
+    }
+    if t.over {
+        return Tally {
+            left: left - 1,
+            total: total,
+            over: true,
+            first: t.first,
+        };
+    }
+    if MOST < size {
+        return Tally {
+            left: left - 1,
+            total: total,
+            over: true,
+            first: i,
+        };
+    }
+    Tally {
+        left: left - 1,
+        total: total + size,
+        over: false,
+        first: 0,
+    }
+}
+
+pub fn start_of(opened: usize) -> Standing
+    ensures { λ r. ⌜ r ≡ startAt opened ⌝ }
+{
+    if opened == 2 {
+        return Standing {
+            room: 1,
+            level: 0,
+            single: false,
+        };
+    }
+    Standing {
+        room: 0,
+        level: 0,
+        single: false,
+    }
+}
+
+// The inside of an envelope, only measured: its part of the output is empty.
+pub fn measure(in_d: bool, rows: &[u32], pool: &[u8], from: usize, s: Standing) -> Bodied
+    requires { ⌜ (Good s) × (from ≤ length (now rows) / 4) ⌝ }
+    ensures { λ r. ⌜ Measured (bodyOf (editionOf in_d) (cellsAt (now (pool .entry)) (now (rows .entry)) from) from (stateOf s)) (now (pool .entry)) (now (rows .entry)) r ⌝ }
+{
+    let mut none = [0u8; 1];
+    body(in_d, rows, pool, from, s, &mut none[..0])
+}
+
+// The answer behind the base: no row may follow.
+fn ended(rows: &[u32], row: usize, t: Tally) -> Checked
+    ensures { λ r. ⌜ ((pool : List ℕ) → r ≡ checkedOf (endVerdict (cellsAt pool (now (rows .entry)) row) row (t .total) (limitOf (t .over) (t .first)))) ⌝ }
+{
+    if row < rows.len() / 4 {
+        return Checked::Bad {
+            answer: 15,
+            place: row,
+        };
+    }
+    if rows.len() % 4 != 0 {
+        return Checked::Bad {
+            answer: 15,
+            place: row,
+        };
+    }
+    if t.over {
+        return Checked::Bad {
+            answer: 5,
+            place: t.first,
+        };
+    }
+    Checked::Needs(t.total)
+}
+
+// What the rows come to: a refusal, or the bytes that they need.
+pub fn check(in_d: bool, rows: &[u32], pool: &[u8]) -> Checked
+    ensures { λ r. ⌜ r ≡ checkedOf (verdict 16 0 fine (wholePlan (editionOf in_d) (cellsAt (now (pool .entry)) (now (rows .entry)) 0))) ⌝ }
+{
+    let mut i: usize = 0;
+    let mut t = Tally {
+        left: 16,
+        total: 0,
+        over: false,
+        first: 0,
+    };
+    loop {
+        let opened = open_at(rows, pool, i);
+        if opened == 0 {
+            return Checked::Bad {
+                answer: 15,
+                place: i,
+            };
+        }
+        let from = i + 1;
+        let s = start_of(opened);
+        let r = measure(in_d, rows, pool, from, s);
+        match r {
+            Bodied::Stuck(j) => return Checked::Bad {
+                answer: 15,
+                place: j,
+            },
+            Bodied::Ended { row, many } => {
+                t = count_in(t, i, many);
+                if opened == 2 {
+                    return ended(rows, row, t);
+                }
+                i = row;
+            }
+        }
+    }
+}
