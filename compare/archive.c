@@ -4,10 +4,20 @@
 #include "archive.h"
 #include "second.h"
 
+static struct second_reply reply_of(struct gamulisyan_answer answer)
+{
+    return (struct second_reply){answer.answer, answer.place, answer.rows};
+}
+
 struct second_reply archive_read(uint32_t edition, const uint8_t *input, size_t length, uint32_t *rows, size_t rows_length)
 {
-    struct gamulisyan_answer answer = gamulisyan_read(edition, input, length, rows, rows_length);
-    return (struct second_reply){answer.answer, answer.place, answer.rows};
+    return reply_of(gamulisyan_read(edition, input, length, rows, rows_length));
+}
+
+struct second_reply archive_write(uint32_t edition, const uint32_t *rows, size_t rows_length, const uint8_t *pool, size_t pool_length,
+                                  uint8_t *output, size_t output_length)
+{
+    return reply_of(gamulisyan_write(edition, rows, rows_length, pool, pool_length, output, output_length));
 }
 
 struct second_part archive_payload(uint32_t edition, const uint8_t *input, size_t length)

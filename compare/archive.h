@@ -1,5 +1,6 @@
 /* Put before the recorded cases' program: what the archive has, it runs over the archive instead of the second program. */
 #define second_read archive_read
+#define second_write archive_write
 #define second_payload archive_payload
 #define second_number_decode archive_number_decode
 #define second_number_encode archive_number_encode

@@ -73,7 +73,7 @@ enum {
 struct gamulisyan_answer {
     uint32_t answer;
     size_t place; /* the header's length if accepted, else as document 01's table says */
-    size_t rows;  /* rows given; rows needed for 14; else 0 */
+    size_t rows;  /* rows read or written; rows needed for 14; else 0 */
 };
 
 /* A part of the input: its first place, and the place behind its last byte. */
@@ -112,6 +112,11 @@ struct gamulisyan_dated {
 
 /* Reads the header at the front of `input` into `rows`; `numbers` counts the uint32_t lent, four for each row. */
 struct gamulisyan_answer gamulisyan_read(uint32_t edition, const uint8_t *input, size_t length, uint32_t *rows, size_t numbers);
+
+/* Writes the table over the front of `output`. A row's start and length say where in `pool` its bytes are; the input that
+   was read is a pool for its rows. Checked in this order: 1, 15, 5, 16. */
+struct gamulisyan_answer gamulisyan_write(uint32_t edition, const uint32_t *rows, size_t numbers, const uint8_t *pool, size_t pool_length,
+                                          uint8_t *output, size_t length);
 
 /* Where the payload lies: from behind the header up to the input's end, or from 0 to 0 if the header is refused. */
 struct gamulisyan_part gamulisyan_payload(uint32_t edition, const uint8_t *input, size_t length);

@@ -1,7 +1,7 @@
 // The entries under the names that C and Rust programs link, each with its whole promise; nothing else. `include/gamulisyan.h` declares them.
 ghost use Rattle.reader.specs.Promises.{ReadPromise, PartPromise};
+ghost use Rattle.writer.specs.Promise.{WritePromise};
 ghost use Rattle.values.specs.Plain.{NumberDecodes, NumberEncodes, DateDecodes, DateEncodes, plainOf};
-use reader::Answer;
 use reader::Part;
 use values::date::Date;
 use values::decode::DecodedDate;
@@ -9,10 +9,17 @@ use values::decode::DecodedNumber;
 use values::encode::Encoded;
 
 #[no_mangle]
-pub extern "C" fn gamulisyan_read(edition: u32, input: &[u8], rows: &mut [u32]) -> Answer
+pub extern "C" fn gamulisyan_read(edition: u32, input: &[u8], rows: &mut [u32]) -> reader::Answer
     ensures { λ r. ⌜ ReadPromise edition (now (input .entry)) (now (rows .entry)) r (now (rows .exit)) ⌝ }
 {
     reader::read(edition, input, rows)
+}
+
+#[no_mangle]
+pub extern "C" fn gamulisyan_write(edition: u32, rows: &[u32], pool: &[u8], output: &mut [u8]) -> writer::Answer
+    ensures { λ r. ⌜ WritePromise edition (now (rows .entry)) (now (pool .entry)) (now (output .entry)) r (now (output .exit)) ⌝ }
+{
+    writer::write(edition, rows, pool, output)
 }
 
 #[no_mangle]

@@ -17,6 +17,8 @@ ghost use Rattle.meaning.specs.Memory.{cellsOf};
 ghost use Rattle.writer.specs.Moves.{editionOf};
 ghost use Rattle.writer.specs.Promise.{WritePromise, WrittenAs, refusedAt};
 
+// "Accepted gives 0, bytes written, rows."
+#[repr(C)]
 pub struct Answer {
     pub answer: u32,
     pub place: usize,
