@@ -1,0 +1,191 @@
+/* compare SEED COUNT: the archive against the second program on generated headers and tables, whole and damaged, until
+   COUNT comparisons are made; and the customer's demands on every header that is accepted. */
+#include "both.h"
+#include "damage.h"
+#include "generate.h"
+
+#include <inttypes.h>
+#include <stdio.h>
+#include <stdlib.h>
+#include <string.h>
+
+enum { EDITION_B = 1, EDITION_D = 2, ACCEPTED = 0, KIND = 0, LEVEL = 1, START = 2, LENGTH = 3 };
+
+static uint8_t header_bytes[MOST_HEADER];
+static uint8_t written_bytes[MOST_HEADER];
+static uint32_t table[MOST_ROWS * ROW_NUMBERS];
+static uint32_t table_again[MOST_ROWS * ROW_NUMBERS];
+static uint32_t damaged[MOST_ROWS * ROW_NUMBERS + ROW_NUMBERS];
+
+/* "equal row counts, kinds, levels, lengths and viewed bytes; starts may differ" */
+static int means_the_same(const uint32_t *a, const uint8_t *pool_of_a, const uint32_t *b, const uint8_t *pool_of_b, size_t rows)
+{
+    for (; rows-- > 0; a += ROW_NUMBERS, b += ROW_NUMBERS)
+        if (a[KIND] != b[KIND] || a[LEVEL] != b[LEVEL] || a[LENGTH] != b[LENGTH] || memcmp(pool_of_a + a[START], pool_of_b + b[START], a[LENGTH]) != 0)
+            return 0;
+    return 1;
+}
+
+static void check_crossing(struct tally *tally, uint32_t edition, const struct header *header, struct answer wrote, size_t rows)
+{
+    struct answer crossed = both_read(tally, edition, written_bytes, wrote.place, MOST_ROWS * ROW_NUMBERS / 16, table_again);
+    int same = crossed.answer == ACCEPTED && crossed.rows == rows && means_the_same(table, header->bytes, table_again, written_bytes, rows);
+    demand(tally, same || crossed.answer == 7 || crossed.answer == 9, "demand 3", edition, header->bytes, header->length);
+}
+
+/* Read then written: the same bytes. Written then read: the same table. Read under the other edition: the same, or 7 or 9. */
+static void check_demands(struct tally *tally, uint32_t edition, const struct header *header, struct answer read)
+{
+    size_t numbers = read.rows * ROW_NUMBERS;
+    struct answer wrote = both_write(tally, edition, table, numbers, header->bytes, header->length, read.place, written_bytes);
+    demand(tally, wrote.answer == ACCEPTED && wrote.place == read.place && memcmp(written_bytes, header->bytes, read.place) == 0, "read then written", edition, header->bytes,
+           header->length);
+    if (wrote.answer != ACCEPTED)
+        return;
+    struct answer again = both_read(tally, edition, written_bytes, wrote.place, numbers, table_again);
+    demand(tally, again.answer == ACCEPTED && again.rows == read.rows && means_the_same(table, header->bytes, table_again, written_bytes, read.rows), "written then read",
+           edition, header->bytes, header->length);
+    check_crossing(tally, EDITION_B + EDITION_D - edition, header, wrote, read.rows);
+}
+
+/* Rows dropped, doubled, moved, with other kinds, levels, starts and lengths; or a slice that is not whole rows. */
+static size_t damage_table(struct source *source, size_t rows)
+{
+    size_t numbers = rows * ROW_NUMBERS;
+    memcpy(damaged, table, numbers * sizeof *damaged);
+    if (rows == 0)
+        return numbers;
+    size_t row = random_below(source, rows);
+    uint32_t *at = damaged + row * ROW_NUMBERS;
+    size_t behind = (rows - row - 1) * ROW_NUMBERS * sizeof *damaged;
+    switch (random_below(source, 8)) {
+    case 0:
+        memmove(at, at + ROW_NUMBERS, behind);
+        return numbers - ROW_NUMBERS;
+    case 1:
+        memmove(at + ROW_NUMBERS, at, behind + ROW_NUMBERS * sizeof *damaged);
+        return numbers + ROW_NUMBERS;
+    case 2:
+        memcpy(at, table + random_below(source, rows) * ROW_NUMBERS, ROW_NUMBERS * sizeof *damaged);
+        return numbers;
+    case 3:
+        at[KIND] = (uint32_t)random_below(source, 32);
+        return numbers;
+    case 4:
+        at[LEVEL] += random_once_in(source, 2) ? 1 : (uint32_t)-1;
+        return numbers;
+    case 5:
+        at[START] = random_once_in(source, 4) ? UINT32_MAX : at[START] + (uint32_t)random_below(source, 3) - 1;
+        return numbers;
+    case 6:
+        at[LENGTH] = random_once_in(source, 8) ? UINT32_MAX : at[LENGTH] + (uint32_t)random_below(source, 3) - 1;
+        return numbers;
+    default:
+        return random_below(source, numbers + 1);
+    }
+}
+
+static void check_tables(struct source *source, struct tally *tally, uint32_t edition, const struct header *header, struct answer read)
+{
+    for (unsigned times = 0; times < 3; times++) {
+        size_t numbers = damage_table(source, read.rows);
+        size_t room = random_once_in(source, 3) ? random_below(source, read.place + 2) : read.place + 16;
+        both_write(tally, random_once_in(source, 3) ? EDITION_B + EDITION_D - edition : edition, damaged, numbers, header->bytes, header->length, room, NULL);
+    }
+    both_write(tally, edition, table, read.rows * ROW_NUMBERS, header->bytes, header->length, random_below(source, read.place + 1), NULL);
+}
+
+/* Its first envelope many times over: up to and past sixteen envelopes. */
+static void check_crowd(struct source *source, struct tally *tally, uint32_t edition, const struct header *header, size_t rows)
+{
+    size_t group = 1;
+    while (group < rows && table[group * ROW_NUMBERS + KIND] > 2)
+        group++;
+    size_t times = 14 + random_below(source, 4);
+    if (group == rows || (times * group + rows) * ROW_NUMBERS > sizeof damaged / sizeof *damaged)
+        return;
+    for (size_t copy = 0; copy < times; copy++)
+        memcpy(damaged + copy * group * ROW_NUMBERS, table, group * ROW_NUMBERS * sizeof *table);
+    memcpy(damaged + times * group * ROW_NUMBERS, table, rows * ROW_NUMBERS * sizeof *table);
+    both_write(tally, edition, damaged, (times * group + rows) * ROW_NUMBERS, header->bytes, header->length, 65536, NULL);
+}
+
+/* Envelopes around the limit of 1,048,576 bytes: a base whose comment views a long pool, and one far past it. */
+static void check_limits(struct tally *tally)
+{
+    enum { LIMIT = 1048576, HEAD = 19 };
+    static const uint8_t head[10] = {0x12, 0x31, 0x11, 0x16, 0x19, 0x15, 0x37, 0x62, 0x59, 0x20};
+    memset(header_bytes, 'x', LIMIT + 4096);
+    memcpy(header_bytes, head, sizeof head);
+    for (uint32_t edition = EDITION_B; edition <= EDITION_D; edition++)
+        for (uint32_t length = LIMIT - HEAD - 6; length <= LIMIT - HEAD + 6; length++) {
+            uint32_t rows[] = {2, 0, 0, 0, 3, 0, 0, 1, 5, 0, 1, 9, 22, 0, 10, length, 22, 0, 10, length};
+            both_write(tally, edition, rows, 16, header_bytes, LIMIT + 4096, LIMIT + 16, NULL);
+            both_write(tally, edition, rows, 20, header_bytes, LIMIT + 4096, 16, NULL);
+            both_write(tally, edition, rows, 18, header_bytes, LIMIT + 4096, 16, NULL);
+        }
+}
+
+static void check_header(struct source *source, struct tally *tally, uint32_t edition, const struct header *header)
+{
+    size_t most = header->length > 4096 ? MOST_ROWS / 16 : 256;
+    struct answer read = both_read(tally, edition, header->bytes, header->length, most * ROW_NUMBERS, table);
+    if (random_once_in(source, 8))
+        both_read(tally, (uint32_t)random_below(source, 4), header->bytes, header->length, random_below(source, 64), NULL);
+    if (read.answer != ACCEPTED)
+        return;
+    check_demands(tally, edition, header, read);
+    check_tables(source, tally, edition, header, read);
+    check_crowd(source, tally, edition, header, read.rows);
+    both_read(tally, edition, header->bytes, header->length, read.rows * ROW_NUMBERS - random_below(source, 5) % (read.rows * ROW_NUMBERS), NULL);
+}
+
+static void check_values(struct source *source, struct tally *tally)
+{
+    uint8_t bytes[12];
+    uint32_t components[8] = {(uint32_t)random_below(source, 10002), (uint32_t)random_below(source, 15), (uint32_t)random_below(source, 34), (uint32_t)random_below(source, 26),
+                              (uint32_t)random_below(source, 62),    (uint32_t)random_below(source, 62), (uint32_t)random_below(source, 1002),
+                              random_once_in(source, 2) ? 0 : (uint32_t)random_below(source, 128)};
+    struct header date = {header_bytes, 0};
+    for (size_t place = 0; place < sizeof bytes; place++)
+        bytes[place] = (uint8_t)(16 * (1 + random_below(source, 10)) + (random_once_in(source, 8) ? 0 : 1 + random_below(source, 10)));
+    both_number(tally, random_word(source) >> random_below(source, 64), bytes, random_below(source, 8), random_below(source, 9));
+    generate_header(source, EDITION_D, &date);
+    both_date(tally, 4 + (uint32_t)random_below(source, 5), components, date.length > 24 ? date.bytes + 5 : bytes, random_below(source, 12), random_below(source, 12));
+}
+
+static void check_bounds(struct source *source, struct tally *tally)
+{
+    struct header header = {header_bytes, 0};
+    for (uint32_t edition = EDITION_B; edition <= EDITION_D; edition++)
+        for (unsigned which = 0; which < BOUND_CASES; which++) {
+            generate_bound(source, edition, which, &header);
+            check_header(source, tally, edition, &header);
+        }
+}
+
+int main(int count, char **arguments)
+{
+    struct tally tally = {0, 0};
+    struct header header = {header_bytes, 0};
+    if (count != 3) {
+        fputs("usage: compare SEED COUNT\n", stderr);
+        return 2;
+    }
+    struct source source = {strtoull(arguments[1], NULL, 10)};
+    unsigned long wanted = strtoul(arguments[2], NULL, 10);
+    check_limits(&tally);
+    check_bounds(&source, &tally);
+    while (tally.passed + tally.failed < wanted) {
+        uint32_t edition = EDITION_B + (uint32_t)random_below(&source, 2);
+        generate_header(&source, edition, &header);
+        check_header(&source, &tally, edition, &header);
+        for (unsigned times = 0; times < 4; times++) {
+            damage_header(&source, &header);
+            check_header(&source, &tally, edition, &header);
+        }
+        check_values(&source, &tally);
+    }
+    printf("%lu passed, %lu failed\n", tally.passed, tally.failed);
+    return tally.failed == 0 ? 0 : 1;
+}
