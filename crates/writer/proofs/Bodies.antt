@@ -16,6 +16,7 @@ use Rattle.meaning.specs.Memory.{cellOf}
 use Rattle.writer.specs.Laying.{view, rowWith, Laid, Layable}
 use Rattle.writer.specs.Fitting.{stateOf, Good, FitIs, CloseIs}
 use Rattle.writer.specs.Bodies.{rowCell, cellsFor, cellsAt, Body, halt, body, onBody, sealBody, rowBody, cellBody, bodyOf, opensNumber, openNumber, BodyIs, BodyOnto, Words}
+use Rattle.writer.specs.declared.body.Numbers.{Numbers}
 use Rattle.writer.specs.declared.fit.Standing.{Standing}
 use Rattle.writer.specs.declared.fit.Fitted.{Fitted}
 use Rattle.writer.specs.declared.fit.Fitted.the-variants.{Unfit, Fits}
@@ -31,15 +32,15 @@ cells-next pool rows i h =
     let q : length rows / 4 - i ≡ suc (length rows / 4 - (i + 1)) = omega arith in
     ap (cellsFor pool rows i) q ∙ ap (λ (k : ℕ). rowCell pool rows i ∷ cellsFor pool rows k (length rows / 4 - (i + 1))) (sym (add-one i))
 
-module _ (pool rows : List ℕ) {i kind level start many : ℕ} (h : i < length rows / 4) (w : Words rows i kind level start many) where
-  row-cell : rowCell pool rows i ≡ cellOf pool kind level start many
+module _ (pool rows : List ℕ) {i : ℕ} {r : Numbers} (h : i < length rows / 4) (w : Words rows i r) where
+  row-cell : rowCell pool rows i ≡ cellOf pool (r .kind) (r .level) (r .start) (r .many)
   row-cell = rw (w .kind-is, w .level-is, w .start-is, w .many-is) refl
 
-  pub cell-in : start + many ≤ length pool → cellsAt pool rows i ≡ cell (rowWith kind level (view pool start many)) ∷ cellsAt pool rows (i + 1)
-  cell-in k = cells-next pool rows i h ∙ ap (λ (x : Cell). x ∷ cellsAt pool rows (i + 1)) (row-cell ∙ rw (le-leb (start + many) (length pool) k) refl)
+  pub cell-in : r .start + r .many ≤ length pool → cellsAt pool rows i ≡ cell (rowWith (r .kind) (r .level) (view pool (r .start) (r .many))) ∷ cellsAt pool rows (i + 1)
+  cell-in k = cells-next pool rows i h ∙ ap (λ (x : Cell). x ∷ cellsAt pool rows (i + 1)) (row-cell ∙ rw (le-leb (r .start + r .many) (length pool) k) refl)
 
-  pub cell-out : length pool < start + many → cellsAt pool rows i ≡ broken ∷ cellsAt pool rows (i + 1)
-  cell-out k = cells-next pool rows i h ∙ ap (λ (x : Cell). x ∷ cellsAt pool rows (i + 1)) (row-cell ∙ rw (lt-leb (start + many) (length pool) k) refl)
+  pub cell-out : length pool < r .start + r .many → cellsAt pool rows i ≡ broken ∷ cellsAt pool rows (i + 1)
+  cell-out k = cells-next pool rows i h ∙ ap (λ (x : Cell). x ∷ cellsAt pool rows (i + 1)) (row-cell ∙ rw (lt-leb (r .start + r .many) (length pool) k) refl)
 
 pub cells-last : (pool rows : List ℕ) (i : ℕ) → length rows / 4 ≤ i → cellsAt pool rows i ≡ pick (eqb (length rows % 4) 0) [] (broken ∷ [])
 unfolding cellsAt cellsFor

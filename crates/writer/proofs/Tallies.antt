@@ -1,5 +1,5 @@
 -- One envelope more in the tally.
-use mathlib.Core.Path.{_≡_, refl, sym, ap, _∙_}
+use mathlib.Core.Path.{_≡_, refl, sym, ap, _∙_, subst}
 use mathlib.Core.Bool.{Bool, true, false}
 use Prim.Native.Nat.{ℕ, zero, suc, _+_, _-_, _*_, _≤_, _<_}
 use native.Mathlib.Omega.{arith}
@@ -7,7 +7,7 @@ use lib.Dec.{leb}
 use borrow.Author.Tests.{le-leb, lt-leb}
 use Rattle.meaning.specs.Basics.{pick}
 use Rattle.meaning.specs.Writing.{envelopeSize, fine, exceeds}
-use Rattle.writer.specs.Whole.{firstOver, limitOf, sized, Tallied}
+use Rattle.writer.specs.Whole.{firstOver, limitOf, sized, passedAt, Tallied}
 use Rattle.writer.specs.declared.measure.Tally.{Tally}
 
 pub sized-zero : (n i k : ℕ) → n ≡ 0 → sized n i k ≡ exceeds i
@@ -51,3 +51,12 @@ module _ (t : Tally) (i many : ℕ) (r : Tally) (l : r .left ≡ t .left - 1) (b
         sum = λ z. f;
         bound = b;
       }
+
+pub tallied-as : {t : Tally} {i many : ℕ} {r s : Tally} → r ≡ s → Tallied t i many s → Tallied t i many r
+tallied-as {t} {i} {many} q a = subst (Tallied t i many) (sym q) a
+
+abbrev pub tally : ℕ → ℕ → ℕ → Tally
+tally left total first = record { left = left; total = total; over = true; first = first }
+
+pub passed-zero : (left total first : ℕ) → left ≡ 0 → tally 0 total first ≡ passedAt left total first
+passed-zero left total first q = let z : 0 ≡ left - 1 = omega arith in ap (λ (n : ℕ). tally n total first) z

@@ -11,6 +11,7 @@ use Rattle.meaning.specs.Reading.{Row}
 use Rattle.meaning.specs.Writing.{Fit, unfit, fits, fitRow, close, Cell, cell, broken, Opens, envelopeRow, innerRow, opensOf}
 use Rattle.meaning.specs.Memory.{cellOf}
 use Rattle.writer.specs.Laying.{Laid}
+use Rattle.writer.specs.declared.body.Numbers.{Numbers}
 use Rattle.writer.specs.declared.body.Bodied.{Bodied}
 use Rattle.writer.specs.declared.body.Bodied.the-variants.{Stuck, Ended}
 
@@ -74,9 +75,12 @@ pub record BodyOnto (whole rest : Body) (before : List ℕ) (at : ℕ) (after : 
   pub is : whole ≡ onBody bytes rest
   pub laid : Laid before at bytes after p
 
--- the four numbers of a row
-pub record Words (rows : List ℕ) (i kind level start many : ℕ) : Type 0 where
-  pub kind-is : kind ≡ getD rows (i * 4) 0
-  pub level-is : level ≡ getD rows (i * 4 + 1) 0
-  pub start-is : start ≡ getD rows (i * 4 + 2) 0
-  pub many-is : many ≡ getD rows (i * 4 + 3) 0
+-- the four numbers of a row, each a u32
+pub record Words (rows : List ℕ) (i : ℕ) (r : Numbers) : Type 0 where
+  pub kind-is : r .kind ≡ getD rows (i * 4) 0
+  pub level-is : r .level ≡ getD rows (i * 4 + 1) 0
+  pub start-is : r .start ≡ getD rows (i * 4 + 2) 0
+  pub many-is : r .many ≡ getD rows (i * 4 + 3) 0
+  pub level-most : r .level ≤ 4294967295
+  pub start-most : r .start ≤ 4294967295
+  pub many-most : r .many ≤ 4294967295

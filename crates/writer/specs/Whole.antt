@@ -83,6 +83,9 @@ abbrev pub bytesOfPlan : Plan → List ℕ
 bytesOfPlan (stuck i) = []
 bytesOfPlan (plan bytes vs) = headerOf vs
 
+abbrev pub passedAt : ℕ → ℕ → ℕ → Tally
+passedAt left total first = record { left = left - 1; total = total; over = true; first = first }
+
 pub record Tallied (t : Tally) (i many : ℕ) (r : Tally) : Type 0 where
   pub limit : limitOf (r .over) (r .first) ≡ firstOver (limitOf (t .over) (t .first)) (sized (t .left) i many)
   pub less : r .left ≡ t .left - 1

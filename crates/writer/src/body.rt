@@ -11,7 +11,7 @@ ghost use Rattle.meaning.specs.Writing.{opensOf, close};
 ghost use Rattle.writer.specs.Moves.{editionOf};
 ghost use Rattle.writer.specs.Laying.{view, rowWith, Layable};
 ghost use Rattle.writer.specs.Fitting.{stateOf, Good};
-ghost use Rattle.writer.specs.Bodies.{cellsAt, sealBody, bodyOf, BodyIs, opensNumber, openNumber};
+ghost use Rattle.writer.specs.Bodies.{cellsAt, sealBody, bodyOf, BodyIs, opensNumber, openNumber, Words};
 
 // "15: .. row number from 0"; or the row behind the envelope, and how many bytes its inside has.
 pub enum Bodied {
@@ -19,16 +19,36 @@ pub enum Bodied {
     Ended { row: usize, many: usize },
 }
 
+// "A row is four u32 numbers: kind, level, start, length."
+pub struct Numbers {
+    pub kind: usize,
+    pub level: usize,
+    pub start: usize,
+    pub many: usize,
+}
+
 const EXTENSION_OPENS: usize = 1;
 
 const BASE_OPENS: usize = 2;
 
-// A number of a row; only here and where a row is read stands how many it has.
 fn word(rows: &[u32], k: usize) -> usize
     requires { ⌜ k < length (now rows) ⌝ }
     ensures { λ r. ⌜ (r ≡ getD (now (rows .entry)) k 0) × (r ≤ 4294967295) ⌝ }
 {
     rows[k] as usize
+}
+
+fn row_at(rows: &[u32], i: usize) -> Numbers
+    requires { ⌜ i < length (now rows) / 4 ⌝ }
+    ensures { λ r. ⌜ Words (now (rows .entry)) i r ⌝ }
+{
+    let k = i * 4;
+    Numbers {
+        kind: word(rows, k),
+        level: word(rows, k + 1),
+        start: word(rows, k + 2),
+        many: word(rows, k + 3),
+    }
 }
 
 // Whether a row opens an envelope: 1 an extension, 2 the base, 0 neither.
@@ -58,15 +78,11 @@ pub fn open_at(rows: &[u32], pool: &[u8], i: usize) -> usize
     if rows.len() / 4 <= i {
         return 0;
     }
-    let k = i * 4;
-    let kind = word(rows, k);
-    let level = word(rows, k + 1);
-    let start = word(rows, k + 2);
-    let many = word(rows, k + 3);
-    if pool.len() < start + many {
+    let r = row_at(rows, i);
+    if pool.len() < r.start + r.many {
         return 0;
     }
-    opening(kind, level, pool, start, many)
+    opening(r.kind, r.level, pool, r.start, r.many)
 }
 
 // The end of an envelope before row i.
@@ -99,18 +115,14 @@ pub fn body(
     let mut p: usize = 0;
     while i < n {
         let next = i + 1;
-        let k = i * 4;
-        let kind = word(rows, k);
-        let level = word(rows, k + 1);
-        let start = word(rows, k + 2);
-        let many = word(rows, k + 3);
-        if pool.len() < start + many {
+        let r = row_at(rows, i);
+        if pool.len() < r.start + r.many {
             return Bodied::Stuck(i);
         }
-        if opening(kind, level, pool, start, many) != 0 {
+        if opening(r.kind, r.level, pool, r.start, r.many) != 0 {
             return seal(in_d, i, t, output, p);
         }
-        let f = fit_row(in_d, t, kind, level, pool, start, many, output, p);
+        let f = fit_row(in_d, t, r.kind, r.level, pool, r.start, r.many, output, p);
         let Fitted::Fits { to, at } = f else {
             return Bodied::Stuck(i);
         };

@@ -12,7 +12,7 @@ ghost use Rattle.meaning.specs.Writing.{envelopeSize, wholePlan, fine};
 ghost use Rattle.writer.specs.Moves.{editionOf};
 ghost use Rattle.writer.specs.Bodies.{cellsAt, bodyOf};
 ghost use Rattle.writer.specs.Fitting.{stateOf, Good};
-ghost use Rattle.writer.specs.Whole.{Measured, Tallied, startAt, limitOf, endVerdict, verdict, checkedOf};
+ghost use Rattle.writer.specs.Whole.{passedAt, Measured, Tallied, startAt, limitOf, endVerdict, verdict, checkedOf};
 
 // A refusal, or the bytes needed.
 pub enum Checked {
@@ -50,38 +50,40 @@ fn count_in(t: Tally, i: usize, many: usize) -> Tally
     let left = t.left;
     let total = t.total;
     let size = size_of(many);
-    if left == 0 {
-        if t.over {
-            return t;
-        }
-        return Tally {
-            left: 0,
-            total: total,
-            over: true,
-            first: i,
-        };
-    }
     if t.over {
-        return Tally {
-            left: left - 1,
-            total: total,
-            over: true,
-            first: t.first,
-        };
+        return passed(left, total, t.first);
+    }
+    if left == 0 {
+        return passed(left, total, i);
     }
     if MOST < size {
-        return Tally {
-            left: left - 1,
-            total: total,
-            over: true,
-            first: i,
-        };
+        return passed(left, total, i);
     }
     Tally {
         left: left - 1,
         total: total + size,
         over: false,
         first: 0,
+    }
+}
+
+// One envelope fewer may come, and the first that is past a limit is known.
+fn passed(left: usize, total: usize, first: usize) -> Tally
+    ensures { λ r. ⌜ r ≡ passedAt left total first ⌝ }
+{
+    if left == 0 {
+        return Tally {
+            left: 0,
+            total: total,
+            over: true,
+            first: first,
+        };
+    }
+    Tally {
+        left: left - 1,
+        total: total,
+        over: true,
+        first: first,
     }
 }
 

@@ -28,29 +28,8 @@ loop-holds c =
 add-next : tie.Need-add-next Inv-loop μ-loop
 add-next c = search needs
 
-mul-k : tie.Need-mul-k Inv-loop μ-loop
-mul-k c = search needs
-
-word-requires : tie.Need-word-requires Inv-loop μ-loop
-word-requires c κs = search needs
-
-add-word : tie.Need-add-word Inv-loop μ-loop
-add-word c = search needs
-
-word-requires-2 : tie.Need-word-requires-2 Inv-loop μ-loop
-word-requires-2 c κs = search needs
-
-add-word-2 : tie.Need-add-word-2 Inv-loop μ-loop
-add-word-2 c = search needs
-
-word-requires-3 : tie.Need-word-requires-3 Inv-loop μ-loop
-word-requires-3 c κs = search needs
-
-add-word-3 : tie.Need-add-word-3 Inv-loop μ-loop
-add-word-3 c = search needs
-
-word-requires-4 : tie.Need-word-requires-4 Inv-loop μ-loop
-word-requires-4 c κs = search needs
+row-at-requires : tie.Need-row-at-requires Inv-loop μ-loop
+row-at-requires c κs = search needs
 
 add-if1 : tie.Need-add-if1 Inv-loop μ-loop
 add-if1 c = search needs
@@ -59,22 +38,22 @@ same-length : tie.Need-same-length Inv-loop μ-loop
 same-length c = search needs
 
 returns : tie.Need-returns Inv-loop μ-loop
-returns c = body-halts (c .before .before .before .before .before .before .loop .inv .5) _ _ _ _ (body-broken (editionOf (c .before .before .before .before .before .before .before .before .before .before .args .in-d)) (c .before .before .before .before .before .before .loop .i) (stateOf (c .before .before .before .before .before .before .loop .t)) (cell-out (c .before .before .before .before .before .before .before .before .before .before .args .pool .now) (c .before .before .before .before .before .before .before .before .before .before .args .rows .now) (below (c .before .before .before .before .before .loop-test .taken) (c .before .before .before .before .before .before .loop .inv .1)) (record { kind-is = c .before .before .before .before .word .ensures .0; level-is = c .before .before .before .word2 .ensures .0; start-is = c .before .before .word3 .ensures .0; many-is = c .before .word4 .ensures .0 }) (c .if1 .taken)))
+returns c = body-halts (c .before .before .before .before .loop .inv .5) _ _ _ _ (body-broken (editionOf (c .before .before .before .before .before .before .before .before .args .in-d)) (c .before .before .before .before .loop .i) (stateOf (c .before .before .before .before .loop .t)) (cell-out (c .before .before .before .before .before .before .before .before .args .pool .now) (c .before .before .before .before .before .before .before .before .args .rows .now) (below (c .before .before .before .loop-test .taken) (c .before .before .before .before .loop .inv .1)) (c .before .before .row-at .ensures) (c .if1 .taken)))
 
 opening-requires : tie.Need-opening-requires Inv-loop μ-loop
 opening-requires c κs = search needs
 
 seal-requires : tie.Need-seal-requires Inv-loop μ-loop
-seal-requires c κs = (c .before .before .before .before .before .before .before .before .before .loop .inv .2, c .before .before .before .before .before .before .before .before .before .loop .inv .3)
+seal-requires c κs = (c .before .before .before .before .before .before .before .loop .inv .2, c .before .before .before .before .before .before .before .loop .inv .3)
 
 same-length-2 : tie.Need-same-length-2 Inv-loop μ-loop
 same-length-2 c = search needs
 
 returns-2 : tie.Need-returns-2 Inv-loop μ-loop
-returns-2 c = body-seals (c .before .before .before .before .before .before .before .before .before .before .before .before .loop .inv .5) _ _ _ _ (c .before .before .before .before .before .before .before .before .before .before .before .before .before .before .before .before .pre .2) (body-open (editionOf (c .before .before .before .before .before .before .before .before .before .before .before .before .before .before .before .before .args .in-d)) (c .before .before .before .before .before .before .before .before .before .before .before .before .loop .i) (stateOf (c .before .before .before .before .before .before .before .before .before .before .before .before .loop .t)) (cell-in (c .before .before .before .before .before .before .before .before .before .before .before .before .before .before .before .before .args .pool .now) (c .before .before .before .before .before .before .before .before .before .before .before .before .before .before .before .before .args .rows .now) (below (c .before .before .before .before .before .before .before .before .before .before .before .loop-test .taken) (c .before .before .before .before .before .before .before .before .before .before .before .before .loop .inv .1)) (record { kind-is = c .before .before .before .before .before .before .before .before .before .before .word .ensures .0; level-is = c .before .before .before .before .before .before .before .before .before .word2 .ensures .0; start-is = c .before .before .before .before .before .before .before .before .word3 .ensures .0; many-is = c .before .before .before .before .before .before .before .word4 .ensures .0 }) (c .before .before .before .before .before .before .if1 .left)) (λ q. c .before .before .before .before .if2 .taken (c .before .before .before .before .before .opening .ensures ∙ q))) (c .before .before .seal .ensures _ _ (omega arith))
+returns-2 c = body-seals (c .before .before .before .before .before .before .before .before .before .before .loop .inv .5) _ _ _ _ (c .before .before .before .before .before .before .before .before .before .before .before .before .before .before .pre .2) (body-open (editionOf (c .before .before .before .before .before .before .before .before .before .before .before .before .before .before .args .in-d)) (c .before .before .before .before .before .before .before .before .before .before .loop .i) (stateOf (c .before .before .before .before .before .before .before .before .before .before .loop .t)) (cell-in (c .before .before .before .before .before .before .before .before .before .before .before .before .before .before .args .pool .now) (c .before .before .before .before .before .before .before .before .before .before .before .before .before .before .args .rows .now) (below (c .before .before .before .before .before .before .before .before .before .loop-test .taken) (c .before .before .before .before .before .before .before .before .before .before .loop .inv .1)) (c .before .before .before .before .before .before .before .before .row-at .ensures) (c .before .before .before .before .before .before .if1 .left)) (λ q. c .before .before .before .before .if2 .taken (c .before .before .before .before .before .opening .ensures ∙ q))) (c .before .before .seal .ensures _ _ (omega arith))
 
 fit-row-requires : tie.Need-fit-row-requires Inv-loop μ-loop
-fit-row-requires c κs = record { good = c .before .before .before .before .before .before .before .before .before .loop .inv .2; level-most = c .before .before .before .before .before .before .word2 .ensures .1; inside = c .before .before .before .if1 .left; layable = c .before .before .before .before .before .before .before .before .before .loop .inv .3 }
+fit-row-requires c κs = record { good = c .before .before .before .before .before .before .before .loop .inv .2; level-most = c .before .before .before .before .before .row-at .ensures .level-most; inside = c .before .before .before .if1 .left; layable = c .before .before .before .before .before .before .before .loop .inv .3 }
 
 enum-known-f : tie.Need-enum-known-f Inv-loop μ-loop
 enum-known-f c = search needs
@@ -86,16 +65,16 @@ same-length-3 : tie.Need-same-length-3 Inv-loop μ-loop
 same-length-3 c = search needs
 
 returns-3 : tie.Need-returns-3 Inv-loop μ-loop
-returns-3 c = body-unfit (c .before .before .before .before .before .before .before .before .before .before .before .before .before .before .loop .inv .5) _ _ _ (c .before .before .before .before .fit-row .last .1 .1 .1 .1 .1 .1 .1 .0) (bodyOf (editionOf (c .before .before .before .before .before .before .before .before .before .before .before .before .before .before .before .before .before .before .args .in-d)) (cellsAt (c .before .before .before .before .before .before .before .before .before .before .before .before .before .before .before .before .before .before .args .pool .now) (c .before .before .before .before .before .before .before .before .before .before .before .before .before .before .before .before .before .before .args .rows .now) (c .before .before .before .before .before .before .before .before .before .before .before .before .before .before .loop .i + 1)) (c .before .before .before .before .before .before .before .before .before .before .before .before .before .before .loop .i + 1)) (fitRow (editionOf (c .before .before .before .before .before .before .before .before .before .before .before .before .before .before .before .before .before .before .args .in-d)) (stateOf (c .before .before .before .before .before .before .before .before .before .before .before .before .before .before .loop .t)) (rowWith (c .before .before .before .before .before .before .before .before .before .before .before .before .word .result) (c .before .before .before .before .before .before .before .before .before .before .before .word2 .result) (view (c .before .before .before .before .before .before .before .before .before .before .before .before .before .before .before .before .before .before .args .pool .now) (c .before .before .before .before .before .before .before .before .before .before .word3 .result) (c .before .before .before .before .before .before .before .before .before .word4 .result)))) (body-row (editionOf (c .before .before .before .before .before .before .before .before .before .before .before .before .before .before .before .before .before .before .args .in-d)) (c .before .before .before .before .before .before .before .before .before .before .before .before .before .before .loop .i) (stateOf (c .before .before .before .before .before .before .before .before .before .before .before .before .before .before .loop .t)) (cell-in (c .before .before .before .before .before .before .before .before .before .before .before .before .before .before .before .before .before .before .args .pool .now) (c .before .before .before .before .before .before .before .before .before .before .before .before .before .before .before .before .before .before .args .rows .now) (below (c .before .before .before .before .before .before .before .before .before .before .before .before .before .loop-test .taken) (c .before .before .before .before .before .before .before .before .before .before .before .before .before .before .loop .inv .1)) (record { kind-is = c .before .before .before .before .before .before .before .before .before .before .before .before .word .ensures .0; level-is = c .before .before .before .before .before .before .before .before .before .before .before .word2 .ensures .0; start-is = c .before .before .before .before .before .before .before .before .before .before .word3 .ensures .0; many-is = c .before .before .before .before .before .before .before .before .before .word4 .ensures .0 }) (c .before .before .before .before .before .before .before .before .if1 .left)) (sym (c .before .before .before .before .before .before .before .opening .ensures) ∙ c .before .before .before .before .before .before .if2 .left)) (c .enum-told .given .1) (c .before .before .before .before .fit-row .ensures)
+returns-3 c = body-unfit (c .before .before .before .before .before .before .before .before .before .before .before .before .loop .inv .5) _ _ _ (c .before .before .before .before .fit-row .last .1 .1 .1 .1 .1 .1 .1 .0) (bodyOf (editionOf (c .before .before .before .before .before .before .before .before .before .before .before .before .before .before .before .before .args .in-d)) (cellsAt (c .before .before .before .before .before .before .before .before .before .before .before .before .before .before .before .before .args .pool .now) (c .before .before .before .before .before .before .before .before .before .before .before .before .before .before .before .before .args .rows .now) (c .before .before .before .before .before .before .before .before .before .before .before .before .loop .i + 1)) (c .before .before .before .before .before .before .before .before .before .before .before .before .loop .i + 1)) (fitRow (editionOf (c .before .before .before .before .before .before .before .before .before .before .before .before .before .before .before .before .args .in-d)) (stateOf (c .before .before .before .before .before .before .before .before .before .before .before .before .loop .t)) (rowWith (c .before .before .before .before .before .before .before .before .before .before .row-at .result .kind) (c .before .before .before .before .before .before .before .before .before .before .row-at .result .level) (view (c .before .before .before .before .before .before .before .before .before .before .before .before .before .before .before .before .args .pool .now) (c .before .before .before .before .before .before .before .before .before .before .row-at .result .start) (c .before .before .before .before .before .before .before .before .before .before .row-at .result .many)))) (body-row (editionOf (c .before .before .before .before .before .before .before .before .before .before .before .before .before .before .before .before .args .in-d)) (c .before .before .before .before .before .before .before .before .before .before .before .before .loop .i) (stateOf (c .before .before .before .before .before .before .before .before .before .before .before .before .loop .t)) (cell-in (c .before .before .before .before .before .before .before .before .before .before .before .before .before .before .before .before .args .pool .now) (c .before .before .before .before .before .before .before .before .before .before .before .before .before .before .before .before .args .rows .now) (below (c .before .before .before .before .before .before .before .before .before .before .before .loop-test .taken) (c .before .before .before .before .before .before .before .before .before .before .before .before .loop .inv .1)) (c .before .before .before .before .before .before .before .before .before .before .row-at .ensures) (c .before .before .before .before .before .before .before .before .if1 .left)) (sym (c .before .before .before .before .before .before .before .opening .ensures) ∙ c .before .before .before .before .before .before .if2 .left)) (c .enum-told .given .1) (c .before .before .before .before .fit-row .ensures)
 
 loop-less : tie.Need-loop-less Inv-loop μ-loop
 loop-less c = search needs
 
 loop-again : tie.Need-loop-again Inv-loop μ-loop
 loop-again c =
-    let l = c .before .before .before .before .before .before .before .before .before .before .before .before .before .before .before .loop .inv in
-    let (g, b) = body-goes (l .5) (c .before .before .before .before .before .before .before .before .before .before .before .before .before .before .before .loop .i) (bodyOf (editionOf (c .before .before .before .before .before .before .before .before .before .before .before .before .before .before .before .before .before .before .before .args .in-d)) (cellsAt (c .before .before .before .before .before .before .before .before .before .before .before .before .before .before .before .before .before .before .before .args .pool .now) (c .before .before .before .before .before .before .before .before .before .before .before .before .before .before .before .before .before .before .before .args .rows .now) (c .before .before .before .before .before .before .before .before .before .before .before .before .before .before .before .loop .i + 1)) (c .before .before .before .before .before .before .before .before .before .before .before .before .before .before .before .loop .i + 1)) (fitRow (editionOf (c .before .before .before .before .before .before .before .before .before .before .before .before .before .before .before .before .before .before .before .args .in-d)) (stateOf (c .before .before .before .before .before .before .before .before .before .before .before .before .before .before .before .loop .t)) (rowWith (c .before .before .before .before .before .before .before .before .before .before .before .before .before .word .result) (c .before .before .before .before .before .before .before .before .before .before .before .before .word2 .result) (view (c .before .before .before .before .before .before .before .before .before .before .before .before .before .before .before .before .before .before .before .args .pool .now) (c .before .before .before .before .before .before .before .before .before .before .before .word3 .result) (c .before .before .before .before .before .before .before .before .before .before .word4 .result)))) (c .before .before .before .before .before .fit-row .last .1 .1 .1 .1 .1 .1 .1 .0) (c .before .before .before .before .before .before .before .before .before .before .before .before .before .before .before .before .before .before .before .pre .2) (body-row (editionOf (c .before .before .before .before .before .before .before .before .before .before .before .before .before .before .before .before .before .before .before .args .in-d)) (c .before .before .before .before .before .before .before .before .before .before .before .before .before .before .before .loop .i) (stateOf (c .before .before .before .before .before .before .before .before .before .before .before .before .before .before .before .loop .t)) (cell-in (c .before .before .before .before .before .before .before .before .before .before .before .before .before .before .before .before .before .before .before .args .pool .now) (c .before .before .before .before .before .before .before .before .before .before .before .before .before .before .before .before .before .before .before .args .rows .now) (below (c .before .before .before .before .before .before .before .before .before .before .before .before .before .before .loop-test .taken) (l .1)) (record { kind-is = c .before .before .before .before .before .before .before .before .before .before .before .before .before .word .ensures .0; level-is = c .before .before .before .before .before .before .before .before .before .before .before .before .word2 .ensures .0; start-is = c .before .before .before .before .before .before .before .before .before .before .before .word3 .ensures .0; many-is = c .before .before .before .before .before .before .before .before .before .before .word4 .ensures .0 }) (c .before .before .before .before .before .before .before .before .before .if1 .left)) (sym (c .before .before .before .before .before .before .before .before .opening .ensures) ∙ c .before .before .before .before .before .before .before .if2 .left)) (c .before .f .given .1) (c .before .before .before .before .before .fit-row .ensures) in
-    (omega (arith, c .before .before .before .before .before .before .before .before .before .before .before .before .before .before .loop-test .taken), l .1, g, record { counted = laid-most (b .laid); small = omega (arith, laid-length (b .laid), c .before .before .before .before .before .before .before .before .before .before .before .before .before .before .before .before .before .before .before .pre .2) }, laid-length (b .laid), b)
+    let l = c .before .before .before .before .before .before .before .before .before .before .before .before .before .loop .inv in
+    let (g, b) = body-goes (l .5) (c .before .before .before .before .before .before .before .before .before .before .before .before .before .loop .i) (bodyOf (editionOf (c .before .before .before .before .before .before .before .before .before .before .before .before .before .before .before .before .before .args .in-d)) (cellsAt (c .before .before .before .before .before .before .before .before .before .before .before .before .before .before .before .before .before .args .pool .now) (c .before .before .before .before .before .before .before .before .before .before .before .before .before .before .before .before .before .args .rows .now) (c .before .before .before .before .before .before .before .before .before .before .before .before .before .loop .i + 1)) (c .before .before .before .before .before .before .before .before .before .before .before .before .before .loop .i + 1)) (fitRow (editionOf (c .before .before .before .before .before .before .before .before .before .before .before .before .before .before .before .before .before .args .in-d)) (stateOf (c .before .before .before .before .before .before .before .before .before .before .before .before .before .loop .t)) (rowWith (c .before .before .before .before .before .before .before .before .before .before .before .row-at .result .kind) (c .before .before .before .before .before .before .before .before .before .before .before .row-at .result .level) (view (c .before .before .before .before .before .before .before .before .before .before .before .before .before .before .before .before .before .args .pool .now) (c .before .before .before .before .before .before .before .before .before .before .before .row-at .result .start) (c .before .before .before .before .before .before .before .before .before .before .before .row-at .result .many)))) (c .before .before .before .before .before .fit-row .last .1 .1 .1 .1 .1 .1 .1 .0) (c .before .before .before .before .before .before .before .before .before .before .before .before .before .before .before .before .before .pre .2) (body-row (editionOf (c .before .before .before .before .before .before .before .before .before .before .before .before .before .before .before .before .before .args .in-d)) (c .before .before .before .before .before .before .before .before .before .before .before .before .before .loop .i) (stateOf (c .before .before .before .before .before .before .before .before .before .before .before .before .before .loop .t)) (cell-in (c .before .before .before .before .before .before .before .before .before .before .before .before .before .before .before .before .before .args .pool .now) (c .before .before .before .before .before .before .before .before .before .before .before .before .before .before .before .before .before .args .rows .now) (below (c .before .before .before .before .before .before .before .before .before .before .before .before .loop-test .taken) (l .1)) (c .before .before .before .before .before .before .before .before .before .before .before .row-at .ensures) (c .before .before .before .before .before .before .before .before .before .if1 .left)) (sym (c .before .before .before .before .before .before .before .before .opening .ensures) ∙ c .before .before .before .before .before .before .before .if2 .left)) (c .before .f .given .1) (c .before .before .before .before .before .fit-row .ensures) in
+    (omega (arith, c .before .before .before .before .before .before .before .before .before .before .before .before .loop-test .taken), l .1, g, record { counted = laid-most (b .laid); small = omega (arith, laid-length (b .laid), c .before .before .before .before .before .before .before .before .before .before .before .before .before .before .before .before .before .pre .2) }, laid-length (b .laid), b)
 
 same-length-4 : tie.Need-same-length-4 Inv-loop μ-loop
 same-length-4 c = search needs
@@ -120,14 +99,7 @@ body-spec =
     μ-loop
     loop-holds
     add-next
-    mul-k
-    word-requires
-    add-word
-    word-requires-2
-    add-word-2
-    word-requires-3
-    add-word-3
-    word-requires-4
+    row-at-requires
     add-if1
     same-length
     returns
