@@ -16,7 +16,12 @@ pub extern "C" fn gamulisyan_read(edition: u32, input: &[u8], rows: &mut [u32]) 
 }
 
 #[no_mangle]
-pub extern "C" fn gamulisyan_write(edition: u32, rows: &[u32], pool: &[u8], output: &mut [u8]) -> writer::Answer
+pub extern "C" fn gamulisyan_write(
+    edition: u32,
+    rows: &[u32],
+    pool: &[u8],
+    output: &mut [u8],
+) -> writer::Answer
     ensures { λ r. ⌜ WritePromise edition (now (rows .entry)) (now (pool .entry)) (now (output .entry)) r (now (output .exit)) ⌝ }
 {
     writer::write(edition, rows, pool, output)
