@@ -31,6 +31,7 @@ const EXTENSION_OPENS: usize = 1;
 
 const BASE_OPENS: usize = 2;
 
+// One of the numbers.
 fn word(rows: &[u32], k: usize) -> usize
     requires { ⌜ k < length (now rows) ⌝ }
     ensures { λ r. ⌜ (r ≡ getD (now (rows .entry)) k 0) × (r ≤ 4294967295) ⌝ }

@@ -10,6 +10,7 @@ mod value;
 use crate::envelope::put_all;
 use crate::measure::Checked;
 use crate::measure::check;
+use values::OUTPUT_SHORT;
 ghost use mathlib.Core.Path.{_≡_};
 ghost use lib.ListN.{length};
 ghost use Rattle.meaning.specs.Writing.{writeRows};
@@ -17,7 +18,10 @@ ghost use Rattle.meaning.specs.Memory.{cellsOf};
 ghost use Rattle.writer.specs.Moves.{editionOf};
 ghost use Rattle.writer.specs.Promise.{WritePromise, WrittenAs, refusedAt};
 
-// "Accepted gives 0, bytes written, rows."
+// "1: edition not 1 or 2; before all else"
+const EDITION_UNKNOWN: u32 = 1;
+
+// "Accepted gives 0, bytes written, rows"; a refusal its number and place.
 #[repr(C)]
 pub struct Answer {
     pub answer: u32,
@@ -33,7 +37,7 @@ pub fn write(edition: u32, rows: &[u32], pool: &[u8], output: &mut [u8]) -> Answ
     match edition {
         1 => write_in(false, rows, pool, output),
         2 => write_in(true, rows, pool, output),
-        _ => refusal(1, 0),
+        _ => refusal(EDITION_UNKNOWN, 0),
     }
 }
 
@@ -56,7 +60,7 @@ fn write_in(in_d: bool, rows: &[u32], pool: &[u8], output: &mut [u8]) -> Answer
         Checked::Bad { answer, place } => refusal(answer, place),
         Checked::Needs(many) => {
             if output.len() < many {
-                return refusal(16, many);
+                return refusal(OUTPUT_SHORT, many);
             }
             put_all(in_d, rows, pool, output);
             Answer {

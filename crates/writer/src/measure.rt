@@ -28,6 +28,12 @@ pub struct Tally {
     pub first: usize,
 }
 
+// "15: rows up to here begin no table of this edition, .. or rows or slice end early"
+const NO_TABLE: u32 = 15;
+
+// "5: 17th envelope; .. over the limit"
+const PAST_LIMIT: u32 = 5;
+
 const MOST: usize = 1048576;
 
 // "The long form is used exactly if the envelope in the short form would pass 65,535 bytes."
@@ -119,19 +125,19 @@ fn ended(rows: &[u32], row: usize, t: Tally) -> Checked
 {
     if row < rows.len() / 4 {
         return Checked::Bad {
-            answer: 15,
+            answer: NO_TABLE,
             place: row,
         };
     }
     if rows.len() % 4 != 0 {
         return Checked::Bad {
-            answer: 15,
+            answer: NO_TABLE,
             place: row,
         };
     }
     if t.over {
         return Checked::Bad {
-            answer: 5,
+            answer: PAST_LIMIT,
             place: t.first,
         };
     }
@@ -153,7 +159,7 @@ pub fn check(in_d: bool, rows: &[u32], pool: &[u8]) -> Checked
         let opened = open_at(rows, pool, i);
         if opened == 0 {
             return Checked::Bad {
-                answer: 15,
+                answer: NO_TABLE,
                 place: i,
             };
         }
@@ -162,7 +168,7 @@ pub fn check(in_d: bool, rows: &[u32], pool: &[u8]) -> Checked
         let r = measure(in_d, rows, pool, from, s);
         match r {
             Bodied::Stuck(j) => return Checked::Bad {
-                answer: 15,
+                answer: NO_TABLE,
                 place: j,
             },
             Bodied::Ended { row, many } => {
