@@ -1,11 +1,11 @@
 // The gate runs a program on one standard input, so the cases that `list_b` and `list_d` leave are files that this program lists one by one.
 fn main() {
-    list_file(2, b"data/parameters");
-    list_file(1, b"data/relative_date");
-    list_file(2, b"data/relative_date");
-    list_file(1, b"data/rows_exceed");
-    list_file(2, b"data/longest");
-    list_file(2, b"data/too_long");
+    list_file(2, b"parameters");
+    list_file(1, b"relative_date");
+    list_file(2, b"relative_date");
+    list_file(1, b"rows_exceed");
+    list_file(2, b"longest");
+    list_file(2, b"too_long");
 }
 
 fn list_file(edition: u32, path: &[u8]) {

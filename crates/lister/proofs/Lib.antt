@@ -1,3 +1,3 @@
 -- The laws that the proofs of several functions share.
 pub mod Turns
-pub mod Opened
+pub mod Tables

@@ -1,9 +1,10 @@
 // The body of document 01's listing programs: "reads at most 65,536 bytes from standard input (longer: the one line `too long`), lends 4,096 rows".
-// No contract can speak of what a program reads or writes; `opened` and `listing::next` promise the text, and what is here prints it.
+// No contract can speak of what a program reads or writes. So `read_table` promises that its text is the listing, `print_piece` that it is
+// printed without a gap, and `too_long` the other line; that these bytes leave the program, and those arrive, is run and compared.
 use libc::STDOUT_FILENO;
 use listing::Piece;
 use reader::Answer;
-ghost use Rattle.lister.specs.Promise.{OpenedPromise, Turned};
+ghost use Rattle.lister.specs.Promise.{TablePromise, LongPromise, Turned};
 
 const INPUT_MOST: usize = 65536;
 
@@ -12,22 +13,30 @@ pub fn list(edition: u32, from: i32) {
     let mut input = [0u8; 65537];
     let n = io::read_full(from, &mut input);
     if INPUT_MOST < n {
-        io::write_all(STDOUT_FILENO, b"too long\n");
+        let line = too_long();
+        io::write_all(STDOUT_FILENO, &line);
         return;
     }
     print(edition, &input[..n]);
 }
 
-// "lends 4,096 rows": one repeated array.
-fn print(edition: u32, input: &[u8]) {
-    let mut rows = [0u32; 16384];
-    let opened = open(edition, input, &mut rows);
-    print_lines(opened.answer, opened.place, opened.rows, &rows, input);
+// "(longer: the one line `too long`)"
+pub fn too_long() -> [u8; 9]
+    ensures { λ r. ⌜ LongPromise r ⌝ }
+{
+    [b't', b'o', b'o', b' ', b'l', b'o', b'n', b'g', b'\n']
 }
 
-// The reader's answer and rows; their text is the listing.
-pub fn open(edition: u32, input: &[u8], rows: &mut [u32]) -> Answer
-    ensures { λ r. ⌜ OpenedPromise edition (now (input .entry)) (now (rows .entry)) r (now (rows .exit)) ⌝ }
+// "lends 4,096 rows": four numbers each, one repeated array.
+fn print(edition: u32, input: &[u8]) {
+    let mut rows = [0u32; 16384];
+    let table = read_table(edition, input, &mut rows);
+    print_lines(table.answer, table.place, table.rows, &rows, input);
+}
+
+// The reader's answer and rows, whose text is the listing.
+pub fn read_table(edition: u32, input: &[u8], rows: &mut [u32]) -> Answer
+    ensures { λ r. ⌜ TablePromise edition (now (input .entry)) (now (rows .entry)) r (now (rows .exit)) ⌝ }
 {
     reader::read(edition, input, rows)
 }
