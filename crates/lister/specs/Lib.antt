@@ -1,0 +1,2 @@
+-- What the listing programs' body promises.
+pub mod Promise

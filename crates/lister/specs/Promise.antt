@@ -1,0 +1,27 @@
+-- What the listing programs' body promises, over `meaning`'s `listing`; nothing here speaks of standard input or output.
+use Prim.Native.Nat.{ℕ, _≤_, _<_}
+use mathlib.Core.List.{List, [], _++_}
+use mathlib.Core.Path.{_≡_}
+use lib.ListN.{length}
+use Rattle.meaning.specs.Memory.{roomOf}
+use Rattle.meaning.specs.Listing.{inputMost, rowsLent, listing}
+use Rattle.listing.specs.declared.Piece.{Piece}
+use Rattle.listing.specs.Text.{textAt}
+use Rattle.reader.specs.declared.Answer as declared
+use Rattle.reader.specs.Promises.{ReadPromise}
+
+-- what the reader answers and lends back, and that the text of it is the listing, where 4,096 rows are lent and the input is not too long
+pub record TablePromise (edition : ℕ) (input before : List ℕ) (answer : declared.Answer) (after : List ℕ) : Type 0 where
+  pub reads : ReadPromise edition input before answer after
+  pub lists : length input ≤ inputMost → roomOf before ≡ rowsLent → textAt (answer .answer) (answer .place) (answer .rows) after input 0 0 ≡ listing edition input
+
+-- "(longer: the one line `too long`)": these bytes are the listing of any longer input, in any edition
+pub record LongPromise (bytes : List ℕ) : Type 0 where
+  pub lists : (edition : ℕ) (input : List ℕ) → inputMost < length input → bytes ≡ listing edition input
+
+-- a turn of the printing: the text from its cursor on is a piece and the text from the next cursor on; only the text's end has an empty piece
+pub record Turned (answer place count : ℕ) (rows bytes : List ℕ) (line byte : ℕ) (next : Piece) : Type 0 where
+  pub piece : List ℕ
+  pub is : textAt answer place count rows bytes line byte ≡ piece ++ textAt answer place count rows bytes (next .line) (next .byte)
+  pub long : next .length ≡ length piece
+  pub ends : next .length ≡ 0 → textAt answer place count rows bytes line byte ≡ []

@@ -1,0 +1,63 @@
+// The body of document 01's listing programs: "reads at most 65,536 bytes from standard input (longer: the one line `too long`), lends 4,096 rows".
+// No contract can speak of what a program reads or writes. So `read_table` promises that its text is the listing, `print_piece` that it is
+// printed without a gap, and `too_long` the other line; that these bytes leave the program, and those arrive, is run and compared.
+use libc::STDOUT_FILENO;
+use listing::Piece;
+use reader::Answer;
+ghost use Rattle.lister.specs.Promise.{TablePromise, LongPromise, Turned};
+
+const INPUT_MOST: usize = 65536;
+
+// The listing of what a descriptor reads, in this edition, to standard output. The one byte more tells an input that is too long.
+pub fn list(edition: u32, from: i32) {
+    let mut input = [0u8; 65537];
+    let n = io::read_full(from, &mut input);
+    if INPUT_MOST < n {
+        let line = too_long();
+        io::write_all(STDOUT_FILENO, &line);
+        return;
+    }
+    print(edition, &input[..n]);
+}
+
+// "(longer: the one line `too long`)"
+pub fn too_long() -> [u8; 9]
+    ensures { λ r. ⌜ LongPromise r ⌝ }
+{
+    [b't', b'o', b'o', b' ', b'l', b'o', b'n', b'g', b'\n']
+}
+
+// "lends 4,096 rows": four numbers each, one repeated array.
+fn print(edition: u32, input: &[u8]) {
+    let mut rows = [0u32; 16384];
+    let table = read_table(edition, input, &mut rows);
+    print_lines(table.answer, table.place, table.rows, &rows, input);
+}
+
+// The reader's answer and rows, whose text is the listing.
+pub fn read_table(edition: u32, input: &[u8], rows: &mut [u32]) -> Answer
+    ensures { λ r. ⌜ TablePromise edition (now (input .entry)) (now (rows .entry)) r (now (rows .exit)) ⌝ }
+{
+    reader::read(edition, input, rows)
+}
+
+// Piece by piece until one is empty, which is the text's end.
+fn print_lines(answer: u32, place: usize, count: usize, rows: &[u32], input: &[u8]) {
+    let mut piece = print_piece(answer, place, count, rows, input, 0, 0);
+    while 0 < piece.length {
+        let line = piece.line;
+        let byte = piece.byte;
+        piece = print_piece(answer, place, count, rows, input, line, byte);
+    }
+}
+
+// The next piece, and the cursor behind it.
+fn print_piece(answer: u32, place: usize, count: usize, rows: &[u32], input: &[u8], line: usize, byte: usize) -> Piece
+    ensures { λ r. ⌜ Turned answer place count (now (rows .entry)) (now (input .entry)) line byte r ⌝ }
+{
+    let mut out = io::buffer();
+    let piece = listing::next(answer, place, count, rows, input, line, byte, &mut out);
+    let length = piece.length;
+    io::write_all(STDOUT_FILENO, &out[..length]);
+    piece
+}
