@@ -52,7 +52,15 @@ fn print_lines(answer: u32, place: usize, count: usize, rows: &[u32], input: &[u
 }
 
 // The next piece, and the cursor behind it.
-fn print_piece(answer: u32, place: usize, count: usize, rows: &[u32], input: &[u8], line: usize, byte: usize) -> Piece
+fn print_piece(
+    answer: u32,
+    place: usize,
+    count: usize,
+    rows: &[u32],
+    input: &[u8],
+    line: usize,
+    byte: usize,
+) -> Piece
     ensures { λ r. ⌜ Turned answer place count (now (rows .entry)) (now (input .entry)) line byte r ⌝ }
 {
     let mut out = io::buffer();
