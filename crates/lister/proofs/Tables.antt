@@ -1,7 +1,6 @@
 -- The text of what the reader answers is the listing: a law of `listing`, for an input whose numbers are bytes, as a slice's are.
-use Prim.Native.Nat.{ℕ, zero, suc, _<_}
+use Prim.Native.Nat.{ℕ, suc, _<_}
 use mathlib.Core.List.{List, [], _∷_}
-use native.Mathlib.Omega.{arith}
 use borrow.Author.Tests.{lt-ltb}
 use lib.Dec.{T}
 use lib.ListN.{getD}

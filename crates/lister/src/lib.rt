@@ -1,6 +1,7 @@
 // The body of document 01's listing programs: "reads at most 65,536 bytes from standard input (longer: the one line `too long`), lends 4,096 rows".
-// No contract can speak of what a program reads or writes. So `read_table` promises that its text is the listing, `print_piece` that it is
-// printed without a gap, and `too_long` the other line; that these bytes leave the program, and those arrive, is run and compared.
+// No contract can speak of what a program reads or writes. Promised are the text of `read_table`, which is the listing, its pieces, which leave
+// no gap (`listing::next`), and the line of `too_long`. Of `list` and what prints it is proved that they are safe and end; what they
+// hand to standard output is run and compared.
 use libc::STDOUT_FILENO;
 use listing::Piece;
 use reader::Answer;
