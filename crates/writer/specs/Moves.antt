@@ -1,7 +1,7 @@
--- The table of moves as the code holds it: a number for each move, with its parts as hex digits, and the place of each room's first move.
+-- The table of moves as the code holds it: the place of each room's first move, and a number for each move, with its parts as hex digits.
 -- By computation it is `meaning`'s table.
-use Prim.Native.Nat.{ℕ, _+_, _/_, _%_, _≤_, _<_}
-use mathlib.Core.List.{List, [], _∷_}
+use Prim.Native.Nat.{ℕ, zero, suc, _+_, _/_, _%_, _≤_, _<_}
+use mathlib.Core.List.{List, [], _∷_, map}
 use mathlib.Core.Bool.{Bool, true, false, _||_}
 use mathlib.Core.Path.{_≡_, refl}
 use lib.Dec.{eqb}
@@ -11,7 +11,7 @@ use Rattle.meaning.specs.Bytes.{absolute, relative, oneByte, twoBytes, fourByte
 use Rattle.meaning.specs.Editions.{Edition, B, D, Room, receivedBegins, headRepresentation, headDate, parameters, ownText, parameterRepresentation, behaviourValue, encryptedTexts, receivedDate, afterDate, afterFrom, afterId, afterVia, receivedExtra, agentList, oneAgent, afterName, addressTexts, afterAddresses, afterResolvers, agentExtra, closed, Next, outer, inner, innerOne, stay, deeper, listEnds, agentEnds, Form, text, date, number, block, itself, opens, quiet, isQuiet, Move, moves, shared, own}
 use Rattle.meaning.specs.Reading.{Found, none, hit}
 use Rattle.laws.specs.From.{from}
-use Rattle.laws.specs.Tables.{rooms, roomNumber}
+use Rattle.laws.specs.Tables.{rooms}
 
 abbrev pub editionOf : Bool → Edition
 editionOf true = D
@@ -56,9 +56,10 @@ moveOf x = record { code = codeIn x; kind = kindIn x; form = formOf (formIn x); 
 unfoldable pub inEdition : ℕ → Bool → Bool
 inEdition x inD = eqb (editionIn x) 0 || eqb (editionIn x) (pick inD 2 1)
 
--- room by room; in a room first what both editions share
+-- where each room's moves begin, and the last room's end; then the moves, room by room; in a room first what both editions share
 unfoldable pub packed : List ℕ
 packed =
+    23 ∷ 24 ∷ 28 ∷ 35 ∷ 47 ∷ 48 ∷ 52 ∷ 56 ∷ 58 ∷ 65 ∷ 70 ∷ 74 ∷ 77 ∷ 79 ∷ 83 ∷ 85 ∷ 86 ∷ 91 ∷ 93 ∷ 97 ∷ 100 ∷ 104 ∷ 104 ∷
     0x0100081108 ∷
     0x0010033002 ∷
     0x0011033002 ∷
@@ -141,12 +142,9 @@ packed =
     0x0017156313 ∷
     0x0019157313 ∷ []
 
-unfoldable pub firsts : List ℕ
-firsts = 0 ∷ 1 ∷ 5 ∷ 12 ∷ 24 ∷ 25 ∷ 29 ∷ 33 ∷ 35 ∷ 42 ∷ 47 ∷ 51 ∷ 54 ∷ 56 ∷ 60 ∷ 62 ∷ 63 ∷ 68 ∷ 70 ∷ 74 ∷ 77 ∷ 81 ∷ 81 ∷ []
-
 -- where a room's moves begin
 abbrev pub firstOf : ℕ → ℕ
-firstOf room = getD firsts room 0
+firstOf room = getD packed room 0
 
 -- the moves among these that an edition has
 unfoldable pub select : Bool → List ℕ → List Move
@@ -156,53 +154,16 @@ select inD (x ∷ l) = pick (inEdition x inD) (moveOf x ∷ select inD l) (selec
 abbrev pub between : ℕ → ℕ → List ℕ
 between i end = from packed i end
 
+-- the moves of so many rooms, from a room on
+abbrev pub parts : Bool → ℕ → ℕ → List (List Move)
+parts inD room zero = []
+parts inD room (suc n) = select inD (between (firstOf room) (firstOf (suc room))) ∷ parts inD (suc room) n
+
 -- THE tie of the code's table to the definition's
-pub table-is : (inD : Bool) (r : Room) → moves (editionOf inD) r ≡ select inD (between (firstOf (roomNumber r)) (firstOf (roomNumber r + 1)))
-unfolding moves shared own from packed firsts select inEdition moveOf formOf nextOf roomOf
-table-is true receivedBegins = refl
-table-is true headRepresentation = refl
-table-is true headDate = refl
-table-is true parameters = refl
-table-is true ownText = refl
-table-is true parameterRepresentation = refl
-table-is true behaviourValue = refl
-table-is true encryptedTexts = refl
-table-is true receivedDate = refl
-table-is true afterDate = refl
-table-is true afterFrom = refl
-table-is true afterId = refl
-table-is true afterVia = refl
-table-is true receivedExtra = refl
-table-is true agentList = refl
-table-is true oneAgent = refl
-table-is true afterName = refl
-table-is true addressTexts = refl
-table-is true afterAddresses = refl
-table-is true afterResolvers = refl
-table-is true agentExtra = refl
-table-is true closed = refl
-table-is false receivedBegins = refl
-table-is false headRepresentation = refl
-table-is false headDate = refl
-table-is false parameters = refl
-table-is false ownText = refl
-table-is false parameterRepresentation = refl
-table-is false behaviourValue = refl
-table-is false encryptedTexts = refl
-table-is false receivedDate = refl
-table-is false afterDate = refl
-table-is false afterFrom = refl
-table-is false afterId = refl
-table-is false afterVia = refl
-table-is false receivedExtra = refl
-table-is false agentList = refl
-table-is false oneAgent = refl
-table-is false afterName = refl
-table-is false addressTexts = refl
-table-is false afterAddresses = refl
-table-is false afterResolvers = refl
-table-is false agentExtra = refl
-table-is false closed = refl
+pub table-is : (inD : Bool) → map (moves (editionOf inD)) rooms ≡ parts inD 0 22
+unfolding moves shared own from packed select inEdition moveOf formOf nextOf roomOf
+table-is true = refl
+table-is false = refl
 
 -- a move's number, or 0 for none
 unfoldable pub foundIn : ℕ → Found

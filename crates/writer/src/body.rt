@@ -8,7 +8,7 @@ ghost use mathlib.Core.List.{List};
 ghost use Prim.Native.Nat.{ℕ, _+_, _/_, _≤_, _<_};
 ghost use lib.ListN.{length, getD};
 ghost use Rattle.meaning.specs.Writing.{opensOf, close};
-ghost use Rattle.writer.specs.Moves.{editionOf};
+ghost use Rattle.writer.specs.Moves.{packed, editionOf};
 ghost use Rattle.writer.specs.Laying.{view, rowWith, Layable};
 ghost use Rattle.writer.specs.Fitting.{stateOf, Good};
 ghost use Rattle.writer.specs.Bodies.{cellsAt, sealBody, bodyOf, BodyIs, opensNumber, openNumber, Words};
@@ -87,11 +87,11 @@ pub fn open_at(rows: &[u32], pool: &[u8], i: usize) -> usize
 }
 
 // The end of an envelope before row i.
-fn seal(in_d: bool, i: usize, s: Standing, output: &mut [u8], at: usize) -> Bodied
-    requires { ⌜ (Good s) × Layable (now output) at ⌝ }
+fn seal(in_d: bool, table: &[usize], i: usize, s: Standing, output: &mut [u8], at: usize) -> Bodied
+    requires { ⌜ (now table ≡ packed) × (Good s) × Layable (now output) at ⌝ }
     ensures { λ r. ⌜ ((pool rows : List ℕ) → i ≤ length rows / 4 → BodyIs (sealBody i (cellsAt pool rows i) (close (editionOf in_d) (stateOf s))) pool rows (now (output .entry)) at r (now (output .exit))) ⌝ }
 {
-    let f = close_all(in_d, s, output, at);
+    let f = close_all(in_d, table, s, output, at);
     let Fitted::Fits { to: _, at: p } = f else {
         return Bodied::Stuck(i);
     };
@@ -101,13 +101,14 @@ fn seal(in_d: bool, i: usize, s: Standing, output: &mut [u8], at: usize) -> Bodi
 // The inside of an envelope, from the row after its own.
 pub fn body(
     in_d: bool,
+    table: &[usize],
     rows: &[u32],
     pool: &[u8],
     from: usize,
     s: Standing,
     output: &mut [u8],
 ) -> Bodied
-    requires { ⌜ (Good s) × (from ≤ length (now rows) / 4) × (length (now output) ≤ 1048576) ⌝ }
+    requires { ⌜ (now table ≡ packed) × (Good s) × (from ≤ length (now rows) / 4) × (length (now output) ≤ 1048576) ⌝ }
     ensures { λ r. ⌜ BodyIs (bodyOf (editionOf in_d) (cellsAt (now (pool .entry)) (now (rows .entry)) from) from (stateOf s)) (now (pool .entry)) (now (rows .entry)) (now (output .entry)) 0 r (now (output .exit)) ⌝ }
 {
     let n = rows.len() / 4;
@@ -121,9 +122,9 @@ pub fn body(
             return Bodied::Stuck(i);
         }
         if opening(r.kind, r.level, pool, r.start, r.many) != 0 {
-            return seal(in_d, i, t, output, p);
+            return seal(in_d, table, i, t, output, p);
         }
-        let f = fit_row(in_d, t, r.kind, r.level, pool, r.start, r.many, output, p);
+        let f = fit_row(in_d, table, t, r.kind, r.level, pool, r.start, r.many, output, p);
         let Fitted::Fits { to, at } = f else {
             return Bodied::Stuck(i);
         };
@@ -134,5 +135,5 @@ pub fn body(
     if rows.len() % 4 != 0 {
         return Bodied::Stuck(i);
     }
-    seal(in_d, i, t, output, p)
+    seal(in_d, table, i, t, output, p)
 }

@@ -14,7 +14,7 @@ ghost use lib.Dec.{eqb};
 ghost use lib.ListN.{length};
 ghost use Rattle.meaning.specs.Writing.{wholePlan};
 ghost use Rattle.meaning.specs.Memory.{laidOver};
-ghost use Rattle.writer.specs.Moves.{editionOf};
+ghost use Rattle.writer.specs.Moves.{packed, editionOf};
 ghost use Rattle.writer.specs.Laying.{Laid};
 ghost use Rattle.writer.specs.Fitting.{stateOf};
 ghost use Rattle.writer.specs.Bodies.{cellsAt, bodyOf};
@@ -45,6 +45,7 @@ fn identifier(opened: usize) -> u8
 // One envelope, whose inside has so many bytes; the place after it.
 fn put_envelope(
     in_d: bool,
+    table: &[usize],
     rows: &[u32],
     pool: &[u8],
     from: usize,
@@ -53,20 +54,20 @@ fn put_envelope(
     output: &mut [u8],
     at: usize,
 ) -> usize
-    requires { ⌜ EnvelopeRequires in_d (now rows) (now pool) from opened many (now output) at ⌝ }
+    requires { ⌜ (now table ≡ packed) × EnvelopeRequires in_d (now rows) (now pool) from opened many (now output) at ⌝ }
     ensures { λ r. ⌜ EnvelopeWritten (bodyOf (editionOf in_d) (cellsAt (now (pool .entry)) (now (rows .entry)) from) from (stateOf (startAt opened))) (eqb opened 2) many (now (output .entry)) at (now (output .exit)) r ⌝ }
 {
     let end = at + size_of(many);
     let inside = end - many;
     put_head(opened, many, &mut output[at..inside]);
     let s = start_of(opened);
-    body(in_d, rows, pool, from, s, &mut output[inside..end]);
+    body(in_d, table, rows, pool, from, s, &mut output[inside..end]);
     end
 }
 
 // Envelope by envelope.
-pub fn put_all(in_d: bool, rows: &[u32], pool: &[u8], output: &mut [u8])
-    requires { ⌜ Writable in_d (now rows) (now pool) (now output) ⌝ }
+pub fn put_all(in_d: bool, table: &[usize], rows: &[u32], pool: &[u8], output: &mut [u8])
+    requires { ⌜ (now table ≡ packed) × Writable in_d (now rows) (now pool) (now output) ⌝ }
     ensures { λ _. ⌜ now (output .exit) ≡ laidOver (now (output .entry)) (bytesOfPlan (wholePlan (editionOf in_d) (cellsAt (now (pool .entry)) (now (rows .entry)) 0))) ⌝ }
 {
     let mut i: usize = 0;
@@ -78,11 +79,11 @@ pub fn put_all(in_d: bool, rows: &[u32], pool: &[u8], output: &mut [u8])
         }
         let from = i + 1;
         let s = start_of(opened);
-        let r = measure(in_d, rows, pool, from, s);
+        let r = measure(in_d, table, rows, pool, from, s);
         let Bodied::Ended { row, many } = r else {
             return;
         };
-        at = put_envelope(in_d, rows, pool, from, opened, many, output, at);
+        at = put_envelope(in_d, table, rows, pool, from, opened, many, output, at);
         if opened == 2 {
             return;
         }

@@ -3,11 +3,9 @@ use crate::lay::put;
 use crate::lay::put_code;
 use crate::lay::put_value;
 use crate::table::code_of;
-use crate::table::first;
 use crate::table::form_of;
 use crate::table::in_edition;
 use crate::table::kind_of;
-use crate::table::move_at;
 use crate::table::next_of;
 use crate::table::target_of;
 use crate::value::valid_for;
@@ -20,7 +18,7 @@ ghost use lib.ListN.{length};
 ghost use Rattle.meaning.specs.Reading.{find, orElse};
 ghost use Rattle.meaning.specs.Writing.{standsFor, isPass, wayTo, atLevel, place, fitRow, close};
 ghost use Rattle.meaning.specs.Editions.{closing};
-ghost use Rattle.writer.specs.Moves.{Known, Finds, editionOf, inEdition, movesAt, moveOf, nextIn, targetIn};
+ghost use Rattle.writer.specs.Moves.{Known, Finds, packed, editionOf, inEdition, movesAt, moveOf, nextIn, targetIn};
 ghost use Rattle.writer.specs.Laying.{view, rowWith, Layable};
 ghost use Rattle.writer.specs.Fitting.{stateOf, standing, goTo, listEnding, agentEnding, deepAt, Good, FitIs, CloseIs, PlaceRequires, RowRequires};
 
@@ -64,28 +62,36 @@ fn is_own(x: usize, in_d: bool, kind: usize, pool: &[u8], start: usize, many: us
     requires { ⌜ (Known x) × (start + many ≤ length (now pool)) ⌝ }
     ensures { λ r. ⌜ r ≡ (inEdition x in_d && standsFor (rowWith kind 0 (view (now (pool .entry)) start many)) (moveOf x)) ⌝ }
 {
+    if kind_of(x) != kind {
+        return false;
+    }
+    let form = form_of(x);
+    if form == QUIET {
+        return false;
+    }
     if in_edition(x, in_d) {
-        let form = form_of(x);
-        if form == QUIET {
-            return false;
-        }
-        if kind_of(x) != kind {
-            return false;
-        }
         return valid_for(form, code_of(x), pool, start, many);
     }
     false
 }
 
 // The number of a row's own move in a room, or 0.
-fn find_own(in_d: bool, room: usize, kind: usize, pool: &[u8], start: usize, many: usize) -> usize
-    requires { ⌜ (room < 22) × (start + many ≤ length (now pool)) ⌝ }
+fn find_own(
+    in_d: bool,
+    table: &[usize],
+    room: usize,
+    kind: usize,
+    pool: &[u8],
+    start: usize,
+    many: usize,
+) -> usize
+    requires { ⌜ (now table ≡ packed) × (room < 22) × (start + many ≤ length (now pool)) ⌝ }
     ensures { λ r. ⌜ Finds (find (standsFor (rowWith kind 0 (view (now (pool .entry)) start many))) (movesAt in_d room)) r ⌝ }
 {
-    let end = first(room + 1);
-    let mut i = first(room);
+    let end = table[room + 1];
+    let mut i = table[room];
     while i < end {
-        let x = move_at(i);
+        let x = table[i];
         if is_own(x, in_d, kind, pool, start, many) {
             return x;
         }
@@ -99,23 +105,24 @@ fn is_pass(x: usize, in_d: bool, code: usize) -> bool
     requires { ⌜ Known x ⌝ }
     ensures { λ r. ⌜ r ≡ (inEdition x in_d && isPass code (moveOf x)) ⌝ }
 {
-    if in_edition(x, in_d) {
-        if form_of(x) == QUIET {
-            return code_of(x) == code;
-        }
+    if code_of(x) != code {
+        return false;
+    }
+    if form_of(x) == QUIET {
+        return in_edition(x, in_d);
     }
     false
 }
 
 // The number of a room's move with this code and no row, or 0.
-fn find_pass(in_d: bool, room: usize, code: usize) -> usize
-    requires { ⌜ room < 22 ⌝ }
+fn find_pass(in_d: bool, table: &[usize], room: usize, code: usize) -> usize
+    requires { ⌜ (now table ≡ packed) × (room < 22) ⌝ }
     ensures { λ r. ⌜ Finds (find (isPass code) (movesAt in_d room)) r ⌝ }
 {
-    let end = first(room + 1);
-    let mut i = first(room);
+    let end = table[room + 1];
+    let mut i = table[room];
     while i < end {
-        let x = move_at(i);
+        let x = table[i];
         if is_pass(x, in_d, code) {
             return x;
         }
@@ -127,6 +134,7 @@ fn find_pass(in_d: bool, room: usize, code: usize) -> usize
 // A row's own move where its level stands, or 0.
 fn own_move(
     in_d: bool,
+    table: &[usize],
     s: Standing,
     kind: usize,
     level: usize,
@@ -134,13 +142,13 @@ fn own_move(
     start: usize,
     many: usize,
 ) -> usize
-    requires { ⌜ (s .room < 22) × (start + many ≤ length (now pool)) ⌝ }
+    requires { ⌜ (now table ≡ packed) × (s .room < 22) × (start + many ≤ length (now pool)) ⌝ }
     ensures { λ r. ⌜ (Finds (atLevel (eqb level (s .level)) (find (standsFor (rowWith kind 0 (view (now (pool .entry)) start many))) (movesAt in_d (s .room)))) r) × ((r ≡ 0) ⊎ (level ≡ s .level)) ⌝ }
 {
     if level != s.level {
         return 0;
     }
-    find_own(in_d, s.room, kind, pool, start, many)
+    find_own(in_d, table, s.room, kind, pool, start, many)
 }
 
 // "04" before a representation, "0A" before a received object, and a closing 01 before all others.
@@ -157,15 +165,15 @@ fn way_to(kind: usize) -> usize
 }
 
 // A move without a row that leads towards a row's room, or 0.
-fn pass_move(in_d: bool, room: usize, kind: usize) -> usize
-    requires { ⌜ room < 22 ⌝ }
+fn pass_move(in_d: bool, table: &[usize], room: usize, kind: usize) -> usize
+    requires { ⌜ (now table ≡ packed) × (room < 22) ⌝ }
     ensures { λ r. ⌜ Finds (orElse (find (isPass (wayTo kind)) (movesAt in_d room)) (find (isPass closing) (movesAt in_d room))) r ⌝ }
 {
-    let x = find_pass(in_d, room, way_to(kind));
+    let x = find_pass(in_d, table, room, way_to(kind));
     if x != 0 {
         return x;
     }
-    find_pass(in_d, room, CLOSING)
+    find_pass(in_d, table, room, CLOSING)
 }
 
 // Where a move leads.
@@ -248,6 +256,7 @@ fn place_row(
 // A row: the moves without a row that lead to its room, and its own.
 pub fn fit_row(
     in_d: bool,
+    table: &[usize],
     from: Standing,
     kind: usize,
     level: usize,
@@ -257,17 +266,17 @@ pub fn fit_row(
     output: &mut [u8],
     at: usize,
 ) -> Fitted
-    requires { ⌜ RowRequires from level (now pool) start many (now output) at ⌝ }
+    requires { ⌜ (now table ≡ packed) × RowRequires from level (now pool) start many (now output) at ⌝ }
     ensures { λ r. ⌜ FitIs (fitRow (editionOf in_d) (stateOf from) (rowWith kind level (view (now (pool .entry)) start many))) (now (output .entry)) at r (now (output .exit)) ⌝ }
 {
     let mut s = from;
     let mut p = at;
     loop {
-        let x = own_move(in_d, s, kind, level, pool, start, many);
+        let x = own_move(in_d, table, s, kind, level, pool, start, many);
         if x != 0 {
             return place_row(x, s, pool, start, many, output, p);
         }
-        let y = pass_move(in_d, s.room, kind);
+        let y = pass_move(in_d, table, s.room, kind);
         if y == 0 {
             return Fitted::Unfit;
         }
@@ -277,8 +286,8 @@ pub fn fit_row(
 }
 
 // The closings to the envelope's end.
-pub fn close_all(in_d: bool, from: Standing, output: &mut [u8], at: usize) -> Fitted
-    requires { ⌜ (Good from) × Layable (now output) at ⌝ }
+pub fn close_all(in_d: bool, table: &[usize], from: Standing, output: &mut [u8], at: usize) -> Fitted
+    requires { ⌜ (now table ≡ packed) × (Good from) × Layable (now output) at ⌝ }
     ensures { λ r. ⌜ CloseIs (close (editionOf in_d) (stateOf from)) (now (output .entry)) at r (now (output .exit)) ⌝ }
 {
     let mut s = from;
@@ -288,7 +297,7 @@ pub fn close_all(in_d: bool, from: Standing, output: &mut [u8], at: usize) -> Fi
         if room == CLOSED {
             return Fitted::Fits { to: s, at: p };
         }
-        let y = find_pass(in_d, room, CLOSING);
+        let y = find_pass(in_d, table, room, CLOSING);
         if y == 0 {
             return Fitted::Unfit;
         }

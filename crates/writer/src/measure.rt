@@ -9,7 +9,7 @@ ghost use mathlib.Core.List.{List};
 ghost use Prim.Native.Nat.{ℕ, _+_, _*_, _/_, _≤_};
 ghost use lib.ListN.{length};
 ghost use Rattle.meaning.specs.Writing.{envelopeSize, wholePlan, fine};
-ghost use Rattle.writer.specs.Moves.{editionOf};
+ghost use Rattle.writer.specs.Moves.{packed, editionOf};
 ghost use Rattle.writer.specs.Bodies.{cellsAt, bodyOf};
 ghost use Rattle.writer.specs.Fitting.{stateOf, Good};
 ghost use Rattle.writer.specs.Whole.{passedAt, Measured, Tallied, startAt, limitOf, endVerdict, verdict, checkedOf};
@@ -111,12 +111,12 @@ pub fn start_of(opened: usize) -> Standing
 }
 
 // The inside of an envelope, only measured: its part of the output is empty.
-pub fn measure(in_d: bool, rows: &[u32], pool: &[u8], from: usize, s: Standing) -> Bodied
-    requires { ⌜ (Good s) × (from ≤ length (now rows) / 4) ⌝ }
+pub fn measure(in_d: bool, table: &[usize], rows: &[u32], pool: &[u8], from: usize, s: Standing) -> Bodied
+    requires { ⌜ (now table ≡ packed) × (Good s) × (from ≤ length (now rows) / 4) ⌝ }
     ensures { λ r. ⌜ Measured (bodyOf (editionOf in_d) (cellsAt (now (pool .entry)) (now (rows .entry)) from) from (stateOf s)) (now (pool .entry)) (now (rows .entry)) r ⌝ }
 {
     let mut none = [0u8; 1];
-    body(in_d, rows, pool, from, s, &mut none[..0])
+    body(in_d, table, rows, pool, from, s, &mut none[..0])
 }
 
 // The answer behind the base: no row may follow.
@@ -145,7 +145,8 @@ fn ended(rows: &[u32], row: usize, t: Tally) -> Checked
 }
 
 // What the rows come to: a refusal, or the bytes that they need.
-pub fn check(in_d: bool, rows: &[u32], pool: &[u8]) -> Checked
+pub fn check(in_d: bool, table: &[usize], rows: &[u32], pool: &[u8]) -> Checked
+    requires { ⌜ now table ≡ packed ⌝ }
     ensures { λ r. ⌜ r ≡ checkedOf (verdict 16 0 fine (wholePlan (editionOf in_d) (cellsAt (now (pool .entry)) (now (rows .entry)) 0))) ⌝ }
 {
     let mut i: usize = 0;
@@ -165,7 +166,7 @@ pub fn check(in_d: bool, rows: &[u32], pool: &[u8]) -> Checked
         }
         let from = i + 1;
         let s = start_of(opened);
-        let r = measure(in_d, rows, pool, from, s);
+        let r = measure(in_d, table, rows, pool, from, s);
         match r {
             Bodied::Stuck(j) => return Checked::Bad {
                 answer: NO_TABLE,

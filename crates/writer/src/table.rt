@@ -1,13 +1,36 @@
 // The editions' tables of moves, as numbers. `meaning` says what a move is; the tie is `table-is`.
+// A constant is laid onto the stack wherever it is named: `write_in` names it once, and lends it down.
 ghost use mathlib.Core.Path.{_≡_};
-ghost use Prim.Native.Nat.{_<_};
-ghost use Rattle.writer.specs.Moves.{packed, firstOf, inEdition, targetIn, nextIn, formIn, kindIn, codeIn};
-ghost use lib.ListN.{getD};
+ghost use Rattle.writer.specs.Moves.{inEdition, targetIn, nextIn, formIn, kindIn, codeIn};
 
 // Hex digits: edition (0 both, 1 B, 2 D), code (100 none), the row's kind, form, next, target room.
 // Forms: 1 text, 2 number, 3 the code itself, 4 opens, 5 to 7 blocks of 1, 2 and 4 length bytes, 8 and 9 absolute dates without and with
 // designator, a and b relative ones, c no row. Next: 0 envelope level, 1 inside, 2 the one agent, 3 same level, 4 deeper, 5 list ends, 6 agent ends.
-const MOVES: [usize; 81] = [
+pub const TABLE: [usize; 104] = [
+    // where each room's moves begin, and the last room's end
+    23,
+    24,
+    28,
+    35,
+    47,
+    48,
+    52,
+    56,
+    58,
+    65,
+    70,
+    74,
+    77,
+    79,
+    83,
+    85,
+    86,
+    91,
+    93,
+    97,
+    100,
+    104,
+    104,
     // receivedBegins
     0x0_100_08_1_1_08,
     // headRepresentation
@@ -111,47 +134,6 @@ const MOVES: [usize; 81] = [
     0x0_017_15_6_3_13,
     0x0_019_15_7_3_13,
 ];
-
-// Where each room's moves begin, and the end.
-const FIRST: [usize; 23] = [
-    0,
-    1,
-    5,
-    12,
-    24,
-    25,
-    29,
-    33,
-    35,
-    42,
-    47,
-    51,
-    54,
-    56,
-    60,
-    62,
-    63,
-    68,
-    70,
-    74,
-    77,
-    81,
-    81,
-];
-
-pub fn move_at(i: usize) -> usize
-    requires { ⌜ i < 81 ⌝ }
-    ensures { λ r. ⌜ r ≡ getD packed i 0 ⌝ }
-{
-    MOVES[i]
-}
-
-pub fn first(room: usize) -> usize
-    requires { ⌜ room < 23 ⌝ }
-    ensures { λ r. ⌜ r ≡ firstOf room ⌝ }
-{
-    FIRST[room]
-}
 
 pub fn in_edition(x: usize, in_d: bool) -> bool
     ensures { λ r. ⌜ r ≡ inEdition x in_d ⌝ }

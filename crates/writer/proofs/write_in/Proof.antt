@@ -1,10 +1,16 @@
 -- `write_in`: the verdict's answer, and the output where it is written.
 use Rattle.writer.proofs.Answers.{accepts, refuses, too-short, writable}
+use Rattle.writer.specs.Moves.{packed}
 use borrow.Author.Needs.{needs}
+use mathlib.Core.Path.{refl}
 use Rattle.writer.proofs.write_in.Statement.{statement}
 use Rattle.writer.proofs.write_in.Tie as tie
 
+slice-aggregate-check : tie.Need-slice-aggregate-check
+slice-aggregate-check c = search needs
+
 check-requires : tie.Need-check-requires
+unfolding packed
 check-requires c κs = search needs
 
 enum-known-c : tie.Need-enum-known-c
@@ -20,30 +26,36 @@ refusal-requires-2 : tie.Need-refusal-requires-2
 refusal-requires-2 c κs = search needs
 
 returns : tie.Need-returns
-returns c = too-short (c .before .before .before .before .before .before .before .before .before .args .in-d) (c .before .before .before .before .before .before .before .before .before .args .pool .now) (c .before .before .before .before .before .before .before .before .before .args .rows .now) (c .before .before .before .before .before .before .before .before .before .args .output .now) (c .before .before .before .before .before .check .ensures) (c .before .before .before .c2 .given .1) (c .before .if1 .taken) (c .refusal2 .ensures)
+returns c = too-short (c .before .before .before .before .before .before .before .before .before .before .args .in-d) (c .before .before .before .before .before .before .before .before .before .before .args .pool .now) (c .before .before .before .before .before .before .before .before .before .before .args .rows .now) (c .before .before .before .before .before .before .before .before .before .before .args .output .now) (c .before .before .before .before .before .check .ensures) (c .before .before .before .c2 .given .1) (c .before .if1 .taken) (c .refusal2 .ensures)
+
+slice-aggregate-put-all : tie.Need-slice-aggregate-put-all
+slice-aggregate-put-all c = search needs
 
 put-all-requires : tie.Need-put-all-requires
-put-all-requires c κs = writable (c .before .before .before .before .before .before .before .before .before .args .in-d) (c .before .before .before .before .before .before .before .before .before .args .pool .now) (c .before .before .before .before .before .before .before .before .before .args .rows .now) (c .before .before .before .before .before .before .before .before .before .args .output .now) (c .before .before .before .before .before .check .ensures) (c .before .before .before .c2 .given .1) (c .before .if1 .left)
+unfolding packed
+put-all-requires c κs = (refl, writable (c .before .before .before .before .before .before .before .before .before .before .before .args .in-d) (c .before .before .before .before .before .before .before .before .before .before .before .args .pool .now) (c .before .before .before .before .before .before .before .before .before .before .before .args .rows .now) (c .before .before .before .before .before .before .before .before .before .before .before .args .output .now) (c .before .before .before .before .before .before .check .ensures) (c .before .before .before .before .c2 .given .1) (c .before .before .if1 .left))
 
 returns-2 : tie.Need-returns-2
-returns-2 c = refuses (c .before .before .before .before .before .before .before .before .args .in-d) (c .before .before .before .before .before .before .before .before .args .pool .now) (c .before .before .before .before .before .before .before .before .args .rows .now) (c .before .before .before .before .before .before .before .before .args .output .now) (c .before .before .before .before .check .ensures) (c .before .before .c .given .1) (c .refusal .ensures)
+returns-2 c = refuses (c .before .before .before .before .before .before .before .before .before .args .in-d) (c .before .before .before .before .before .before .before .before .before .args .pool .now) (c .before .before .before .before .before .before .before .before .before .args .rows .now) (c .before .before .before .before .before .before .before .before .before .args .output .now) (c .before .before .before .before .check .ensures) (c .before .before .c .given .1) (c .refusal .ensures)
 
 same-length : tie.Need-same-length
 same-length c = search needs
 
 returns-3 : tie.Need-returns-3
-returns-3 c = accepts (c .before .before .before .before .before .before .before .before .before .before .before .before .args .in-d) (c .before .before .before .before .before .before .before .before .before .before .before .before .args .pool .now) (c .before .before .before .before .before .before .before .before .before .before .before .before .args .rows .now) (c .before .before .before .before .before .before .before .before .before .before .before .before .args .output .now) (c .before .before .before .before .before .before .before .before .check .ensures) (c .before .before .before .before .before .before .c2 .given .1) (c .before .before .before .before .if1 .left) (c .before .before .put-all .ensures)
+returns-3 c = accepts (c .before .before .before .before .before .before .before .before .before .before .before .before .before .before .args .in-d) (c .before .before .before .before .before .before .before .before .before .before .before .before .before .before .args .pool .now) (c .before .before .before .before .before .before .before .before .before .before .before .before .before .before .args .rows .now) (c .before .before .before .before .before .before .before .before .before .before .before .before .before .before .args .output .now) (c .before .before .before .before .before .before .before .before .before .check .ensures) (c .before .before .before .before .before .before .before .c2 .given .1) (c .before .before .before .before .before .if1 .left) (c .before .before .put-all .ensures)
 
 pub write-in-spec : {M : Type 1} → statement M
 write-in-spec =
     tie.close
     (tie.spec
+    slice-aggregate-check
     check-requires
     enum-known-c
     refusal-requires
     enum-known-c-2
     refusal-requires-2
     returns
+    slice-aggregate-put-all
     put-all-requires
     returns-2
     same-length

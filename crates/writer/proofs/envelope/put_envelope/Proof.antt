@@ -19,19 +19,19 @@ add-end : tie.Need-add-end
 add-end c = search needs
 
 sub-inside : tie.Need-sub-inside
-sub-inside c = omega (arith, c .size-of .ensures .0, size-least (c .before .before .before .before .args .many) .0)
+sub-inside c = omega (arith, c .size-of .ensures .0, size-least (c .before .before .before .before .before .args .many) .0)
 
 sub-put-head : tie.Need-sub-put-head
-sub-put-head c = omega (arith, c .size-of .ensures .0, size-least (c .before .before .before .before .args .many) .0)
+sub-put-head c = omega (arith, c .size-of .ensures .0, size-least (c .before .before .before .before .before .args .many) .0)
 
 part-put-head-start : tie.Need-part-put-head-start
-part-put-head-start c = omega (arith, c .size-of .ensures .0, size-least (c .before .before .before .before .args .many) .0)
+part-put-head-start c = omega (arith, c .size-of .ensures .0, size-least (c .before .before .before .before .before .args .many) .0)
 
 part-put-head-end : tie.Need-part-put-head-end
-part-put-head-end c = omega (arith, c .size-of .ensures .0, c .before .before .before .before .pre .room)
+part-put-head-end c = omega (arith, c .size-of .ensures .0, c .before .before .before .before .before .pre .1 .room)
 
 put-head-requires : tie.Need-put-head-requires
-put-head-requires c κs = (c .before .before .before .before .before .pre .small, omega (arith, take-most (c .before .before .before .before .before .args .at + c .before .size-of .result - c .before .before .before .before .before .args .many - c .before .before .before .before .before .args .at) (drop (c .before .before .before .before .before .args .at) (c .before .before .before .before .before .args .output .now)), c .before .size-of .ensures .0, size-least (c .before .before .before .before .before .args .many) .1))
+put-head-requires c κs = (c .before .before .before .before .before .before .pre .1 .small, omega (arith, take-most (c .before .before .before .before .before .before .args .at + c .before .size-of .result - c .before .before .before .before .before .before .args .many - c .before .before .before .before .before .before .args .at) (drop (c .before .before .before .before .before .before .args .at) (c .before .before .before .before .before .before .args .output .now)), c .before .size-of .ensures .0, size-least (c .before .before .before .before .before .before .args .many) .1))
 
 start-of-requires : tie.Need-start-of-requires
 start-of-requires c κs = search needs
@@ -43,16 +43,16 @@ part-body-start : tie.Need-part-body-start
 part-body-start c = search needs
 
 part-body-end : tie.Need-part-body-end
-part-body-end c = omega (arith, c .before .before .before .before .before .size-of .ensures .0, c .before .before .before .before .before .before .before .before .before .pre .room, laid-length (c .before .before .before .put-head .ensures))
+part-body-end c = omega (arith, c .before .before .before .before .before .size-of .ensures .0, c .before .before .before .before .before .before .before .before .before .before .pre .1 .room, laid-length (c .before .before .before .put-head .ensures))
 
 body-requires : tie.Need-body-requires
-body-requires c κs = (start-good (c .before .before .before .before .before .before .before .before .before .before .args .opened) (c .before .start-of .ensures), c .before .before .before .before .before .before .before .before .before .before .pre .inside, simp length-take (omega (arith, c .before .before .before .before .before .before .before .before .before .before .pre .small)))
+body-requires c κs = (c .before .before .before .before .before .before .before .before .before .before .before .pre .0, start-good (c .before .before .before .before .before .before .before .before .before .before .before .args .opened) (c .before .start-of .ensures), c .before .before .before .before .before .before .before .before .before .before .before .pre .1 .inside, simp length-take (omega (arith, c .before .before .before .before .before .before .before .before .before .before .before .pre .1 .small)))
 
 same-length : tie.Need-same-length
 same-length c = search needs
 
 returns : tie.Need-returns
-returns c = written-from (editionOf (c .before .before .before .before .before .before .before .before .before .before .before .before .before .args .in-d)) (cellsAt (c .before .before .before .before .before .before .before .before .before .before .before .before .before .args .pool .now) (c .before .before .before .before .before .before .before .before .before .before .before .before .before .args .rows .now) (c .before .before .before .before .before .before .before .before .before .before .before .before .before .args .from)) (c .before .before .before .before .before .before .before .before .before .before .before .before .before .args .from) (c .before .before .before .before .start-of .ensures) (envelope-laid (c .before .before .before .before .before .before .before .before .before .before .before .before .before .args .output .now) (c .before .before .before .before .before .before .before .before .before .before .before .before .before .args .at) (c .before .before .before .before .before .before .before .before .before .before .before .before .before .args .at + c .before .before .before .before .before .before .before .before .before .size-of .result - c .before .before .before .before .before .before .before .before .before .before .before .before .before .args .many) (c .before .before .before .before .before .before .before .before .before .before .before .before .before .args .at + c .before .before .before .before .before .before .before .before .before .size-of .result) (c .before .before .before .before .before .before .before .before .before .before .before .before .before .args .many) (eqb (c .before .before .before .before .before .before .before .before .before .before .before .before .before .args .opened) 2) (ap (λ (n : ℕ). c .before .before .before .before .before .before .before .before .before .before .before .before .before .args .at + n) (c .before .before .before .before .before .before .before .before .before .size-of .ensures .0)) refl (omega (arith, c .before .before .before .before .before .before .before .before .before .size-of .ensures .0, c .before .before .before .before .before .before .before .before .before .before .before .before .before .pre .room)) _ _ _ _ _ _ (c .before .before .before .before .before .before .before .put-head .ensures) (c .before .before .body .ensures))
+returns c = written-from (editionOf (c .before .before .before .before .before .before .before .before .before .before .before .before .before .before .args .in-d)) (cellsAt (c .before .before .before .before .before .before .before .before .before .before .before .before .before .before .args .pool .now) (c .before .before .before .before .before .before .before .before .before .before .before .before .before .before .args .rows .now) (c .before .before .before .before .before .before .before .before .before .before .before .before .before .before .args .from)) (c .before .before .before .before .before .before .before .before .before .before .before .before .before .before .args .from) (c .before .before .before .before .start-of .ensures) (envelope-laid (c .before .before .before .before .before .before .before .before .before .before .before .before .before .before .args .output .now) (c .before .before .before .before .before .before .before .before .before .before .before .before .before .before .args .at) (c .before .before .before .before .before .before .before .before .before .before .before .before .before .before .args .at + c .before .before .before .before .before .before .before .before .before .size-of .result - c .before .before .before .before .before .before .before .before .before .before .before .before .before .before .args .many) (c .before .before .before .before .before .before .before .before .before .before .before .before .before .before .args .at + c .before .before .before .before .before .before .before .before .before .size-of .result) (c .before .before .before .before .before .before .before .before .before .before .before .before .before .before .args .many) (eqb (c .before .before .before .before .before .before .before .before .before .before .before .before .before .before .args .opened) 2) (ap (λ (n : ℕ). c .before .before .before .before .before .before .before .before .before .before .before .before .before .before .args .at + n) (c .before .before .before .before .before .before .before .before .before .size-of .ensures .0)) refl (omega (arith, c .before .before .before .before .before .before .before .before .before .size-of .ensures .0, c .before .before .before .before .before .before .before .before .before .before .before .before .before .before .pre .1 .room)) _ _ _ _ _ _ (c .before .before .before .before .before .before .before .put-head .ensures) (c .before .before .body .ensures))
 
 pub put-envelope-spec : {M : Type 1} → statement M
 put-envelope-spec =

@@ -18,28 +18,28 @@ use Rattle.writer.proofs.fit.close_all.Statement.{statement}
 use Rattle.writer.proofs.fit.close_all.Tie as tie
 
 abbrev Inv-loop : tie.InvT-loop
-Inv-loop in-d output₀ at s₀ p₀ output s p = (s .room < 22) × (heavy (stateOf s) ≤ 8589934597) × Layable output p × (length output ≡ length output₀) × Onto (close (editionOf in-d) (stateOf s₀)) (close (editionOf in-d) (stateOf s)) output₀ at output p
+Inv-loop in-d table output₀ at s₀ p₀ output s p = (s .room < 22) × (heavy (stateOf s) ≤ 8589934597) × Layable output p × (length output ≡ length output₀) × Onto (close (editionOf in-d) (stateOf s₀)) (close (editionOf in-d) (stateOf s)) output₀ at output p
 
 abbrev μ-loop : tie.MeasureT-loop
-μ-loop in-d output₀ at s₀ p₀ output s p = heavy (stateOf s)
+μ-loop in-d table output₀ at s₀ p₀ output s p = heavy (stateOf s)
 
 loop-holds : tie.Need-loop-holds Inv-loop μ-loop
-loop-holds c = (c .before .pre .0 .room, good-heavy (c .before .args .from) (c .before .pre .0), c .before .pre .1, refl, onto-start _ (c .before .pre .1))
+loop-holds c = (c .before .before .pre .1 .room, good-heavy (c .before .before .args .from) (c .before .before .pre .1), c .before .before .pre .2, refl, onto-start _ (c .before .before .pre .2))
 
 same-length : tie.Need-same-length Inv-loop μ-loop
 same-length c = search needs
 
 returns : tie.Need-returns Inv-loop μ-loop
-returns c = onto-closed (c .before .loop .inv .4) (c .before .loop .s) (close-end (c .before .before .before .args .in-d) (c .before .loop .s) (c .before .loop .inv .0) (c .if1 .taken))
+returns c = onto-closed (c .before .loop .inv .4) (c .before .loop .s) (close-end (c .before .before .before .before .args .in-d) (c .before .loop .s) (c .before .loop .inv .0) (c .if1 .taken))
 
 find-pass-requires : tie.Need-find-pass-requires Inv-loop μ-loop
-find-pass-requires c κs = c .before .loop .inv .0
+find-pass-requires c κs = (c .before .before .before .before .pre .0, c .before .loop .inv .0)
 
 same-length-2 : tie.Need-same-length-2 Inv-loop μ-loop
 same-length-2 c = search needs
 
 returns-2 : tie.Need-returns-2 Inv-loop μ-loop
-returns-2 c = onto-stuck (c .before .before .before .loop .inv .4) _ (close-none (c .before .before .before .before .before .args .in-d) (c .before .before .before .loop .s) (c .before .before .before .loop .inv .0) (c .before .before .if1 .left) (c .before .find-pass .ensures) (c .if2 .taken))
+returns-2 c = onto-stuck (c .before .before .before .loop .inv .4) _ (close-none (c .before .before .before .before .before .before .args .in-d) (c .before .before .before .loop .s) (c .before .before .before .loop .inv .0) (c .before .before .if1 .left) (c .before .find-pass .ensures) (c .if2 .taken))
 
 code-of-requires : tie.Need-code-of-requires Inv-loop μ-loop
 code-of-requires c κs = search needs
@@ -47,7 +47,7 @@ code-of-requires c κs = search needs
 cast-put : tie.Need-cast-put Inv-loop μ-loop
 cast-put c =
     let k = c .before .before .before .find-pass .ensures .known (c .before .before .if2 .left) in
-    let h = k .quiet-coded (close-quiet (c .before .before .before .before .before .before .before .args .in-d) (c .before .before .before .before .before .loop .s) (c .before .before .before .before .before .loop .inv .0) (c .before .before .before .before .if1 .left) (c .before .before .before .find-pass .ensures) (c .before .before .if2 .left)) in
+    let h = k .quiet-coded (close-quiet (c .before .before .before .before .before .before .before .before .args .in-d) (c .before .before .before .before .before .loop .s) (c .before .before .before .before .before .loop .inv .0) (c .before .before .before .before .if1 .left) (c .before .before .before .find-pass .ensures) (c .before .before .if2 .left)) in
     omega (arith, h, c .code-of .ensures)
 
 put-requires : tie.Need-put-requires Inv-loop μ-loop
@@ -57,14 +57,14 @@ go-requires : tie.Need-go-requires Inv-loop μ-loop
 go-requires c κs = heavy-level (c .before .before .before .before .before .before .before .before .loop .s) _ (c .before .before .before .before .before .before .before .before .loop .inv .1)
 
 loop-less : tie.Need-loop-less Inv-loop μ-loop
-loop-less c = lighter-at (c .before .before .before .before .before .before .before .before .before .loop .s) (c .go .ensures) (close-lighter (c .before .before .before .before .before .before .before .before .before .before .before .args .in-d) (c .before .before .before .before .before .before .before .before .before .loop .s) (c .before .before .before .before .before .before .before .before .before .loop .inv .0) (c .before .before .before .before .before .before .before .before .if1 .left) (c .before .before .before .before .before .before .before .find-pass .ensures) (c .before .before .before .before .before .before .if2 .left))
+loop-less c = lighter-at (c .before .before .before .before .before .before .before .before .before .loop .s) (c .go .ensures) (close-lighter (c .before .before .before .before .before .before .before .before .before .before .before .before .args .in-d) (c .before .before .before .before .before .before .before .before .before .loop .s) (c .before .before .before .before .before .before .before .before .before .loop .inv .0) (c .before .before .before .before .before .before .before .before .if1 .left) (c .before .before .before .before .before .before .before .find-pass .ensures) (c .before .before .before .before .before .before .if2 .left))
 
 loop-again : tie.Need-loop-again Inv-loop μ-loop
 loop-again c =
     let l = c .before .before .before .before .before .before .before .before .before .loop .inv in
     let e = c .before .before .before .put .ensures in
-    let h = lighter-at (c .before .before .before .before .before .before .before .before .before .loop .s) (c .go .ensures) (close-lighter (c .before .before .before .before .before .before .before .before .before .before .before .args .in-d) (c .before .before .before .before .before .before .before .before .before .loop .s) (c .before .before .before .before .before .before .before .before .before .loop .inv .0) (c .before .before .before .before .before .before .before .before .if1 .left) (c .before .before .before .before .before .before .before .find-pass .ensures) (c .before .before .before .before .before .before .if2 .left)) in
-    (goes-room (c .before .before .before .before .before .before .before .before .before .loop .s) (c .go .ensures) (c .before .before .before .before .before .before .before .find-pass .ensures .known (c .before .before .before .before .before .before .if2 .left)), omega (arith, h, l .1), laid-layable e (l .2), laid-length e ∙ l .3, onto-byte (l .4) (c .before .before .before .before .before .before .before .before .before .before .before .pre .1 .small) (close-passes (c .before .before .before .before .before .before .before .before .before .before .before .args .in-d) (c .before .before .before .before .before .before .before .before .before .loop .s) (c .before .before .before .before .before .before .before .before .before .loop .inv .0) (c .before .before .before .before .before .before .before .before .if1 .left) (c .before .before .before .before .before .before .before .find-pass .ensures) (c .before .before .before .before .before .before .if2 .left) ∙ ap (λ (t : Standing). led (codeIn (c .before .before .before .before .before .before .before .find-pass .result) ∷ []) (close (editionOf (c .before .before .before .before .before .before .before .before .before .before .before .args .in-d)) (stateOf t))) (sym (c .go .ensures))) (c .before .before .before .before .code-of .ensures) e)
+    let h = lighter-at (c .before .before .before .before .before .before .before .before .before .loop .s) (c .go .ensures) (close-lighter (c .before .before .before .before .before .before .before .before .before .before .before .before .args .in-d) (c .before .before .before .before .before .before .before .before .before .loop .s) (c .before .before .before .before .before .before .before .before .before .loop .inv .0) (c .before .before .before .before .before .before .before .before .if1 .left) (c .before .before .before .before .before .before .before .find-pass .ensures) (c .before .before .before .before .before .before .if2 .left)) in
+    (goes-room (c .before .before .before .before .before .before .before .before .before .loop .s) (c .go .ensures) (c .before .before .before .before .before .before .before .find-pass .ensures .known (c .before .before .before .before .before .before .if2 .left)), omega (arith, h, l .1), laid-layable e (l .2), laid-length e ∙ l .3, onto-byte (l .4) (c .before .before .before .before .before .before .before .before .before .before .before .before .pre .2 .small) (close-passes (c .before .before .before .before .before .before .before .before .before .before .before .before .args .in-d) (c .before .before .before .before .before .before .before .before .before .loop .s) (c .before .before .before .before .before .before .before .before .before .loop .inv .0) (c .before .before .before .before .before .before .before .before .if1 .left) (c .before .before .before .before .before .before .before .find-pass .ensures) (c .before .before .before .before .before .before .if2 .left) ∙ ap (λ (t : Standing). led (codeIn (c .before .before .before .before .before .before .before .find-pass .result) ∷ []) (close (editionOf (c .before .before .before .before .before .before .before .before .before .before .before .before .args .in-d)) (stateOf t))) (sym (c .go .ensures))) (c .before .before .before .before .code-of .ensures) e)
 
 pub close-all-spec : {M : Type 1} → statement M
 close-all-spec =

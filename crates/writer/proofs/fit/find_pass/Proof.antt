@@ -1,7 +1,7 @@
--- `fit::find_pass`: the first move of the room that passes; what is left of the room decides.
-use Prim.Native.Nat.{_+_, _-_}
+-- `fit::find_pass`: the first move of the room with this code and no row; what is left of the room decides.
+use Prim.Native.Nat.{_-_, _≤_}
 use Rattle.meaning.specs.Writing.{isPass}
-use Rattle.writer.proofs.Search.{first-most, known-at, seek-hit, seek-none, seek-on, sought}
+use Rattle.writer.proofs.Search.{part-placed, seek-hit, seek-known, seek-none, seek-on, sought, table-length}
 use borrow.Author.Needs.{needs}
 use mathlib.Core.Path.{_∙_, _≡_, refl, sym}
 use native.Mathlib.Omega.{arith}
@@ -9,43 +9,75 @@ use Rattle.writer.proofs.fit.find_pass.Statement.{statement}
 use Rattle.writer.proofs.fit.find_pass.Tie as tie
 
 abbrev Inv-loop : tie.InvT-loop
-Inv-loop in-d room code end i₀ i = sought (isPass code) in-d i₀ end ≡ sought (isPass code) in-d i end
+Inv-loop in-d table room code end i₀ i = (i₀ ≤ i) × (sought (isPass code) in-d i₀ end ≡ sought (isPass code) in-d i end)
 
 abbrev μ-loop : tie.MeasureT-loop
-μ-loop in-d room code end i₀ i = end - i
+μ-loop in-d table room code end i₀ i = end - i
 
-add-first : tie.Need-add-first Inv-loop μ-loop
-add-first c = search needs
+add-end : tie.Need-add-end Inv-loop μ-loop
+add-end c = search needs
 
-first-requires : tie.Need-first-requires Inv-loop μ-loop
-first-requires c κs = search needs
+mul-end : tie.Need-mul-end Inv-loop μ-loop
+mul-end c = search needs
 
-first-requires-2 : tie.Need-first-requires-2 Inv-loop μ-loop
-first-requires-2 c κs = search needs
+shared-slice-read-end : tie.Need-shared-slice-read-end Inv-loop μ-loop
+shared-slice-read-end c = let entry = c .before .before in omega (arith, table-length (entry .pre .0), entry .pre .1)
+
+mul-i : tie.Need-mul-i Inv-loop μ-loop
+mul-i c = search needs
+
+shared-slice-read-i : tie.Need-shared-slice-read-i Inv-loop μ-loop
+shared-slice-read-i c = let entry = c .before .before .before in omega (arith, table-length (entry .pre .0), entry .pre .1)
 
 loop-holds : tie.Need-loop-holds Inv-loop μ-loop
-loop-holds c = refl
+loop-holds c = (omega arith, refl)
 
-move-at-requires : tie.Need-move-at-requires Inv-loop μ-loop
-move-at-requires c κs = omega (arith, first-most (c .before .before .before .before .args .room + 1), c .before .before .before .first .ensures)
+mul-x : tie.Need-mul-x Inv-loop μ-loop
+mul-x c =
+    let entry = c .before .before .before .before .before in
+    let a = entry .args in
+    omega (arith, part-placed (isPass (a .code)) (a .in-d) (entry .pre .0) (entry .pre .1) .1, c .loop-test .taken)
+
+shared-slice-read-x : tie.Need-shared-slice-read-x Inv-loop μ-loop
+shared-slice-read-x c =
+    let entry = c .before .before .before .before .before .before in
+    let a = entry .args in
+    omega (arith, table-length (entry .pre .0), part-placed (isPass (a .code)) (a .in-d) (entry .pre .0) (entry .pre .1) .1, c .before .loop-test .taken)
 
 is-pass-requires : tie.Need-is-pass-requires Inv-loop μ-loop
-is-pass-requires c κs = known-at (c .before .before .loop .i) (c .move-at .result) (omega (arith, first-most (c .before .before .before .before .before .args .room + 1), c .before .before .before .before .first .ensures)) (c .move-at .ensures)
+is-pass-requires c κs =
+    let entry = c .before .before .before .before .before .before in
+    let a = entry .args in
+    seek-known (isPass (a .code)) (a .in-d) (entry .pre .0) (entry .pre .1) (c .before .before .loop .inv .0) (c .before .loop-test .taken)
 
 returns : tie.Need-returns Inv-loop μ-loop
-returns c = seek-hit (isPass (c .before .before .before .before .before .before .before .args .code)) (c .before .before .before .before .before .before .before .args .in-d) (c .before .before .before .before .before .before .before .pre) (c .before .before .before .before .before .first2 .ensures) (c .before .before .before .before .before .before .first .ensures) (c .before .before .before .before .loop .inv) (c .before .before .before .loop-test .taken) (omega (arith, first-most (c .before .before .before .before .before .before .before .args .room + 1), c .before .before .before .before .before .before .first .ensures)) (c .before .before .move-at .ensures) (sym (c .before .is-pass .ensures) ∙ c .if1 .taken)
+returns c =
+    let entry = c .before .before .before .before .before .before .before .before in
+    let a = entry .args in
+    let l = c .before .before .before .before .loop in
+    seek-hit (isPass (a .code)) (a .in-d) (entry .pre .0) (entry .pre .1) (l .inv .0) (l .inv .1) (c .before .before .before .loop-test .taken) (sym (c .before .is-pass .ensures) ∙ c .if1 .taken)
 
 add-i : tie.Need-add-i Inv-loop μ-loop
-add-i c = omega (arith, first-most (c .before .before .before .before .before .before .before .args .room + 1), c .before .before .before .before .before .before .first .ensures)
+add-i c =
+    let entry = c .before .before .before .before .before .before .before .before in
+    let a = entry .args in
+    omega (arith, part-placed (isPass (a .code)) (a .in-d) (entry .pre .0) (entry .pre .1) .1, c .before .before .before .loop-test .taken)
 
 loop-less : tie.Need-loop-less Inv-loop μ-loop
 loop-less c = search needs
 
 loop-again : tie.Need-loop-again Inv-loop μ-loop
-loop-again c = c .before .before .before .before .loop .inv ∙ seek-on (isPass (c .before .before .before .before .before .before .before .args .code)) (c .before .before .before .before .before .before .before .args .in-d) (c .before .before .before .loop-test .taken) (omega (arith, first-most (c .before .before .before .before .before .before .before .args .room + 1), c .before .before .before .before .before .before .first .ensures)) (c .before .before .move-at .ensures) (sym (c .before .is-pass .ensures) ∙ c .if1 .left)
+loop-again c =
+    let entry = c .before .before .before .before .before .before .before .before in
+    let a = entry .args in
+    let l = c .before .before .before .before .loop in
+    (omega (arith, l .inv .0), l .inv .1 ∙ seek-on (isPass (a .code)) (a .in-d) (entry .pre .0) (entry .pre .1) (c .before .before .before .loop-test .taken) (sym (c .before .is-pass .ensures) ∙ c .if1 .left))
 
 returns-2 : tie.Need-returns-2 Inv-loop μ-loop
-returns-2 c = seek-none (isPass (c .before .before .before .before .args .code)) (c .before .before .before .before .args .in-d) (c .before .before .before .before .pre) (c .before .before .first2 .ensures) (c .before .before .before .first .ensures) (c .before .loop .inv) (c .loop-test .left)
+returns-2 c =
+    let entry = c .before .before .before .before .before in
+    let a = entry .args in
+    seek-none (isPass (a .code)) (a .in-d) (entry .pre .0) (entry .pre .1) (c .before .loop .inv .1) (c .loop-test .left)
 
 pub find-pass-spec : {M : Type 1} → statement M
 find-pass-spec =
@@ -53,11 +85,14 @@ find-pass-spec =
     (tie.spec
     Inv-loop
     μ-loop
-    add-first
-    first-requires
-    first-requires-2
+    add-end
+    mul-end
+    shared-slice-read-end
+    mul-i
+    shared-slice-read-i
     loop-holds
-    move-at-requires
+    mul-x
+    shared-slice-read-x
     is-pass-requires
     returns
     add-i

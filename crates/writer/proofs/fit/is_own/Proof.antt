@@ -1,29 +1,30 @@
--- `fit::is_own`: the edition, a form with a row, the kind and the value.
-use Prim.Native.Nat.{ℕ}
-use Rattle.writer.specs.Moves.{moveOf}
+-- `fit::is_own`: the kind, a form with a row, the edition and the value.
+use Rattle.writer.proofs.Search.{by-value, other-kind, same-value, without-row}
+use Rattle.writer.specs.Laying.{rowWith, view}
 use borrow.Author.Needs.{needs}
-use borrow.Author.Tests.{eq-eqb, ne-eqb}
-use lib.Dec.{eqb}
-use mathlib.Core.Path.{_∙_, ap, sym}
+use mathlib.Core.Path.{_∙_, sym}
 use Rattle.writer.proofs.fit.is_own.Statement.{statement}
 use Rattle.writer.proofs.fit.is_own.Tie as tie
-
-in-edition-requires : tie.Need-in-edition-requires
-in-edition-requires c κs = search needs
-
-form-of-requires : tie.Need-form-of-requires
-form-of-requires c κs = search needs
-
-returns : tie.Need-returns
-unfolding moveOf
-returns c = simp (sym (c .before .before .before .in-edition .ensures) ∙ c .before .before .if1 .taken, sym (c .before .before .before .before .before .pre .0 .quiet-is) ∙ ap (λ (n : ℕ). eqb n 12) (sym (c .before .form-of .ensures)) ∙ eq-eqb _ _ (c .if2 .taken))
 
 kind-of-requires : tie.Need-kind-of-requires
 kind-of-requires c κs = search needs
 
+returns : tie.Need-returns
+returns c =
+    let a = c .before .before .before .args in
+    other-kind (a .in-d) (a .x) (rowWith (a .kind) 0 (view (a .pool .now) (a .start) (a .many))) (λ q. c .if1 .taken (c .before .kind-of .ensures ∙ q))
+
+form-of-requires : tie.Need-form-of-requires
+form-of-requires c κs = search needs
+
 returns-2 : tie.Need-returns-2
-unfolding moveOf
-returns-2 c = simp (sym (c .before .before .before .before .before .in-edition .ensures) ∙ c .before .before .before .before .if1 .taken, sym (c .before .before .before .before .before .before .before .pre .0 .quiet-is) ∙ ap (λ (n : ℕ). eqb n 12) (sym (c .before .before .before .form-of .ensures)) ∙ ne-eqb _ _ (c .before .before .if2 .left), ap (λ (n : ℕ). eqb n (c .before .before .before .before .before .before .before .args .kind)) (sym (c .before .kind-of .ensures)) ∙ ne-eqb _ _ (c .if3 .taken))
+returns-2 c =
+    let entry = c .before .before .before .before .before in
+    let a = entry .args in
+    without-row (a .in-d) (entry .pre .0) (sym (c .before .form-of .ensures) ∙ c .if2 .taken) (rowWith (a .kind) 0 (view (a .pool .now) (a .start) (a .many)))
+
+in-edition-requires : tie.Need-in-edition-requires
+in-edition-requires c κs = search needs
 
 code-of-requires : tie.Need-code-of-requires
 code-of-requires c κs = search needs
@@ -32,21 +33,24 @@ valid-for-requires : tie.Need-valid-for-requires
 valid-for-requires c κs = search needs
 
 returns-3 : tie.Need-returns-3
-unfolding moveOf
-returns-3 c = c .valid-for .ensures ∙ simp (c .before .before .before .before .before .form-of .ensures, c .before .code-of .ensures, sym (c .before .before .before .before .before .before .before .in-edition .ensures) ∙ c .before .before .before .before .before .before .if1 .taken, sym (c .before .before .before .before .before .before .before .before .before .pre .0 .quiet-is) ∙ ap (λ (n : ℕ). eqb n 12) (sym (c .before .before .before .before .before .form-of .ensures)) ∙ ne-eqb _ _ (c .before .before .before .before .if2 .left), ap (λ (n : ℕ). eqb n (c .before .before .before .before .before .before .before .before .before .args .kind)) (sym (c .before .before .before .kind-of .ensures)) ∙ eq-eqb _ _ (c .before .before .if3 .left))
+returns-3 c =
+    let at-form = c .before .before .before .before .before in
+    let entry = at-form .before .before .before .before in
+    let a = entry .args in
+    c .valid-for .ensures ∙ same-value (view (a .pool .now) (a .start) (a .many)) (at-form .form-of .ensures) (c .before .code-of .ensures) ∙ by-value (a .in-d) (entry .pre .0) (rowWith (a .kind) 0 (view (a .pool .now) (a .start) (a .many))) (sym (at-form .before .before .kind-of .ensures) ∙ at-form .before .if1 .left) (λ q. c .before .before .before .before .if2 .left (at-form .form-of .ensures ∙ q)) (sym (c .before .before .before .in-edition .ensures) ∙ c .before .before .if3 .taken)
 
 returns-4 : tie.Need-returns-4
-returns-4 c = simp (sym (c .before .in-edition .ensures) ∙ c .if1 .left)
+returns-4 c = simp (sym (c .before .in-edition .ensures) ∙ c .if3 .left)
 
 pub is-own-spec : {M : Type 1} → statement M
 is-own-spec =
     tie.close
     (tie.spec
-    in-edition-requires
-    form-of-requires
-    returns
     kind-of-requires
+    returns
+    form-of-requires
     returns-2
+    in-edition-requires
     code-of-requires
     valid-for-requires
     returns-3
