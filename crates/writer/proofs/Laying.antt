@@ -2,18 +2,18 @@
 use mathlib.Core.Path.{_≡_, refl, sym, ap, _∙_, subst}
 use mathlib.Core.Bool.{Bool, true, false}
 use mathlib.Core.List.{List, [], _∷_, _++_}
-use Prim.Native.Nat.{ℕ, suc, _+_, _-_, _/_, _%_, _≤_, _<_}
+use Prim.Native.Nat.{ℕ, zero, suc, _+_, _-_, _/_, _%_, _≤_, _<_}
 use native.Mathlib.Omega.{arith}
 use native.Mathlib.Numerals.{add-one}
-use lib.ListN.{length, drop, getD, set, length-append, length-drop}
-use lib.Seq.{sets, length-sets, set-out, drop-cons, take-suc, getD-drop, length-take-le}
+use lib.ListN.{length, take, drop, getD, set, length-append, length-drop, length-set}
+use lib.Seq.{sets, length-sets, set-out, drop-cons, take-nil, take-suc, take-take, getD-drop, length-take-le}
 use lib.Dec.{ltb}
 use borrow.Author.Tests.{le-ltb, ltb-true, ltb-false}
 use Rattle.meaning.specs.Basics.{pick}
 use Rattle.meaning.specs.Bytes.{lengthBytes, twoBytes, fourBytes}
-use Rattle.writer.specs.Laying.{view, capped, one, Laid, Layable}
+use Rattle.writer.specs.Laying.{view, capped, one, Laid, Layable, fittingOf}
 
-capped-id : (n : ℕ) → n ≤ 1048576 → n ≡ capped n
+pub capped-id : (n : ℕ) → n ≤ 1048576 → n ≡ capped n
 capped-id n h = at (ltb n 1048576) refl
   where
     at : (b : Bool) → ltb n 1048576 ≡ b → n ≡ pick b n 1048576
@@ -105,24 +105,47 @@ view-single pool start many h q =
     let z : many - 1 ≡ 0 = omega arith in
     view-at pool start many h (omega arith) ∙ ap (λ (n : ℕ). getD pool start 0 ∷ view pool (start + 1) n) z
 
-view-next : (pool : List ℕ) (start i : ℕ) → start ≤ i → i < length pool → view pool start (i + 1 - start) ≡ view pool start (i - start) ++ one (getD pool i 0)
-view-next pool start i h k =
-    let q : i + 1 - start ≡ suc (i - start) = omega arith in
-    let p : start + (i - start) ≡ i = omega arith in
-    ap (view pool start) q ∙ take-suc (drop start pool) (i - start) 0 (omega (arith, length-drop start pool))
-    ∙ ap (λ (b : ℕ). view pool start (i - start) ++ one b) (getD-drop start pool (i - start) 0 ∙ ap (λ (n : ℕ). getD pool n 0) p)
+view-next : (pool : List ℕ) (start i : ℕ) → start + i < length pool → view pool start (i + 1) ≡ view pool start i ++ one (getD pool (start + i) 0)
+view-next pool start i h =
+    ap (view pool start) (add-one i) ∙ take-suc (drop start pool) i 0 (omega (arith, length-drop start pool)) ∙ ap (λ (b : ℕ). view pool start i ++ one b) (getD-drop start pool i 0)
 
--- a view copied byte by byte
-module _ (pool : List ℕ) (start : ℕ) {m₀ : List ℕ} {at : ℕ} where
-  pub copy-start : Layable m₀ at → Laid m₀ at (view pool start (start - start)) m₀ at
-  copy-start l = let q : start - start ≡ 0 = omega arith in rw q (laid-none m₀ at l)
+-- a view laid byte by byte
+pub lay-on : (pool : List ℕ) (start i : ℕ) (m₀ : List ℕ) (at : ℕ) {m : List ℕ} → start + i < length pool → m ≡ sets m₀ at (view pool start i) → set m (at + i) (getD pool (start + i) 0) ≡ sets m₀ at (view pool start (i + 1))
+lay-on pool start i m₀ at h q =
+    let v = view-length pool start i (omega arith) in
+    ap (λ (x : List ℕ). set x (at + i) (getD pool (start + i) 0)) q ∙ ap (λ (n : ℕ). set (sets m₀ at (view pool start i)) (at + n) (getD pool (start + i) 0)) (sym v)
+    ∙ sym (sets-append m₀ at (view pool start i) (one (getD pool (start + i) 0))) ∙ ap (sets m₀ at) (sym (view-next pool start i h))
 
-  pub copy-on : {i : ℕ} {m : List ℕ} {p : ℕ} {m₁ : List ℕ} {p₁ : ℕ} → start ≤ i → i < length pool → length m₀ ≤ 1048576
-      → Laid m₀ at (view pool start (i - start)) m p → Laid m p (one (getD pool i 0)) m₁ p₁ → Laid m₀ at (view pool start (i + 1 - start)) m₁ p₁
-  copy-on {i} h k l a b = laid-as (laid-then a l b) (view pool start (i + 1 - start)) (sym (view-next pool start i h k))
+-- what has no room is not laid
+sets-front : (m : List ℕ) (at : ℕ) (bs : List ℕ) (k : ℕ) → length m ≤ at + k → sets m at (take k bs) ≡ sets m at bs
+sets-front m at [] k h = ap (sets m at) (take-nil k)
+sets-front m at (b ∷ bs) zero h = sym (sets-past m at (b ∷ bs) (omega arith))
+sets-front m at (b ∷ bs) (suc k) h = sets-front (set m at b) (suc at) bs k (omega (arith, length-set m at b))
 
-  pub copy-done : (many : ℕ) {i : ℕ} {m : List ℕ} {p : ℕ} → i ≡ start + many → Laid m₀ at (view pool start (i - start)) m p → Laid m₀ at (view pool start many) m p
-  copy-done many {i} q a = let e : i - start ≡ many = omega arith in laid-as a (view pool start many) (ap (view pool start) e)
+pub fitting-most : (many at room : ℕ) → (fittingOf many at room ≤ many) × (fittingOf many at room ≤ room - at)
+fitting-most many at room = by (ltb (room - at) many) refl
+  where
+    by : (b : Bool) → ltb (room - at) many ≡ b → (pick b (room - at) many ≤ many) × (pick b (room - at) many ≤ room - at)
+    by true q = let h = ltb-true (room - at) many q in (omega arith, omega arith)
+    by false q = let h = ltb-false (room - at) many q in (omega arith, omega arith)
+
+pub copied : (pool : List ℕ) (start many : ℕ) (m : List ℕ) (at : ℕ) {n p : ℕ} {m₁ : List ℕ} → start + many ≤ length pool → n ≡ fittingOf many at (length m) → m₁ ≡ sets m at (view pool start n) → p ≡ capped (at + many) → Laid m at (view pool start many) m₁ p
+copied pool start many m at {n} h f q c =
+    record {
+      memory = q ∙ by (ltb (length m - at) many) refl;
+      counted = c ∙ ap (λ (k : ℕ). capped (at + k)) (sym (view-length pool start many h));
+    }
+  where
+    by : (b : Bool) → ltb (length m - at) many ≡ b → sets m at (view pool start n) ≡ sets m at (view pool start many)
+    by true e =
+        let k = ltb-true (length m - at) many e in
+        let z : n ≡ length m - at = f ∙ ap (λ (b : Bool). pick b (length m - at) many) e in
+        ap (λ (x : ℕ). sets m at (view pool start x)) z ∙ ap (sets m at) (sym (take-take (length m - at) many (drop start pool) (omega arith)))
+        ∙ sets-front m at (view pool start many) (length m - at) (omega arith)
+    by false e = ap (λ (x : ℕ). sets m at (view pool start x)) (f ∙ ap (λ (b : Bool). pick b (length m - at) many) e)
+
+pub capped-past : (n : ℕ) → 1048576 ≤ n → 1048576 ≡ capped n
+capped-past n h = sym (ap (λ (b : Bool). pick b n 1048576) (le-ltb n 1048576 h))
 
 pub four-is : (n : ℕ) → lengthBytes twoBytes (n / 65536) ++ lengthBytes twoBytes (n % 65536) ≡ lengthBytes fourBytes n
 four-is n =

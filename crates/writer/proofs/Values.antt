@@ -6,14 +6,14 @@ use Prim.Native.Nat.{ℕ, suc, _+_, _-_, _≤_, _<_}
 use native.Mathlib.Omega.{arith}
 use lib.Dec.{T, eqb, leb, ltb}
 use lib.ListN.{length, getD}
-use borrow.Author.Tests.{ne-eqb, le-leb, lt-leb, ltb-true, leb-false, leb-true}
+use borrow.Author.Tests.{eq-eqb, ne-eqb, eqb-true, le-leb, ltb-true, leb-false, leb-true}
 use Rattle.meaning.specs.Basics.{pick, isEmpty}
-use Rattle.meaning.specs.Bytes.{Taken, took, failed, textByte, textOk, numberOk, takeNumber, dateOk, takeDate, Check, blockOk, lengthBytes, oneByte, Width, fewest, past}
+use Rattle.meaning.specs.Bytes.{Taken, took, failed, prefixed, textByte, takeText, textOk, numberOk, takeNumber, dateOk, takeDate, Check, blockOk, lengthBytes, oneByte, Width, fewest, past}
 use Rattle.meaning.specs.Editions.{Form, block, itself, opens, quiet}
 use Rattle.meaning.specs.Writing.{isOnly, valid, writeValue}
 use Rattle.laws.specs.Logic.{is-true}
 use Rattle.laws.specs.From.{from, from-length, from-end}
-use Rattle.laws.specs.Values.{Was, date-in, date-out, number-in, number-out}
+use Rattle.laws.specs.Values.{Was, text-byte-above, date-in, date-out, number-in, number-out}
 use Rattle.values.specs.declared.Value.{Value}
 use Rattle.values.specs.declared.Value.the-variants.{Is, Refused}
 use Rattle.values.specs.Stages.{span, spans, misses, Valued}
@@ -21,21 +21,6 @@ use Rattle.values.specs.Answers.{valued-at, valued-refused}
 use Rattle.writer.specs.Moves.{formOf}
 use Rattle.writer.specs.Laying.{view}
 use Rattle.writer.proofs.Laying.{view-at, view-single, view-length}
-
--- Text, byte by byte
-
-module _ (pool : List ℕ) (i n : ℕ) (h : i + n ≤ length pool) (k : 0 < n) where
-  pub text-on : 32 ≤ getD pool i 0 → textOk (view pool i n) ≡ textOk (view pool (i + 1) (n - 1))
-  unfolding textOk textByte
-  text-on q = ap textOk (view-at pool i n h k) ∙ rw (le-leb 32 (getD pool i 0) q) refl
-
-  pub text-bad : getD pool i 0 < 32 → textOk (view pool i n) ≡ false
-  unfolding textOk textByte
-  text-bad q = ap textOk (view-at pool i n h k) ∙ rw (lt-leb 32 (getD pool i 0) q) refl
-
-pub text-end : (pool : List ℕ) (i n : ℕ) → n ≡ 0 → textOk (view pool i n) ≡ true
-unfolding textOk
-text-end pool i n q = ap (λ (k : ℕ). textOk (view pool i k)) q
 
 -- A value that a stage takes whole, and no other
 
@@ -84,6 +69,54 @@ module _ (stage : List ℕ → Taken) (ok : List ℕ → Bool) (into : (v : List
 view-from : (pool : List ℕ) (start many : ℕ) → from pool start (start + many) ≡ view pool start many
 unfolding from
 view-from pool start many = let q : start + many - start ≡ many = omega arith in ap (view pool start) q
+
+-- A text whose end alone is missing
+
+same-test : (x y z : ℕ) → z ≡ x - y → leb x y ≡ eqb z 0
+same-test x y z q = at (leb x y) refl
+  where
+    at : (b : Bool) → leb x y ≡ b → b ≡ eqb z 0
+    at true e = let h = leb-true x y e in sym (eq-eqb z 0 (omega arith))
+    at false e = let h = leb-false x y e in sym (ne-eqb z 0 (λ w. omega arith))
+
+abbrev wantsEnd : Taken → Bool
+wantsEnd (took v rest) = false
+wantsEnd (failed refusal left) = eqb left 0
+
+wants-more : (b : ℕ) (t : Taken) → wantsEnd (prefixed b t) ≡ wantsEnd t
+wants-more b (took v rest) = refl
+wants-more b (failed refusal left) = refl
+
+text-wants : (v : List ℕ) → wantsEnd (takeText v) ≡ textOk v
+unfolding takeText textOk
+text-wants [] = refl
+text-wants (b ∷ v) = at (eqb b 0) refl (textByte b) refl (text-wants v)
+  where
+    at : (z : Bool) → eqb b 0 ≡ z → (l : Bool) → textByte b ≡ l → wantsEnd (takeText v) ≡ textOk v → wantsEnd (pick z (took [] v) (pick l (prefixed b (takeText v)) (failed 8 (suc (length v))))) ≡ (l && textOk v)
+    at true q true e i = let h = text-byte-above b (subst T (sym e) tt) in let z = eqb-true b 0 q in absurd (omega arith)
+    at true q false e i = refl
+    at false q true e i = wants-more b (takeText v) ∙ i
+    at false q false e i = ne-eqb (suc (length v)) 0 (λ x. omega arith)
+
+module _ (pool : List ℕ) (start many : ℕ) {kind back : ℕ} {r : Value} (a : Valued pool (start + many) start kind back (takeText (from pool start (start + many))) r) where
+  wants : wantsEnd (takeText (from pool start (start + many))) ≡ textOk (view pool start many)
+  wants = text-wants (from pool start (start + many)) ∙ ap textOk (view-from pool start many)
+
+  pub text-whole : {refusal at : ℕ} → r ≡ Refused refusal at → leb (start + many) at ≡ textOk (view pool start many)
+  text-whole {refusal} {at} q = by (takeText (from pool start (start + many))) (valued-refused a q .0) ∙ wants
+    where
+      by : (t : Taken) → span 0 t ≡ misses refusal (start + many - at) → leb (start + many) at ≡ wantsEnd t
+      by (took v rest) e = let z : _≡_ {A = ℕ} 0 1 = cc e in absurd (omega arith)
+      by (failed refusal₁ left) e = let l : left ≡ start + many - at = cc e in same-test (start + many) at left l
+
+  pub text-ended : {kd s n after : ℕ} → r ≡ Is kd s n after → false ≡ textOk (view pool start many)
+  text-ended {kd} {s} {n} {after} q = by (takeText (from pool start (start + many))) (valued-at a q .0) ∙ wants
+    where
+      by : (t : Taken) → span 0 t ≡ spans n (from pool after (start + many)) → false ≡ wantsEnd t
+      by (took v rest) e = refl
+      by (failed refusal left) e = let z : _≡_ {A = ℕ} 0 1 = cc e in absurd (omega arith)
+
+-- A number, a date
 
 module _ (pool : List ℕ) (start many : ℕ) (h : start + many ≤ length pool) where
   abbrev numberHere : List ℕ → Bool

@@ -1,5 +1,5 @@
 -- Bytes laid one behind the other, where the part lent has room for them, and counted up to the limit of an envelope.
-use Prim.Native.Nat.{ℕ, _+_, _≤_}
+use Prim.Native.Nat.{ℕ, _+_, _-_, _≤_}
 use mathlib.Core.List.{List, [], _∷_}
 use mathlib.Core.Path.{_≡_}
 use lib.Dec.{eqb, ltb}
@@ -29,6 +29,10 @@ one b = b ∷ []
 pub record Laid (before : List ℕ) (at : ℕ) (bytes after : List ℕ) (count : ℕ) : Type 0 where
   pub memory : after ≡ sets before at bytes
   pub counted : count ≡ capped (at + length bytes)
+
+-- how many bytes have room behind `at`
+abbrev pub fittingOf : ℕ → ℕ → ℕ → ℕ
+fittingOf many at room = pick (ltb (room - at) many) (room - at) many
 
 -- what every function that lays bytes asks
 pub record Layable (part : List ℕ) (at : ℕ) : Type 0 where

@@ -124,7 +124,18 @@ pub fn body(
         if opening(r.kind, r.level, pool, r.start, r.many) != 0 {
             return seal(in_d, table, i, t, output, p);
         }
-        let f = fit_row(in_d, table, t, r.kind, r.level, pool, r.start, r.many, output, p);
+        let f = fit_row(
+            in_d,
+            table,
+            t,
+            r.kind,
+            r.level,
+            pool,
+            r.start,
+            r.many,
+            output,
+            p,
+        );
         let Fitted::Fits { to, at } = f else {
             return Bodied::Stuck(i);
         };

@@ -286,7 +286,13 @@ pub fn fit_row(
 }
 
 // The closings to the envelope's end.
-pub fn close_all(in_d: bool, table: &[usize], from: Standing, output: &mut [u8], at: usize) -> Fitted
+pub fn close_all(
+    in_d: bool,
+    table: &[usize],
+    from: Standing,
+    output: &mut [u8],
+    at: usize,
+) -> Fitted
     requires { ⌜ (now table ≡ packed) × (Good from) × Layable (now output) at ⌝ }
     ensures { λ r. ⌜ CloseIs (close (editionOf in_d) (stateOf from)) (now (output .entry)) at r (now (output .exit)) ⌝ }
 {

@@ -2,12 +2,13 @@
 // The count stops at an envelope's limit: no sum wraps, whatever the rows view.
 ghost use mathlib.Core.Path.{_≡_};
 ghost use mathlib.Core.Bool.{true};
-ghost use Prim.Native.Nat.{_+_, _≤_, _<_};
+ghost use Prim.Native.Nat.{_+_, _-_, _≤_, _<_};
 ghost use lib.ListN.{length};
+ghost use lib.Seq.{sets};
 ghost use Rattle.meaning.specs.Bytes.{lengthBytes, twoBytes, fourBytes};
 ghost use Rattle.meaning.specs.Writing.{valid, writeValue};
 ghost use Rattle.writer.specs.Moves.{formOf};
-ghost use Rattle.writer.specs.Laying.{view, one, Laid, Layable, leadOf};
+ghost use Rattle.writer.specs.Laying.{view, one, Laid, Layable, leadOf, fittingOf};
 
 const MOST: usize = 1048576;
 
@@ -25,19 +26,42 @@ pub fn put(output: &mut [u8], at: usize, b: u8) -> usize
     at
 }
 
-// A view's bytes.
+// A view's bytes: those that have room, and the count of all.
 fn copy(pool: &[u8], start: usize, many: usize, output: &mut [u8], at: usize) -> usize
     requires { ⌜ (start + many ≤ length (now pool)) × Layable (now output) at ⌝ }
     ensures { λ r. ⌜ Laid (now (output .entry)) at (view (now (pool .entry)) start many) (now (output .exit)) r ⌝ }
 {
-    let end = start + many;
-    let mut i = start;
-    let mut p = at;
-    while i < end {
-        p = put(output, p, pool[i]);
+    let n = fitting(many, at, output.len());
+    lay(pool, start, n, output, at);
+    if MOST - at < many {
+        return MOST;
+    }
+    at + many
+}
+
+// How many of these bytes have room behind `at`.
+fn fitting(many: usize, at: usize, room: usize) -> usize
+    ensures { λ r. ⌜ r ≡ fittingOf many at room ⌝ }
+{
+    if room <= at {
+        return 0;
+    }
+    if room - at < many {
+        return room - at;
+    }
+    many
+}
+
+// Bytes that have room: a loop without a branch, so that it goes by vectors.
+fn lay(pool: &[u8], start: usize, n: usize, output: &mut [u8], at: usize)
+    requires { ⌜ (start + n ≤ length (now pool)) × (n ≤ length (now output) - at) ⌝ }
+    ensures { λ _. ⌜ now (output .exit) ≡ sets (now (output .entry)) at (view (now (pool .entry)) start n) ⌝ }
+{
+    let mut i: usize = 0;
+    while i < n {
+        output[at + i] = pool[start + i];
         i += 1;
     }
-    p
 }
 
 // A number of two bytes, high first.

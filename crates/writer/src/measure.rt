@@ -111,7 +111,14 @@ pub fn start_of(opened: usize) -> Standing
 }
 
 // The inside of an envelope, only measured: its part of the output is empty.
-pub fn measure(in_d: bool, table: &[usize], rows: &[u32], pool: &[u8], from: usize, s: Standing) -> Bodied
+pub fn measure(
+    in_d: bool,
+    table: &[usize],
+    rows: &[u32],
+    pool: &[u8],
+    from: usize,
+    s: Standing,
+) -> Bodied
     requires { ⌜ (now table ≡ packed) × (Good s) × (from ≤ length (now rows) / 4) ⌝ }
     ensures { λ r. ⌜ Measured (bodyOf (editionOf in_d) (cellsAt (now (pool .entry)) (now (rows .entry)) from) from (stateOf s)) (now (pool .entry)) (now (rows .entry)) r ⌝ }
 {

@@ -31,21 +31,17 @@ pub fn valid_for(form: usize, code: usize, pool: &[u8], start: usize, many: usiz
     }
 }
 
-// "Text: bytes 20 to FF".
+// "Text: bytes 20 to FF": the reader's own stage comes to the end of the view, and only asks for its 00.
 fn text_ok(pool: &[u8], start: usize, many: usize) -> bool
     requires { ⌜ start + many ≤ length (now pool) ⌝ }
     ensures { λ r. ⌜ r ≡ textOk (view (now (pool .entry)) start many) ⌝ }
 {
-    let mut i = start;
-    let mut n = many;
-    while 0 < n {
-        if pool[i] < 0x20 {
-            return false;
-        }
-        i += 1;
-        n -= 1;
-    }
-    true
+    let end = start + many;
+    let r = values::text::take(pool, end, start, 0);
+    let Value::Refused { refusal: _, at } = r else {
+        return false;
+    };
+    end <= at
 }
 
 // The reader's own stage takes all of the view.
