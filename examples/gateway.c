@@ -34,7 +34,7 @@ struct row {
     uint32_t length;
 };
 
-static void stop(const char *why)
+static _Noreturn void stop(const char *why)
 {
     fprintf(stderr, "gateway: %s\n", why);
     exit(NO_CALL);
