@@ -1,7 +1,7 @@
 /* Run by bench/run at the top of the repository: the archive and the second program on the same headers, in the same memory.
      bench names                       a line for each input: its number, name, headers, bytes, rows; both programs checked
      bench once INPUT PROGRAM CALL     the call once for each header of the input, for whoever counts instructions from outside
-     bench time INPUT CALL             nanoseconds for a header, the archive's and the second program's
+     bench time INPUT CALL             nanoseconds of the processor for a header, the archive's and the second program's
    PROGRAM is archive or second, CALL is read or write. Whatever is measured is checked: every call must be accepted, and rows
    and bytes must be the other program's. */
 #define _POSIX_C_SOURCE 200809L
@@ -15,7 +15,10 @@
 #include <string.h>
 #include <time.h>
 
-enum { EDITION = GAMULISYAN_EDITION_D, ROW = GAMULISYAN_ROW_NUMBERS, MOST_NUMBERS = 1 << 20, ROUNDS = 25, BATCH = 4000000 };
+enum { EDITION = GAMULISYAN_EDITION_D, ROW = GAMULISYAN_ROW_NUMBERS, MOST_NUMBERS = 1 << 20 };
+
+/* Nanoseconds: of one batch, and of all of them. */
+enum { BATCH = 1000000, LONG_ENOUGH = 2000000000 };
 
 enum call { READ, WRITE };
 
@@ -162,14 +165,14 @@ static void call_all(const struct program *program, enum call call)
             write_one(program, number);
 }
 
-/* Nanoseconds for that many times over the whole input. */
+/* Nanoseconds of the processor for that many times over the whole input. */
 static double time_batch(const struct program *program, enum call call, unsigned long times)
 {
     struct timespec from, to;
-    clock_gettime(CLOCK_MONOTONIC, &from);
+    clock_gettime(CLOCK_PROCESS_CPUTIME_ID, &from);
     for (unsigned long time = 0; time < times; time++)
         call_all(program, call);
-    clock_gettime(CLOCK_MONOTONIC, &to);
+    clock_gettime(CLOCK_PROCESS_CPUTIME_ID, &to);
     return (double)(to.tv_sec - from.tv_sec) * 1e9 + (double)(to.tv_nsec - from.tv_nsec);
 }
 
@@ -187,13 +190,15 @@ static void print_times(enum call call)
     unsigned long archive_times = times_for(&archive, call);
     unsigned long second_times = times_for(&second, call);
     double least[2] = {1e18, 1e18};
-    for (unsigned round = 0; round < ROUNDS; round++) {
-        double first = time_batch(&archive, call, archive_times) / (double)archive_times;
-        double other = time_batch(&second, call, second_times) / (double)second_times;
+    for (double spent = 0; spent < LONG_ENOUGH;) {
+        double first = time_batch(&archive, call, archive_times);
+        double other = time_batch(&second, call, second_times);
         least[0] = first < least[0] ? first : least[0];
         least[1] = other < least[1] ? other : least[1];
+        spent += first + other;
     }
-    printf("%.1f %.1f\n", least[0] / (double)headers.count, least[1] / (double)headers.count);
+    double passes[2] = {(double)archive_times * (double)headers.count, (double)second_times * (double)headers.count};
+    printf("%.1f %.1f\n", least[0] / passes[0], least[1] / passes[1]);
 }
 
 static enum call call_named(const char *name)
