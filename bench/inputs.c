@@ -61,12 +61,16 @@ static void put_digits(struct headers *headers, const char *digits)
         put(headers, 16 * (unsigned)(digits[0] - '0' + 1));
 }
 
+/* Drawn one after the other, so that every compiler makes the same headers. */
 static void put_date(struct headers *headers, struct source *source)
 {
-    char digits[32];
-    snprintf(digits, sizeof digits, "20%02u%02u%02u%02u%02u%02u%03u", (unsigned)random_below(source, 100), 1 + (unsigned)random_below(source, 12),
-             1 + (unsigned)random_below(source, 28), (unsigned)random_below(source, 24), (unsigned)random_below(source, 60),
-             (unsigned)random_below(source, 60), (unsigned)random_below(source, 1000));
+    static const unsigned least[7] = {0, 1, 1, 0, 0, 0, 0};
+    static const unsigned many[7] = {100, 12, 28, 24, 60, 60, 1000};
+    unsigned part[7];
+    char digits[80];
+    for (unsigned i = 0; i < 7; i++)
+        part[i] = least[i] + (unsigned)random_below(source, many[i]);
+    snprintf(digits, sizeof digits, "20%02u%02u%02u%02u%02u%02u%03u", part[0], part[1], part[2], part[3], part[4], part[5], part[6]);
     put(headers, DATE);
     put_digits(headers, digits);
 }
