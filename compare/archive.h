@@ -1,4 +1,5 @@
-/* Put before the recorded cases' program: what the archive has, it runs over the archive instead of the second program. */
+/* Put before the programs of the instances and of the recorded cases: what the archive has, they run over the archive instead of
+   the second program. A listing stays the second program's, for the archive has none. */
 #define second_read archive_read
 #define second_write archive_write
 #define second_payload archive_payload

@@ -1,6 +1,7 @@
 /* Gamulisyan: the proved coder of the FIPA bit-efficient message envelope, editions B (1) and D (2).
    Document 01 rules every answer. The caller lends all memory; a pointer with length 0 may be null.
-   A refused call changes nothing lent; an accepted one only the bytes or rows that it reports. */
+   A refused call changes nothing lent; an accepted one only the bytes or rows that it reports. What a call may change must not
+   overlap what it reads. */
 #ifndef GAMULISYAN_H
 #define GAMULISYAN_H
 
@@ -110,29 +111,39 @@ struct gamulisyan_dated {
     struct gamulisyan_date date;
 };
 
-/* Reads the header at the front of `input` into `rows`; `numbers` counts the uint32_t lent, four for each row. */
+/* Takes an input and rows lent: `numbers` counts their uint32_t, four for each row. Reads the header at the front of the input.
+   Answers 0, the place of the payload's first byte and the rows read; or a refusal and its place, and only for 14 the rows
+   needed, to be lent by a second call. Leaves the rows read at the front of `rows`, their starts being places in the input, and
+   after a refusal nothing. */
 struct gamulisyan_answer gamulisyan_read(uint32_t edition, const uint8_t *input, size_t length, uint32_t *rows, size_t numbers);
 
-/* Writes the table over the front of `output`. A row's start and length say where in `pool` its bytes are; the input that
-   was read is a pool for its rows. Checked in this order: 1, 15, 5, 16. */
+/* Takes rows, `numbers` again counting uint32_t, the pool whose bytes they view (for rows just read: their input) and an output
+   lent. Answers 0, the bytes written and the rows; or a refusal, checked in this order: 1; 15 at the row that is wrong; 5 at
+   the row of the envelope; 16 at the bytes needed, to be lent by a second call. Leaves the header at the front of `output`, and
+   after a refusal nothing. */
 struct gamulisyan_answer gamulisyan_write(uint32_t edition, const uint32_t *rows, size_t numbers, const uint8_t *pool, size_t pool_length,
                                           uint8_t *output, size_t length);
 
-/* Where the payload lies: from behind the header up to the input's end, or from 0 to 0 if the header is refused. */
+/* Takes an input. Answers where its payload lies: from behind the header up to the input's end, or from 0 to 0 if the header is
+   refused. Changes no memory; 14 cannot arise. */
 struct gamulisyan_part gamulisyan_payload(uint32_t edition, const uint8_t *input, size_t length);
 
-/* The payload length that all of `bytes` code. Refused: 10 at the byte that is wrong, missing or left over, value 0. */
+/* Takes the bytes of a payload length row. Answers 0, their count and the number that they code; or 10 at the byte that is
+   wrong, missing or left over, and value 0. Changes no memory. */
 struct gamulisyan_number gamulisyan_number_decode(const uint8_t *bytes, size_t length);
 
-/* Codes a payload length over the front of `output`. Refused: 10 at 0 above 4,294,967,295, then 16 at the bytes needed. */
+/* Takes a number and an output lent. Answers 0 and the bytes written, at most 6; or 10 at 0 for a number above 4,294,967,295,
+   then 16 at the bytes needed. Leaves the coded number at the front of `output`, and after a refusal nothing. */
 struct gamulisyan_coded gamulisyan_number_encode(uint64_t value, uint8_t *output, size_t length);
 
-/* The date that all of `bytes` code: a date row's nine bytes, or ten with a designator. Refused: 9 at the byte that is
-   wrong, missing or left over, or at 0 for another kind than 5, 6 and 7; then every component is 0. */
+/* Takes a date row's kind and its bytes, nine or with a designator ten. Answers 0, their count and the date; or 9 at the byte
+   that is wrong, missing or left over, or at 0 for another kind than 5, 6 and 7, and then 0 in every component. Changes no
+   memory. */
 struct gamulisyan_dated gamulisyan_date_decode(uint32_t kind, const uint8_t *bytes, size_t length);
 
-/* Codes a date over the front of `output`, with its tenth byte if it has a designator. Refused: 9 at 0 for a component
-   out of range or another kind, then 16 at the bytes needed. */
+/* Takes a date row's kind, a date and an output lent. Answers 0 and the bytes written, 9 or with a designator 10; or 9 at 0 for
+   a component out of range or another kind, then 16 at the bytes needed. Leaves the coded date, without a date code, at the
+   front of `output`, and after a refusal nothing. */
 struct gamulisyan_coded gamulisyan_date_encode(uint32_t kind, struct gamulisyan_date date, uint8_t *output, size_t length);
 
 #ifdef __cplusplus

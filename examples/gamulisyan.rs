@@ -1,0 +1,176 @@
+//! The archive's seven entries for Rust, as `include/gamulisyan.h` declares them, and `read` and `write` over slices.
+//! Copy this file; docs/RUST.md says how to link it.
+#![allow(dead_code)]
+
+pub const ACCEPTED: u32 = 0;
+pub const ROWS_SHORT: u32 = 14;
+pub const EDITION_B: u32 = 1;
+pub const EDITION_D: u32 = 2;
+
+#[repr(C)]
+#[derive(Clone, Copy, Debug, PartialEq, Eq)]
+pub struct Answer {
+    pub answer: u32,
+    pub place: usize,
+    pub rows: usize,
+}
+
+#[repr(C)]
+#[derive(Clone, Copy, Debug, PartialEq, Eq)]
+pub struct Part {
+    pub start: usize,
+    pub end: usize,
+}
+
+#[repr(C)]
+#[derive(Clone, Copy, Debug, PartialEq, Eq)]
+pub struct Number {
+    pub answer: u32,
+    pub place: usize,
+    pub value: u64,
+}
+
+#[repr(C)]
+#[derive(Clone, Copy, Debug, PartialEq, Eq)]
+pub struct Coded {
+    pub answer: u32,
+    pub place: usize,
+}
+
+#[repr(C)]
+#[derive(Clone, Copy, Debug, PartialEq, Eq)]
+pub struct Date {
+    pub year: u32,
+    pub month: u32,
+    pub day: u32,
+    pub hour: u32,
+    pub minute: u32,
+    pub second: u32,
+    pub millisecond: u32,
+    /// An ASCII letter, or 0 for none.
+    pub designator: u32,
+}
+
+#[repr(C)]
+#[derive(Clone, Copy, Debug, PartialEq, Eq)]
+pub struct Dated {
+    pub answer: u32,
+    pub place: usize,
+    pub date: Date,
+}
+
+#[link(name = "gamulisyan", kind = "static")]
+extern "C" {
+    pub fn gamulisyan_read(edition: u32, input: *const u8, length: usize, rows: *mut u32, numbers: usize) -> Answer;
+    pub fn gamulisyan_write(
+        edition: u32,
+        rows: *const u32,
+        numbers: usize,
+        pool: *const u8,
+        pool_length: usize,
+        output: *mut u8,
+        length: usize,
+    ) -> Answer;
+    pub fn gamulisyan_payload(edition: u32, input: *const u8, length: usize) -> Part;
+    pub fn gamulisyan_number_decode(bytes: *const u8, length: usize) -> Number;
+    pub fn gamulisyan_number_encode(value: u64, output: *mut u8, length: usize) -> Coded;
+    pub fn gamulisyan_date_decode(kind: u32, bytes: *const u8, length: usize) -> Dated;
+    pub fn gamulisyan_date_encode(kind: u32, date: Date, output: *mut u8, length: usize) -> Coded;
+}
+
+/// Kind, level, start and length of one row.
+pub type Row = [u32; 4];
+
+const USUAL_ROWS: usize = 32;
+
+fn read_into(edition: u32, input: &[u8], rows: &mut [Row]) -> Answer {
+    // the entry asks nothing of its caller but two valid slices, and rows of four numbers lie one behind the other
+    unsafe { gamulisyan_read(edition, input.as_ptr(), input.len(), rows.as_mut_ptr().cast(), rows.len() * 4) }
+}
+
+/// The rows of the header at the front of `input`, and the header's length; or the refusal.
+pub fn read(edition: u32, input: &[u8]) -> Result<(Vec<Row>, usize), Answer> {
+    let mut rows = vec![[0; 4]; USUAL_ROWS];
+    let mut read = read_into(edition, input, &mut rows);
+    if read.answer == ROWS_SHORT {
+        rows.resize(read.rows, [0; 4]);
+        read = read_into(edition, input, &mut rows);
+    }
+    if read.answer != ACCEPTED {
+        return Err(read);
+    }
+    rows.truncate(read.rows);
+    Ok((rows, read.place))
+}
+
+/// Writes the table over the front of `output`: the bytes written, or the refusal. Refused with 16, `place` is the room needed.
+pub fn write(edition: u32, rows: &[Row], pool: &[u8], output: &mut [u8]) -> Result<usize, Answer> {
+    let written = unsafe {
+        gamulisyan_write(
+            edition,
+            rows.as_ptr().cast(),
+            rows.len() * 4,
+            pool.as_ptr(),
+            pool.len(),
+            output.as_mut_ptr(),
+            output.len(),
+        )
+    };
+    if written.answer == ACCEPTED { Ok(written.place) } else { Err(written) }
+}
+
+/// The payload behind the header, a part of `input`; empty if the header is refused.
+pub fn payload(edition: u32, input: &[u8]) -> &[u8] {
+    let part = unsafe { gamulisyan_payload(edition, input.as_ptr(), input.len()) };
+    &input[part.start..part.end]
+}
+
+#[cfg(test)]
+mod tests {
+    use super::*;
+
+    /// M of document 01, and one byte of payload.
+    const M: [u8; 16] = *b"\xFE\x00\x0F\x12\x20\x31\x11\x16\x19\x15\x37\x62\x59\x20\x01!";
+    const FORWARD: u32 = 6;
+
+    #[test]
+    fn reads_and_writes() {
+        let (rows, length) = read(EDITION_B, &M).unwrap();
+        assert_eq!((rows.len(), length), (3, 15));
+        let mut output = [0; 15];
+        assert_eq!(write(EDITION_B, &rows, &M, &mut output), Ok(15));
+        assert_eq!(output, M[..15]);
+        assert_eq!(write(EDITION_B, &rows, &M, &mut output[..14]), Err(Answer { answer: 16, place: 15, rows: 0 }));
+    }
+
+    #[test]
+    fn refuses_nothing_lent() {
+        assert_eq!(read(EDITION_D, &[]), Err(Answer { answer: 2, place: 0, rows: 0 }));
+        assert_eq!(write(EDITION_D, &[], &[], &mut []), Err(Answer { answer: 15, place: 0, rows: 0 }));
+    }
+
+    #[test]
+    fn views_the_payload() {
+        assert_eq!(payload(EDITION_D, &M), b"!");
+        assert_eq!(payload(EDITION_D, &M[..14]), b"");
+    }
+
+    #[test]
+    fn codes_numbers() {
+        let mut output = [0; 6];
+        let coded = unsafe { gamulisyan_number_encode(4_294_967_295, output.as_mut_ptr(), output.len()) };
+        assert_eq!(coded, Coded { answer: 0, place: 6 });
+        let number = unsafe { gamulisyan_number_decode(output.as_ptr(), output.len()) };
+        assert_eq!(number, Number { answer: 0, place: 6, value: 4_294_967_295 });
+    }
+
+    #[test]
+    fn codes_dates() {
+        let date = Date { year: 2000, month: 5, day: 8, hour: 4, minute: 26, second: 51, millisecond: 481, designator: 90 };
+        let mut output = [0; 10];
+        let coded = unsafe { gamulisyan_date_encode(FORWARD, date, output.as_mut_ptr(), output.len()) };
+        assert_eq!(coded, Coded { answer: 0, place: 10 });
+        let dated = unsafe { gamulisyan_date_decode(FORWARD, output.as_ptr(), output.len()) };
+        assert_eq!(dated, Dated { answer: 0, place: 10, date });
+    }
+}
