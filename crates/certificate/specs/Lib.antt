@@ -1,0 +1,2 @@
+-- What the promises of the entries give together, each file by those before it.
+pub mod OneAnswer
