@@ -1,2 +1,4 @@
 -- What the promises of the entries give together, each file by those before it.
 pub mod OneAnswer
+pub mod Lent
+pub mod Calls

@@ -24,15 +24,16 @@ use Rattle.listing.specs.Promised.{one-answer}
 use Rattle.lister.specs.Promise.{TablePromise, LongPromise}
 
 -- both are the one that the promise names
-pub same : {A : Type 0} {x y named : A} → x ≡ named → y ≡ named → x ≡ y
+same : {A : Type 0} {x y named : A} → x ≡ named → y ≡ named → x ≡ y
 same p q = p ∙ sym q
 
 -- reading a header: answer, place and count of rows, and the lent rows
 pub one-read : {edition : ℕ} {input before after later : List ℕ} {a b : reader.Answer} → ReadPromise edition input before a after → ReadPromise edition input before b later → (a ≡ b) × (after ≡ later)
-one-read p q = (ap struct (same (p .answers) (q .answers)), same (p .rows) (q .rows))
-  where
-    struct : Reply → reader.Answer
-    struct r = record { answer = r .answer; place = r .place; rows = r .rows }
+one-read p q = (ap (λ (r : Reply). record { answer = r .answer; place = r .place; rows = r .rows }) (same (p .answers) (q .answers)), same (p .rows) (q .rows))
+
+-- writing a table: answer, place and count of rows, and the lent output
+pub one-write : {edition : ℕ} {rows pool before after later : List ℕ} {a b : writer.Answer} → WritePromise edition rows pool before a after → WritePromise edition rows pool before b later → (a ≡ b) × (after ≡ later)
+one-write p q = (ap (λ (r : Reply). record { answer = r .answer; place = r .place; rows = r .rows }) (same (p .answers) (q .answers)), same (p .leaves) (q .leaves))
 
 -- the payload: the bytes of the part that is handed back
 pub one-payload : {edition : ℕ} {input part other : List ℕ} → PayloadPromise edition input part → PayloadPromise edition input other → part ≡ other
@@ -40,36 +41,18 @@ one-payload p q = same (p .bytes) (q .bytes)
 
 -- .. and as two numbers
 pub one-part : {edition : ℕ} {input : List ℕ} {part other : Part} → PartPromise edition input part → PartPromise edition input other → part ≡ other
-one-part {part = part} {other = other} p q = ap (λ (x : ℕ). struct x (part .end)) (same (p .starts) (q .starts)) ∙ ap (struct (other .start)) (same (p .ends) (q .ends))
-  where
-    struct : ℕ → ℕ → Part
-    struct start end = record { start = start; end = end }
-
--- writing a table: answer, place and count of rows, and the lent output
-pub one-write : {edition : ℕ} {rows pool before after later : List ℕ} {a b : writer.Answer} → WritePromise edition rows pool before a after → WritePromise edition rows pool before b later → (a ≡ b) × (after ≡ later)
-one-write p q = (ap struct (same (p .answers) (q .answers)), same (p .leaves) (q .leaves))
-  where
-    struct : Reply → writer.Answer
-    struct r = record { answer = r .answer; place = r .place; rows = r .rows }
+one-part p q = λ i. record { start = same (p .starts) (q .starts) i; end = same (p .ends) (q .ends) i }
 
 -- decoding a number: answer, place and value
 pub one-number-decoded : {bytes : List ℕ} {r s : DecodedNumber} → NumberDecodes bytes r → NumberDecodes bytes s → r ≡ s
-one-number-decoded {r = r} {s = s} p q =
-    ap (λ (x : Outcome). struct x (r .value)) (same (p .is) (q .is)) ∙ ap (struct (record { answer = s .answer; place = s .place })) (same (p .worth) (q .worth))
-  where
-    struct : Outcome → ℕ → DecodedNumber
-    struct o value = record { answer = o .answer; place = o .place; value = value }
+one-number-decoded p q = λ i. record { answer = same (p .is) (q .is) i .answer; place = same (p .is) (q .is) i .place; value = same (p .worth) (q .worth) i }
 
 -- decoding a date: answer, place and the eight components
 pub one-date-decoded : {kind : ℕ} {bytes : List ℕ} {r s : DecodedDate} → DateDecodes kind bytes r → DateDecodes kind bytes s → r ≡ s
-one-date-decoded {r = r} {s = s} p q =
-    ap (λ (x : Outcome). struct x (r .date)) (same (p .is) (q .is)) ∙ ap (λ (d : PlainDate). struct (record { answer = s .answer; place = s .place }) (dateStruct d)) (same (p .worth) (q .worth))
+one-date-decoded p q = λ i. record { answer = same (p .is) (q .is) i .answer; place = same (p .is) (q .is) i .place; date = struct (same (p .worth) (q .worth) i) }
   where
-    struct : Outcome → Date → DecodedDate
-    struct o date = record { answer = o .answer; place = o .place; date = date }
-
-    dateStruct : PlainDate → Date
-    dateStruct d =
+    struct : PlainDate → Date
+    struct d =
         record {
           year = d .year;
           month = d .month;
@@ -82,16 +65,16 @@ one-date-decoded {r = r} {s = s} p q =
         }
 
 -- an encoder's answer and place
-abbrev encodedStruct : Outcome → Encoded
-encodedStruct o = record { answer = o .answer; place = o .place }
+abbrev encodedAs : Outcome → Encoded
+encodedAs o = record { answer = o .answer; place = o .place }
 
 -- encoding a number: answer and place, and the lent output
 pub one-number-encoded : {value : ℕ} {before after later : List ℕ} {r s : Encoded} → NumberEncodes value before after r → NumberEncodes value before later s → (r ≡ s) × (after ≡ later)
-one-number-encoded p q = (ap encodedStruct (same (p .is) (q .is)), same (p .lays) (q .lays))
+one-number-encoded p q = (ap encodedAs (same (p .is) (q .is)), same (p .lays) (q .lays))
 
 -- encoding a date: the same
 pub one-date-encoded : {kind : ℕ} {date : PlainDate} {before after later : List ℕ} {r s : Encoded} → DateEncodes kind date before after r → DateEncodes kind date before later s → (r ≡ s) × (after ≡ later)
-one-date-encoded p q = (ap encodedStruct (same (p .is) (q .is)), same (p .lays) (q .lays))
+one-date-encoded p q = (ap encodedAs (same (p .is) (q .is)), same (p .lays) (q .lays))
 
 -- the next piece of a listing: its length and where the next begins, and the lent memory
 pub one-piece : (answer place count : ℕ) (rows bytes : List ℕ) {line byte : ℕ} {before after later : List ℕ} {r s : Piece}
