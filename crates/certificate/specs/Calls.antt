@@ -5,13 +5,13 @@ use Prim.Native.Nat.{ℕ, _≤_}
 use mathlib.Core.List.{List, _++_}
 use mathlib.Core.Bool.{true, false}
 use mathlib.Core.Logic.{_⊎_, inl, inr}
-use mathlib.Core.Path.{_≡_, ap, sym, _∙_, subst}
+use mathlib.Core.Path.{_≡_, ap, sym, _∙_}
 use native.Mathlib.Omega.{arith}
 use lib.Dec.{T}
 use lib.ListN.{length, take}
 use lib.Seq.{length-take-le}
 use Rattle.meaning.specs.Editions.{Edition}
-use Rattle.meaning.specs.Headers.{accepted, read}
+use Rattle.meaning.specs.Headers.{read}
 use Rattle.meaning.specs.Writing.{written}
 use Rattle.meaning.specs.Memory.{tableOf, cellsOf, roomOf, laidOver, write, readReply, readMemory, readAnswer, readRows}
 use Rattle.laws.specs.Logic.{areBytes}
@@ -24,7 +24,7 @@ use Rattle.reader.specs.Promises.{ReadPromise}
 use Rattle.writer.specs.declared.Answer as writer
 use Rattle.writer.specs.Promise.{WritePromise}
 use Rattle.certificate.specs.OneAnswer.{one-read}
-use Rattle.certificate.specs.Lent.{firstRows, behindRows, Filled, Laid, rows-read, rows-behind, bytes-written, accepted-call, fills, refuses, lays, written-call, same-count}
+use Rattle.certificate.specs.Lent.{firstRows, behindRows, rows-read, rows-behind, bytes-written, accepted-call, fills, refuses, lays, written-call, same-count}
 
 -- 1. "Read then written: the same bytes."
 -- An accepted header's rows, written under the same edition with the input as pool, where the output has room: its bytes up to the payload

@@ -2,3 +2,4 @@
 pub mod OneAnswer
 pub mod Lent
 pub mod Calls
+pub mod Premises
