@@ -14,11 +14,13 @@ use Rattle.meaning.specs.Reading.{Row}
 use Rattle.meaning.specs.Headers.{Placed, Answer, refused, accepted, read}
 use Rattle.meaning.specs.Writing.{Cell, cell, broken, Written, written, unwritten}
 use Rattle.meaning.specs.Memory.{rowWidth, tableOf, cellsOf, roomOf, laidOver, Reply, reply, readReply, readMemory, readAnswer, readRows, writeReply, writeMemory, write, writeAnswer, writeOutput}
+use Rattle.meaning.specs.Plain.{Decoded, decoded, undecoded, Outcome, outcome, decodeOutcome, encodeOutcome, encodeMemory}
 use Rattle.laws.specs.Plans.{written-writes}
 use Rattle.laws.specs.Ties.{SameMeaning, written-known}
 use Rattle.laws.specs.WriterRefusals.{WriterRefusal, no-edition, no-table, past-limit, no-room}
 use Rattle.laws.specs.Demands.{refused-shape, unwritten-shape}
 use Rattle.listing.specs.Listed.{table-length}
+use Rattle.values.specs.declared.encode.Encoded.{Encoded}
 use Rattle.reader.specs.declared.Answer as reader
 use Rattle.reader.specs.Promises.{ReadPromise}
 use Rattle.writer.specs.declared.Answer as writer
@@ -165,3 +167,38 @@ module _ {edition : ℕ} {rows pool before after : List ℕ} {a : writer.Answer}
       let (e, k, w) = written-known edition rows pool (length before) bytes q in
       let (table, n, c, writes, few, fits) = written-writes e (length before) (cellsOf pool rows) bytes w in
       omega (arith, rows-whole pool rows table c, rows-whole input (tableOf found) table (sym m ∙ c), table-length found, lays q .count)
+
+-- The coders
+
+-- what an encoder answers and leaves where these bytes code the value
+pub record Encodes (bytes before after : List ℕ) (result : Encoded) : Type 0 where
+  pub answers : result .answer ≡ 0
+  pub ends : result .place ≡ length bytes
+  pub leaves : after ≡ laidOver before bytes
+
+-- an encoder that answers 0 had a value in range, and its bytes had room
+module _ (refusal : ℕ) (bytes before : List ℕ) {after : List ℕ} {result : Encoded} where
+  pub encoded-call : 1 ≤ refusal → (inRange : Bool) → outcome (result .answer) (result .place) ≡ encodeOutcome refusal inRange (length before) bytes → after ≡ encodeMemory inRange before bytes → result .answer ≡ 0 → (inRange ≡ true) × Encodes bytes before after result
+  encoded-call some false is leaves z = let x : result .answer ≡ refusal = ap (λ (o : Outcome). o .answer) is in absurd (omega arith)
+  encoded-call some true is leaves z = fits (leb (length bytes) (length before)) is leaves
+    where
+      fits : (room : Bool) → outcome (result .answer) (result .place) ≡ pick room (outcome 0 (length bytes)) (outcome 16 (length bytes)) → after ≡ pick room (laidOver before bytes) before → (true ≡ true) × Encodes bytes before after result
+      fits false o m = let x : result .answer ≡ 16 = ap (λ (o : Outcome). o .answer) o in absurd (omega arith)
+      fits true o m = (refl, record { answers = z; ends = ap (λ (o : Outcome). o .place) o; leaves = m })
+
+  pub encodes : (inRange : Bool) → outcome (result .answer) (result .place) ≡ encodeOutcome refusal inRange (length before) bytes → after ≡ encodeMemory inRange before bytes → inRange ≡ true → length bytes ≤ length before → Encodes bytes before after result
+  encodes inRange is leaves range room =
+      let fits : leb (length bytes) (length before) ≡ true = le-leb (length bytes) (length before) room in
+      let o : outcome (result .answer) (result .place) ≡ outcome 0 (length bytes) = is ∙ rw (range, fits) refl in
+      record { answers = ap (λ (o : Outcome). o .answer) o; ends = ap (λ (o : Outcome). o .place) o; leaves = leaves ∙ rw (range, fits) refl }
+
+pub encoded-front : {bytes before after : List ℕ} {result : Encoded} → Encodes bytes before after result → take (result .place) after ≡ bytes
+encoded-front {bytes} {before} {result = result} e = ap (take (result .place)) (e .leaves) ∙ laid-front before bytes (sym (e .ends))
+
+-- a decoder that answers 0 decoded its bytes
+pub decoded-call : (refusal : ℕ) {answer place : ℕ} → 1 ≤ refusal → (d : Decoded) → outcome answer place ≡ decodeOutcome refusal d → answer ≡ 0 → (v : List ℕ) × (d ≡ decoded v)
+decoded-call refusal some (decoded v) is z = (v, refl)
+decoded-call refusal {answer} some (undecoded offset) is z = let x : answer ≡ refusal = ap (λ (o : Outcome). o .answer) is in absurd (omega arith)
+
+pub decodes : (refusal : ℕ) {answer place : ℕ} {d : Decoded} {v : List ℕ} → outcome answer place ≡ decodeOutcome refusal d → d ≡ decoded v → (answer ≡ 0) × (place ≡ length v)
+decodes refusal is q = let o = is ∙ ap (decodeOutcome refusal) q in (ap (λ (o : Outcome). o .answer) o, ap (λ (o : Outcome). o .place) o)

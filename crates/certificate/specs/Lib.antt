@@ -2,4 +2,5 @@
 pub mod OneAnswer
 pub mod Lent
 pub mod Calls
+pub mod Coders
 pub mod Premises

@@ -12,7 +12,7 @@ use Rattle.values.specs.declared.decode.DecodedNumber.{DecodedNumber}
 use Rattle.values.specs.declared.decode.DecodedDate.{DecodedDate}
 use Rattle.values.specs.declared.date.Date.{Date}
 use Rattle.values.specs.declared.encode.Encoded.{Encoded}
-use Rattle.values.specs.Plain.{NumberDecodes, NumberEncodes, DateDecodes, DateEncodes}
+use Rattle.values.specs.Plain.{NumberDecodes, NumberEncodes, DateDecodes, DateEncodes, plainOf}
 use Rattle.reader.specs.declared.Answer as reader
 use Rattle.reader.specs.declared.Part.{Part}
 use Rattle.reader.specs.Promises.{ReadPromise, PartPromise, PayloadPromise}
@@ -47,22 +47,13 @@ one-part p q = λ i. record { start = same (p .starts) (q .starts) i; end = same
 pub one-number-decoded : {bytes : List ℕ} {r s : DecodedNumber} → NumberDecodes bytes r → NumberDecodes bytes s → r ≡ s
 one-number-decoded p q = λ i. record { answer = same (p .is) (q .is) i .answer; place = same (p .is) (q .is) i .place; value = same (p .worth) (q .worth) i }
 
+-- a date's struct has the eight components and no more
+pub same-date : {d e : Date} → plainOf d ≡ plainOf e → d ≡ e
+same-date q = ap (λ (d : PlainDate). record { year = d .year; month = d .month; day = d .day; hour = d .hour; minute = d .minute; second = d .second; millisecond = d .millisecond; designator = d .designator }) q
+
 -- decoding a date: answer, place and the eight components
 pub one-date-decoded : {kind : ℕ} {bytes : List ℕ} {r s : DecodedDate} → DateDecodes kind bytes r → DateDecodes kind bytes s → r ≡ s
-one-date-decoded p q = λ i. record { answer = same (p .is) (q .is) i .answer; place = same (p .is) (q .is) i .place; date = struct (same (p .worth) (q .worth) i) }
-  where
-    struct : PlainDate → Date
-    struct d =
-        record {
-          year = d .year;
-          month = d .month;
-          day = d .day;
-          hour = d .hour;
-          minute = d .minute;
-          second = d .second;
-          millisecond = d .millisecond;
-          designator = d .designator;
-        }
+one-date-decoded p q = λ i. record { answer = same (p .is) (q .is) i .answer; place = same (p .is) (q .is) i .place; date = same-date (same (p .worth) (q .worth)) i }
 
 -- an encoder's answer and place
 abbrev encodedAs : Outcome → Encoded
