@@ -3,24 +3,27 @@
 -- That input and pool hold bytes is a premise here; in the code each of their numbers is a u8.
 use Prim.Native.Nat.{ℕ, _≤_}
 use mathlib.Core.List.{List, _++_}
-use mathlib.Core.Bool.{true, false}
+use mathlib.Core.Bool.{Bool, true, false}
 use mathlib.Core.Logic.{_⊎_, inl, inr}
 use mathlib.Core.Path.{_≡_, ap, sym, _∙_}
 use native.Mathlib.Omega.{arith}
-use lib.Dec.{T}
-use lib.ListN.{length, take}
+use lib.Dec.{T, leb}
+use lib.ListN.{length, take, drop, take-append-drop}
 use lib.Seq.{length-take-le}
+use Rattle.meaning.specs.Basics.{pick}
 use Rattle.meaning.specs.Editions.{Edition}
-use Rattle.meaning.specs.Headers.{read}
-use Rattle.meaning.specs.Writing.{written}
-use Rattle.meaning.specs.Memory.{tableOf, cellsOf, roomOf, laidOver, write, readReply, readMemory, readAnswer, readRows}
+use Rattle.meaning.specs.Headers.{Placed, Answer, refused, accepted, read}
+use Rattle.meaning.specs.Writing.{Written, written, unwritten}
+use Rattle.meaning.specs.Memory.{tableOf, cellsOf, roomOf, laidOver, Reply, readReply, readMemory, readAnswer, readRows, writeReply, writeMemory, write, writeAnswer, writeOutput}
+use Rattle.meaning.specs.Payload.{partStart, partEnd, partBytes, payloadStart, payloadEnd, payloadBytes}
 use Rattle.laws.specs.Logic.{areBytes}
 use Rattle.laws.specs.PlainRows.{other}
 use Rattle.laws.specs.Ties.{numberOf, SameMeaning, plainTable}
 use Rattle.laws.specs.Demands.{read-then-written, ReadsSame, written-then-read, RefusedSevenOrNine, label-cannot-lie, payload-alters-nothing, accepted-shape}
 use Rattle.listing.specs.Listed.{table-length}
 use Rattle.reader.specs.declared.Answer as reader
-use Rattle.reader.specs.Promises.{ReadPromise}
+use Rattle.reader.specs.declared.Part.{Part}
+use Rattle.reader.specs.Promises.{ReadPromise, PartPromise, PayloadPromise}
 use Rattle.writer.specs.declared.Answer as writer
 use Rattle.writer.specs.Promise.{WritePromise}
 use Rattle.certificate.specs.OneAnswer.{one-read}
@@ -42,9 +45,9 @@ pub read-write-same-bytes : {edition : ℕ} {input before rows output after : Li
 read-write-same-bytes {edition} {input} {rows = rows} {output = output} {a = a} t p z q room =
     let (place, found, is, f) = accepted-call p z in
     let table : firstRows (a .rows) rows ≡ tableOf found = rows-read f in
-    let w : write edition (firstRows (a .rows) rows) input (length output) ≡ written (take place input) =
-    ap (λ (x : List ℕ). write edition x input (length output)) table ∙ read-then-written edition input place found t is (length output) (omega (arith, f .ends)) in
-    let l = lays q w in let shape = accepted-shape edition input place found t is in
+    let again = read-then-written edition input place found t is (length output) (omega (arith, f .ends)) in
+    let l = lays q (ap (λ (x : List ℕ). write edition x input (length output)) table ∙ again) in
+    let shape = accepted-shape edition input place found t is in
     record {
       answers = l .answers;
       ends = l .ends ∙ length-take-le place input (shape .0) ∙ sym (f .ends);
@@ -56,6 +59,10 @@ read-write-same-bytes {edition} {input} {rows = rows} {output = output} {a = a} 
 -- What was written, with any payload behind it, read under the same edition where as many rows are lent: accepted up to the payload,
 -- with as many rows, which mean the same; nothing behind them changed.
 
+-- the bytes at the output's front, and a payload
+abbrev pub sent : writer.Answer → List ℕ → List ℕ → List ℕ
+sent was out payload = take (was .place) out ++ payload
+
 pub record SameTable (rows pool : List ℕ) (was : writer.Answer) (input before : List ℕ) (answer : reader.Answer) (after : List ℕ) : Type 0 where
   pub answers : answer .answer ≡ 0
   pub ends : answer .place ≡ was .place
@@ -65,10 +72,10 @@ pub record SameTable (rows pool : List ℕ) (was : writer.Answer) (input before 
 
 -- under any edition that reads the written bytes as the same table
 same-table : {edition reading : ℕ} {rows pool output out before after bytes : List ℕ} {a : writer.Answer} {b : reader.Answer} (p : WritePromise edition rows pool output a out) → write edition rows pool (length output) ≡ written bytes
-    → (payload : List ℕ) → ReadPromise reading (take (a .place) out ++ payload) before b after → a .rows ≤ roomOf before → ReadsSame reading bytes payload rows pool → SameTable rows pool a (take (a .place) out ++ payload) before b after
+    → (payload : List ℕ) → ReadPromise reading (sent a out payload) before b after → a .rows ≤ roomOf before → ReadsSame reading bytes payload rows pool → SameTable rows pool a (sent a out payload) before b after
 same-table {reading = reading} {out = out} {after = after} {bytes = bytes} {a = a} {b = b} p w payload q room (found, is, means) =
     let l = lays p w in
-    let front : bytes ++ payload ≡ take (a .place) out ++ payload = ap (λ (x : List ℕ). x ++ payload) (sym (bytes-written l)) in
+    let front : bytes ++ payload ≡ sent a out payload = ap (λ (x : List ℕ). x ++ payload) (sym (bytes-written l)) in
     let n : length found ≡ a .rows = same-count p w found (bytes ++ payload) means in
     let f = fills q (ap (read reading) (sym front) ∙ is) (omega arith) in
     record {
@@ -80,8 +87,8 @@ same-table {reading = reading} {out = out} {after = after} {bytes = bytes} {a = 
     }
 
 pub write-read-same-table : {edition : ℕ} {rows pool output out before after : List ℕ} {a : writer.Answer} {b : reader.Answer} → T (areBytes pool)
-    → WritePromise edition rows pool output a out → a .answer ≡ 0 → (payload : List ℕ) → ReadPromise edition (take (a .place) out ++ payload) before b after → a .rows ≤ roomOf before
-    → SameTable rows pool a (take (a .place) out ++ payload) before b after
+    → WritePromise edition rows pool output a out → a .answer ≡ 0 → (payload : List ℕ) → ReadPromise edition (sent a out payload) before b after → a .rows ≤ roomOf before
+    → SameTable rows pool a (sent a out payload) before b after
 write-read-same-table {edition} {rows} {pool} {output} t p z payload q room =
     let (bytes, w, l) = written-call p z in
     same-table p w payload q room (written-then-read edition rows pool (length output) bytes t w payload)
@@ -95,8 +102,8 @@ pub record RefusesLabel (before : List ℕ) (answer : reader.Answer) (after : Li
   pub leaves : after ≡ before
 
 pub label-never-lies : (e : Edition) {rows pool output out before after : List ℕ} {a : writer.Answer} {b : reader.Answer} → T (areBytes pool)
-    → WritePromise (numberOf e) rows pool output a out → a .answer ≡ 0 → (payload : List ℕ) → ReadPromise (numberOf (other e)) (take (a .place) out ++ payload) before b after → a .rows ≤ roomOf before
-    → ((plainTable rows pool ≡ true) × SameTable rows pool a (take (a .place) out ++ payload) before b after) ⊎ ((plainTable rows pool ≡ false) × RefusesLabel before b after)
+    → WritePromise (numberOf e) rows pool output a out → a .answer ≡ 0 → (payload : List ℕ) → ReadPromise (numberOf (other e)) (sent a out payload) before b after → a .rows ≤ roomOf before
+    → ((plainTable rows pool ≡ true) × SameTable rows pool a (sent a out payload) before b after) ⊎ ((plainTable rows pool ≡ false) × RefusesLabel before b after)
 label-never-lies e {rows} {pool} {output} {out} {before} {after} {a} {b} t p z payload q room =
     let (bytes, w, l) = written-call p z in
     at bytes w (ap (λ (x : List ℕ). x ++ payload) (bytes-written l)) (label-cannot-lie e rows pool (length output) bytes t w payload)
@@ -105,9 +112,9 @@ label-never-lies e {rows} {pool} {output} {out} {before} {after} {a} {b} t p z p
     as-answered is (inl seven) = inl (is ∙ seven)
     as-answered is (inr nine) = inr (is ∙ nine)
 
-    at : (bytes : List ℕ) → write (numberOf e) rows pool (length output) ≡ written bytes → take (a .place) out ++ payload ≡ bytes ++ payload
+    at : (bytes : List ℕ) → write (numberOf e) rows pool (length output) ≡ written bytes → sent a out payload ≡ bytes ++ payload
         → ((plainTable rows pool ≡ true) × ReadsSame (numberOf (other e)) bytes payload rows pool) ⊎ ((plainTable rows pool ≡ false) × RefusedSevenOrNine (numberOf (other e)) (bytes ++ payload))
-        → ((plainTable rows pool ≡ true) × SameTable rows pool a (take (a .place) out ++ payload) before b after) ⊎ ((plainTable rows pool ≡ false) × RefusesLabel before b after)
+        → ((plainTable rows pool ≡ true) × SameTable rows pool a (sent a out payload) before b after) ⊎ ((plainTable rows pool ≡ false) × RefusesLabel before b after)
     at bytes w front (inl (plain, same)) = inl (plain, same-table p w payload q room same)
     at bytes w front (inr (plain, (refusal, place, is, k))) =
         let (answer, _, count, leaves) = refuses q (ap (read (numberOf (other e))) front ∙ is) in
@@ -124,3 +131,36 @@ payload-changes-nothing {edition} {input} {before} {a = a} t p z payload q =
     let ends : take (a .place) input ++ payload ≡ take place input ++ payload = ap (λ (n : ℕ). take n input ++ payload) (f .ends) in
     let alike : read edition (take (a .place) input ++ payload) ≡ read edition input = ap (read edition) ends ∙ payload-alters-nothing edition input place rows t is payload ∙ sym is in
     one-read p (record { answers = q .answers ∙ ap (readReply (roomOf before)) alike; rows = q .rows ∙ ap (readMemory before) alike })
+
+-- 5. "The payload is handed back as a part of the caller's own input."
+-- Behind an accepted header stands the payload: its bytes, and as two numbers, from the answer's place to the input's end.
+
+pub payload-behind-header : {edition : ℕ} {input before after bytes : List ℕ} {a : reader.Answer} {part : Part} → ReadPromise edition input before a after → a .answer ≡ 0
+    → PayloadPromise edition input bytes → PartPromise edition input part → (take (a .place) input ++ bytes ≡ input) × (part .start ≡ a .place) × (part .end ≡ length input)
+unfolding payloadBytes payloadStart payloadEnd
+payload-behind-header {input = input} {a = a} p z q r =
+    let (place, rows, is, f) = accepted-call p z in
+    let payload : take (a .place) input ++ _ ≡ take (a .place) input ++ drop (a .place) input = ap (λ (x : List ℕ). take (a .place) input ++ x) (q .bytes ∙ ap (partBytes input) is ∙ ap (λ (n : ℕ). drop n input) (sym (f .ends))) in
+    (payload ∙ take-append-drop (a .place) input, r .starts ∙ ap partStart is ∙ sym (f .ends), r .ends ∙ ap (partEnd input) is)
+
+-- 6. "A refused call changes nothing lent." Whatever refuses it: 14 and 16, for want of room, too.
+
+pub refused-read-changes-nothing : {edition : ℕ} {input before after : List ℕ} {a : reader.Answer} → ReadPromise edition input before a after → (a .answer ≡ 0 → ⊥) → after ≡ before
+unfolding readAnswer readRows
+refused-read-changes-nothing {edition} {input} {before} {after} {a} p some = at (read edition input) (ap (λ (r : Reply). r .answer) (p .answers)) (p .rows)
+  where
+    fits : (rows : List Placed) (room : Bool) → a .answer ≡ pick room 0 14 → after ≡ pick room (laidOver before (tableOf rows)) before → after ≡ before
+    fits rows true r m = absurd (some r)
+    fits rows false r m = m
+
+    at : (found : Answer) → a .answer ≡ readReply (roomOf before) found .answer → after ≡ readMemory before found → after ≡ before
+    at (refused refusal place) r m = m
+    at (accepted place rows) r m = fits rows (leb (length rows) (roomOf before)) r m
+
+pub refused-write-changes-nothing : {edition : ℕ} {rows pool before after : List ℕ} {a : writer.Answer} → WritePromise edition rows pool before a after → (a .answer ≡ 0 → ⊥) → after ≡ before
+unfolding writeAnswer writeOutput
+refused-write-changes-nothing {edition} {rows} {pool} {before} {after} {a} p some = at (write edition rows pool (length before)) (ap (λ (r : Reply). r .answer) (p .answers)) (p .leaves)
+  where
+    at : (found : Written) → a .answer ≡ writeReply (roomOf rows) found .answer → after ≡ writeMemory before found → after ≡ before
+    at (unwritten refusal place) r m = m
+    at (written bytes) r m = absurd (some r)

@@ -1,5 +1,5 @@
--- No premise of `Calls` is empty: every call has an answer that its promise allows, and for each edition there are calls that answer 0, computed:
--- of `read`, and of `write` with a plain table and with one that is not.
+-- No premise of `Calls` and `Coders` is empty. Every call of `read` and `write` has an answer that its promise allows; and there are calls
+-- that answer 0, computed: of `read` in each edition, of `write` with a plain table and with one that is not, and of each coder.
 use Prim.Native.Nat.{ℕ}
 use mathlib.Core.List.{List, [], _∷_, _++_}
 use mathlib.Core.Bool.{Bool, _&&_, not}
@@ -12,7 +12,8 @@ use Rattle.meaning.specs.Reading.{takeValue, find, look, stepMove, step, run, i
 use Rattle.meaning.specs.Headers.{envelope, header, read}
 use Rattle.meaning.specs.Writing.{valid, writeValue, wayOf, fit, fitRow, closeWithin, close, planOf, writeRows}
 use Rattle.meaning.specs.Memory.{cellsOf, laidOver, write, readAnswer, readRows, writeAnswer, writeOutput}
-use Rattle.meaning.specs.Cases.{hex, baseWith, baseRows, replyIs}
+use Rattle.meaning.specs.Plain.{digitsWithin, digitsOf, packed, decodeNumber, numberDecoded, numberBytes, numberEncoded, dateOf, decodeDate, dateDecoded, dateInRange, dateEncoded}
+use Rattle.meaning.specs.Cases.{hex, aDate, baseWith, baseRows, replyIs, outcomeIs}
 use Rattle.laws.specs.Logic.{areBytes}
 use Rattle.laws.specs.Ties.{plainTable}
 use Rattle.reader.specs.declared.Answer as reader
@@ -53,9 +54,14 @@ encrypted = baseRows 5 9 (25 ∷ 0 ∷ 14 ∷ 0 ∷ [])
 abbrev forwarded : List ℕ
 forwarded = baseRows 6 9 []
 
+-- 42, and the header's date
+abbrev areCoded : Bool
+areCoded =
+    outcomeIs 0 2 (numberEncoded 42 2) && outcomeIs 0 2 (numberDecoded (hex 0x1_53_00)) && outcomeIs 0 9 (dateEncoded 5 (dateOf aDate) 9) && outcomeIs 0 9 (dateDecoded 5 aDate)
+
 pub premises : T (
     areBytes aHeader && isRead 1 && isRead 2 && isWritten 1 (baseRows 5 9 []) 15 3 && isWritten 2 (baseRows 5 9 []) 15 3 && plainTable (baseRows 5 9 []) aHeader &&
-    isWritten 1 encrypted 17 4 && not (plainTable encrypted aHeader) && isWritten 2 forwarded 15 3 && not (plainTable forwarded aHeader)
+    isWritten 1 encrypted 17 4 && not (plainTable encrypted aHeader) && isWritten 2 forwarded 15 3 && not (plainTable forwarded aHeader) && areCoded
     )
-unfolding textByte takeText textOk turn takeNumber numberOk lastDay passes takeDate dateOk highFirst tooWide takeBytes blockOf takeBlock blockOk shared own moves takeValue find look stepMove step run inside envelope header read valid writeValue wayOf fit fitRow closeWithin close planOf writeRows cellsOf laidOver write readAnswer readRows writeAnswer writeOutput
+unfolding textByte takeText textOk turn takeNumber numberOk lastDay passes takeDate dateOk highFirst tooWide takeBytes blockOf takeBlock blockOk shared own moves takeValue find look stepMove step run inside envelope header read valid writeValue wayOf fit fitRow closeWithin close planOf writeRows cellsOf laidOver write readAnswer readRows writeAnswer writeOutput digitsWithin digitsOf packed decodeNumber numberDecoded numberBytes numberEncoded decodeDate dateDecoded dateInRange dateEncoded
 premises = tt
