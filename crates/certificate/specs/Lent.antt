@@ -58,7 +58,7 @@ unfolding laidOver
 laid-behind lent front {n} h = drop-at front (drop (length front) lent) n h ∙ ap (λ (k : ℕ). drop k lent) h
 
 module _ {place : ℕ} {rows : List Placed} {before after : List ℕ} {a : reader.Answer} (f : Filled place rows before a after) where
-  pub table-long : length (tableOf rows) ≡ a .rows * rowWidth
+  table-long : length (tableOf rows) ≡ a .rows * rowWidth
   table-long = table-length rows ∙ ap (λ (n : ℕ). n * rowWidth) (sym (f .count))
 
   pub rows-read : firstRows (a .rows) after ≡ tableOf rows
