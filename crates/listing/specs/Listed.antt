@@ -30,7 +30,7 @@ lines-listed rows bytes rest place i (r ∷ rs) q ((h, v), vs) =
     let next : drop (suc i * rowWidth) rows ≡ tableOf rs ++ rest = ap (λ (n : ℕ). drop n rows) (sym p) ∙ sym (drop-drop rowWidth (i * rowWidth) rows) ∙ ap (drop rowWidth) q in
     rw (row-listed rows bytes (tableOf rs ++ rest) i r q v, lines-listed rows bytes rest place (suc i) rs next vs) refl
 
-table-length : (rs : List Placed) → length (tableOf rs) ≡ length rs * rowWidth
+pub table-length : (rs : List Placed) → length (tableOf rs) ≡ length rs * rowWidth
 table-length [] = refl
 table-length (r ∷ rs) = let q = table-length rs in omega arith
 

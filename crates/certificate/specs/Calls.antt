@@ -1,0 +1,166 @@
+-- What the customer buys, of calls of `read` and `write`: any results that the promises allow, with the memory lent before and after.
+-- The demands over the meaning (`laws`) carry over, since a call's answer and memory are the meaning's.
+-- That input and pool hold bytes is a premise here; in the code each of their numbers is a u8.
+use Prim.Native.Nat.{ℕ, _≤_}
+use mathlib.Core.List.{List, _++_}
+use mathlib.Core.Bool.{Bool, true, false}
+use mathlib.Core.Logic.{_⊎_, inl, inr}
+use mathlib.Core.Path.{_≡_, ap, sym, _∙_}
+use native.Mathlib.Omega.{arith}
+use lib.Dec.{T, leb}
+use lib.ListN.{length, take, drop, take-append-drop}
+use lib.Seq.{length-take-le}
+use Rattle.meaning.specs.Basics.{pick}
+use Rattle.meaning.specs.Editions.{Edition}
+use Rattle.meaning.specs.Headers.{Placed, Answer, refused, accepted, read}
+use Rattle.meaning.specs.Writing.{Written, written, unwritten}
+use Rattle.meaning.specs.Memory.{tableOf, cellsOf, roomOf, laidOver, Reply, readReply, readMemory, readAnswer, readRows, writeReply, writeMemory, write, writeAnswer, writeOutput}
+use Rattle.meaning.specs.Payload.{partStart, partEnd, partBytes, payloadStart, payloadEnd, payloadBytes}
+use Rattle.laws.specs.Logic.{areBytes}
+use Rattle.laws.specs.PlainRows.{other}
+use Rattle.laws.specs.Ties.{numberOf, SameMeaning, plainTable}
+use Rattle.laws.specs.Demands.{read-then-written, ReadsSame, written-then-read, RefusedSevenOrNine, label-cannot-lie, payload-alters-nothing, accepted-shape}
+use Rattle.listing.specs.Listed.{table-length}
+use Rattle.reader.specs.declared.Answer as reader
+use Rattle.reader.specs.declared.Part.{Part}
+use Rattle.reader.specs.Promises.{ReadPromise, PartPromise, PayloadPromise}
+use Rattle.writer.specs.declared.Answer as writer
+use Rattle.writer.specs.Promise.{WritePromise}
+use Rattle.certificate.specs.OneAnswer.{one-read}
+use Rattle.certificate.specs.Lent.{firstRows, behindRows, rows-read, rows-behind, bytes-written, accepted-call, fills, refuses, lays, written-call, same-count}
+
+-- 1. "Read then written: the same bytes."
+-- An accepted header's rows, written under the same edition with the input as pool, where the output has room: its bytes up to the payload
+-- stand at the output's front, and nothing behind them changed.
+
+pub record SameBytes (input : List ℕ) (was : reader.Answer) (output : List ℕ) (answer : writer.Answer) (after : List ℕ) : Type 0 where
+  pub answers : answer .answer ≡ 0
+  pub ends : answer .place ≡ was .place
+  pub count : answer .rows ≡ was .rows
+  pub leaves : after ≡ laidOver output (take (was .place) input)
+
+pub read-write-same-bytes : {edition : ℕ} {input before rows output after : List ℕ} {a : reader.Answer} {b : writer.Answer} → T (areBytes input)
+    → ReadPromise edition input before a rows → a .answer ≡ 0 → WritePromise edition (firstRows (a .rows) rows) input output b after → a .place ≤ length output
+    → SameBytes input a output b after
+read-write-same-bytes {edition} {input} {rows = rows} {output = output} {a = a} t p z q room =
+    let (place, found, is, f) = accepted-call p z in
+    let table : firstRows (a .rows) rows ≡ tableOf found = rows-read f in
+    let again = read-then-written edition input place found t is (length output) (omega (arith, f .ends)) in
+    let l = lays q (ap (λ (x : List ℕ). write edition x input (length output)) table ∙ again) in
+    let shape = accepted-shape edition input place found t is in
+    record {
+      answers = l .answers;
+      ends = l .ends ∙ length-take-le place input (shape .0) ∙ sym (f .ends);
+      count = omega (arith, l .count, ap length table, table-length found, f .count);
+      leaves = l .leaves ∙ ap (λ (n : ℕ). laidOver output (take n input)) (sym (f .ends));
+    }
+
+-- 2. "Written then read: the same table."
+-- What was written, with any payload behind it, read under the same edition where as many rows are lent: accepted up to the payload,
+-- with as many rows, which mean the same; nothing behind them changed.
+
+-- the bytes at the output's front, and a payload
+abbrev pub sent : writer.Answer → List ℕ → List ℕ → List ℕ
+sent was out payload = take (was .place) out ++ payload
+
+pub record SameTable (rows pool : List ℕ) (was : writer.Answer) (input before : List ℕ) (answer : reader.Answer) (after : List ℕ) : Type 0 where
+  pub answers : answer .answer ≡ 0
+  pub ends : answer .place ≡ was .place
+  pub count : answer .rows ≡ was .rows
+  pub means : SameMeaning rows pool (firstRows (answer .rows) after) input
+  pub leaves : behindRows (answer .rows) after ≡ behindRows (answer .rows) before
+
+-- under any edition that reads the written bytes as the same table
+same-table : {edition reading : ℕ} {rows pool output out before after bytes : List ℕ} {a : writer.Answer} {b : reader.Answer} (p : WritePromise edition rows pool output a out) → write edition rows pool (length output) ≡ written bytes
+    → (payload : List ℕ) → ReadPromise reading (sent a out payload) before b after → a .rows ≤ roomOf before → ReadsSame reading bytes payload rows pool → SameTable rows pool a (sent a out payload) before b after
+same-table {reading = reading} {out = out} {after = after} {bytes = bytes} {a = a} {b = b} p w payload q room (found, is, means) =
+    let l = lays p w in
+    let front : bytes ++ payload ≡ sent a out payload = ap (λ (x : List ℕ). x ++ payload) (sym (bytes-written l)) in
+    let n : length found ≡ a .rows = same-count p w found (bytes ++ payload) means in
+    let f = fills q (ap (read reading) (sym front) ∙ is) (omega arith) in
+    record {
+      answers = f .answers;
+      ends = f .ends ∙ sym (l .ends);
+      count = f .count ∙ n;
+      means = means ∙ ap (cellsOf (bytes ++ payload)) (sym (rows-read f)) ∙ ap (λ (x : List ℕ). cellsOf x (firstRows (b .rows) after)) front;
+      leaves = rows-behind f;
+    }
+
+pub write-read-same-table : {edition : ℕ} {rows pool output out before after : List ℕ} {a : writer.Answer} {b : reader.Answer} → T (areBytes pool)
+    → WritePromise edition rows pool output a out → a .answer ≡ 0 → (payload : List ℕ) → ReadPromise edition (sent a out payload) before b after → a .rows ≤ roomOf before
+    → SameTable rows pool a (sent a out payload) before b after
+write-read-same-table {edition} {rows} {pool} {output} t p z payload q room =
+    let (bytes, w, l) = written-call p z in
+    same-table p w payload q room (written-then-read edition rows pool (length output) bytes t w payload)
+
+-- 3. "The label can't lie": "A table written under one edition and read under the other is the same table, or is refused with 7 or 9: never a different table."
+-- The same if the table is plain; refused if it is not, and then no row that was lent is changed.
+
+pub record RefusesLabel (before : List ℕ) (answer : reader.Answer) (after : List ℕ) : Type 0 where
+  pub answers : (answer .answer ≡ 7) ⊎ (answer .answer ≡ 9)
+  pub count : answer .rows ≡ 0
+  pub leaves : after ≡ before
+
+pub label-never-lies : (e : Edition) {rows pool output out before after : List ℕ} {a : writer.Answer} {b : reader.Answer} → T (areBytes pool)
+    → WritePromise (numberOf e) rows pool output a out → a .answer ≡ 0 → (payload : List ℕ) → ReadPromise (numberOf (other e)) (sent a out payload) before b after → a .rows ≤ roomOf before
+    → ((plainTable rows pool ≡ true) × SameTable rows pool a (sent a out payload) before b after) ⊎ ((plainTable rows pool ≡ false) × RefusesLabel before b after)
+label-never-lies e {rows} {pool} {output} {out} {before} {after} {a} {b} t p z payload q room =
+    let (bytes, w, l) = written-call p z in
+    at bytes w (ap (λ (x : List ℕ). x ++ payload) (bytes-written l)) (label-cannot-lie e rows pool (length output) bytes t w payload)
+  where
+    as-answered : {refusal : ℕ} → b .answer ≡ refusal → (refusal ≡ 7) ⊎ (refusal ≡ 9) → (b .answer ≡ 7) ⊎ (b .answer ≡ 9)
+    as-answered is (inl seven) = inl (is ∙ seven)
+    as-answered is (inr nine) = inr (is ∙ nine)
+
+    at : (bytes : List ℕ) → write (numberOf e) rows pool (length output) ≡ written bytes → sent a out payload ≡ bytes ++ payload
+        → ((plainTable rows pool ≡ true) × ReadsSame (numberOf (other e)) bytes payload rows pool) ⊎ ((plainTable rows pool ≡ false) × RefusedSevenOrNine (numberOf (other e)) (bytes ++ payload))
+        → ((plainTable rows pool ≡ true) × SameTable rows pool a (sent a out payload) before b after) ⊎ ((plainTable rows pool ≡ false) × RefusesLabel before b after)
+    at bytes w front (inl (plain, same)) = inl (plain, same-table p w payload q room same)
+    at bytes w front (inr (plain, (refusal, place, is, k))) =
+        let (answer, _, count, leaves) = refuses q (ap (read (numberOf (other e))) front ∙ is) in
+        inr (plain, record { answers = as-answered answer k; count = count; leaves = leaves })
+
+-- 4. "Payload bytes and their number never alter an accepted answer."
+-- With another payload behind the header: the same answer, and the same rows.
+
+pub payload-changes-nothing : {edition : ℕ} {input before after later : List ℕ} {a b : reader.Answer} → T (areBytes input)
+    → ReadPromise edition input before a after → a .answer ≡ 0 → (payload : List ℕ) → ReadPromise edition (take (a .place) input ++ payload) before b later → (a ≡ b) × (after ≡ later)
+unfolding readAnswer readRows
+payload-changes-nothing {edition} {input} {before} {a = a} t p z payload q =
+    let (place, rows, is, f) = accepted-call p z in
+    let ends : take (a .place) input ++ payload ≡ take place input ++ payload = ap (λ (n : ℕ). take n input ++ payload) (f .ends) in
+    let alike : read edition (take (a .place) input ++ payload) ≡ read edition input = ap (read edition) ends ∙ payload-alters-nothing edition input place rows t is payload ∙ sym is in
+    one-read p (record { answers = q .answers ∙ ap (readReply (roomOf before)) alike; rows = q .rows ∙ ap (readMemory before) alike })
+
+-- 5. "The payload is handed back as a part of the caller's own input."
+-- Behind an accepted header stands the payload: its bytes, and as two numbers, from the answer's place to the input's end.
+
+pub payload-behind-header : {edition : ℕ} {input before after bytes : List ℕ} {a : reader.Answer} {part : Part} → ReadPromise edition input before a after → a .answer ≡ 0
+    → PayloadPromise edition input bytes → PartPromise edition input part → (take (a .place) input ++ bytes ≡ input) × (part .start ≡ a .place) × (part .end ≡ length input)
+unfolding payloadBytes payloadStart payloadEnd
+payload-behind-header {input = input} {a = a} p z q r =
+    let (place, rows, is, f) = accepted-call p z in
+    let payload : take (a .place) input ++ _ ≡ take (a .place) input ++ drop (a .place) input = ap (λ (x : List ℕ). take (a .place) input ++ x) (q .bytes ∙ ap (partBytes input) is ∙ ap (λ (n : ℕ). drop n input) (sym (f .ends))) in
+    (payload ∙ take-append-drop (a .place) input, r .starts ∙ ap partStart is ∙ sym (f .ends), r .ends ∙ ap (partEnd input) is)
+
+-- 6. "A refused call changes nothing lent." Whatever refuses it: 14 and 16, for want of room, too.
+
+pub refused-read-changes-nothing : {edition : ℕ} {input before after : List ℕ} {a : reader.Answer} → ReadPromise edition input before a after → (a .answer ≡ 0 → ⊥) → after ≡ before
+unfolding readAnswer readRows
+refused-read-changes-nothing {edition} {input} {before} {after} {a} p some = at (read edition input) (ap (λ (r : Reply). r .answer) (p .answers)) (p .rows)
+  where
+    fits : (rows : List Placed) (room : Bool) → a .answer ≡ pick room 0 14 → after ≡ pick room (laidOver before (tableOf rows)) before → after ≡ before
+    fits rows true r m = absurd (some r)
+    fits rows false r m = m
+
+    at : (found : Answer) → a .answer ≡ readReply (roomOf before) found .answer → after ≡ readMemory before found → after ≡ before
+    at (refused refusal place) r m = m
+    at (accepted place rows) r m = fits rows (leb (length rows) (roomOf before)) r m
+
+pub refused-write-changes-nothing : {edition : ℕ} {rows pool before after : List ℕ} {a : writer.Answer} → WritePromise edition rows pool before a after → (a .answer ≡ 0 → ⊥) → after ≡ before
+unfolding writeAnswer writeOutput
+refused-write-changes-nothing {edition} {rows} {pool} {before} {after} {a} p some = at (write edition rows pool (length before)) (ap (λ (r : Reply). r .answer) (p .answers)) (p .leaves)
+  where
+    at : (found : Written) → a .answer ≡ writeReply (roomOf rows) found .answer → after ≡ writeMemory before found → after ≡ before
+    at (unwritten refusal place) r m = m
+    at (written bytes) r m = absurd (some r)

@@ -1,0 +1,62 @@
+-- "Coding and decoding of numbers and dates are inverse on what they accept, both ways": of calls of the four coders, with the output lent.
+-- By the same law over the meaning (`laws`), since a coder's answer and memory are the meaning's.
+use Prim.Native.Nat.{ℕ, _≤_}
+use mathlib.Core.List.{List}
+use mathlib.Core.Path.{_≡_, ap, sym, _∙_, subst}
+use native.Mathlib.Omega.{arith}
+use borrow.Author.Tests.{le-leb, leb-true}
+use lib.Dec.{leb}
+use lib.ListN.{length, take}
+use Rattle.meaning.specs.Bytes.{numberMost}
+use Rattle.meaning.specs.Plain.{decoded, valueOf, numberValue, decodeNumber, numberDecoded, numberPlain, numberBytes, numberEncoded, numberOutput, dateOf, dateBytes, decodeDate, componentsOf, dateDecoded, datePlain, dateInRange, dateEncoded, dateOutput}
+use Rattle.laws.specs.Demands.{number-again, number-bytes-again, date-again, date-bytes-again}
+use Rattle.values.specs.declared.decode.DecodedNumber.{DecodedNumber}
+use Rattle.values.specs.declared.decode.DecodedDate.{DecodedDate}
+use Rattle.values.specs.declared.date.Date.{Date}
+use Rattle.values.specs.declared.encode.Encoded.{Encoded}
+use Rattle.values.specs.Plain.{NumberDecodes, NumberEncodes, DateDecodes, DateEncodes, plainOf}
+use Rattle.certificate.specs.OneAnswer.{same-date}
+use Rattle.certificate.specs.Lent.{Encodes, encoded-call, encodes, encoded-front, decoded-call, decodes}
+
+-- the bytes of a number that was encoded are decoded to it
+pub number-coded-again : {value : ℕ} {before after : List ℕ} {a : Encoded} {b : DecodedNumber} → NumberEncodes value before after a → a .answer ≡ 0 → NumberDecodes (take (a .place) after) b
+    → (b .answer ≡ 0) × (b .place ≡ a .place) × (b .value ≡ value)
+unfolding numberEncoded numberOutput numberDecoded numberPlain
+number-coded-again {value} {before} {after} {a} p z q =
+    let (range, e) = encoded-call 10 (numberBytes value) before (omega arith) (leb value numberMost) (p .is) (p .lays) z in
+    let (again, worth) = number-again value (leb-true value numberMost range) in
+    let d : decodeNumber (take (a .place) after) ≡ decoded (numberBytes value) = ap decodeNumber (encoded-front e) ∙ again in
+    let (answers, ends) = decodes 10 (q .is) d in
+    (answers, ends ∙ sym (e .ends), q .worth ∙ ap valueOf d ∙ worth)
+
+-- the value of bytes that were decoded is encoded as these bytes, where the output has room: they stand at its front, and nothing behind them changed
+pub number-decoded-again : {bytes before after : List ℕ} {a : DecodedNumber} {b : Encoded} → NumberDecodes bytes a → a .answer ≡ 0 → NumberEncodes (a .value) before after b → length bytes ≤ length before
+    → Encodes bytes before after b
+unfolding numberEncoded numberOutput numberDecoded numberPlain
+number-decoded-again {bytes} {before} {after} {a} {b} p z q room =
+    let (v, d) = decoded-call 10 (omega arith) (decodeNumber bytes) (p .is) z in
+    let (same, back, range) = number-bytes-again bytes v d in
+    let worth : a .value ≡ numberValue 0 v = p .worth ∙ ap valueOf d in
+    let bytes-back : numberBytes (a .value) ≡ bytes = ap numberBytes worth ∙ back in
+    subst (λ (x : List ℕ). Encodes x before after b) bytes-back (encodes 10 (numberBytes (a .value)) before (leb (a .value) numberMost) (q .is) (q .lays) (le-leb (a .value) numberMost (omega arith)) (omega (arith, ap length bytes-back)))
+
+-- the same of dates of a kind: every component
+pub date-coded-again : {kind : ℕ} {date : Date} {before after : List ℕ} {a : Encoded} {b : DecodedDate} → DateEncodes kind (plainOf date) before after a → a .answer ≡ 0 → DateDecodes kind (take (a .place) after) b
+    → (b .answer ≡ 0) × (b .place ≡ a .place) × (b .date ≡ date)
+unfolding dateEncoded dateOutput dateDecoded datePlain
+date-coded-again {kind} {date} {before} {after} {a} p z q =
+    let (range, e) = encoded-call 9 (dateBytes (plainOf date)) before (omega arith) (dateInRange kind (plainOf date)) (p .is) (p .lays) z in
+    let (again, worth) = date-again kind (plainOf date) range in
+    let d : decodeDate kind (take (a .place) after) ≡ decoded (dateBytes (plainOf date)) = ap (decodeDate kind) (encoded-front e) ∙ again in
+    let (answers, ends) = decodes 9 (q .is) d in
+    (answers, ends ∙ sym (e .ends), same-date (q .worth ∙ ap componentsOf d ∙ worth))
+
+pub date-decoded-again : {kind : ℕ} {bytes before after : List ℕ} {a : DecodedDate} {b : Encoded} → DateDecodes kind bytes a → a .answer ≡ 0 → DateEncodes kind (plainOf (a .date)) before after b → length bytes ≤ length before
+    → Encodes bytes before after b
+unfolding dateEncoded dateOutput dateDecoded datePlain
+date-decoded-again {kind} {bytes} {before} {after} {a} {b} p z q room =
+    let (v, d) = decoded-call 9 (omega arith) (decodeDate kind bytes) (p .is) z in
+    let (same, range, back) = date-bytes-again kind bytes v d in
+    let worth : plainOf (a .date) ≡ dateOf v = p .worth ∙ ap componentsOf d in
+    let bytes-back : dateBytes (plainOf (a .date)) ≡ bytes = ap dateBytes worth ∙ back in
+    subst (λ (x : List ℕ). Encodes x before after b) bytes-back (encodes 9 (dateBytes (plainOf (a .date))) before (dateInRange kind (plainOf (a .date))) (q .is) (q .lays) (ap (dateInRange kind) worth ∙ range) (omega (arith, ap length bytes-back)))

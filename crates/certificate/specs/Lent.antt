@@ -1,0 +1,204 @@
+-- What a call that answers 0 says of the meaning and of the lent memory, and back: by cases on what the meaning gives.
+-- A refusal is never 0, so an answer of 0 leaves one case.
+use Prim.Native.Nat.{ℕ, _*_, _≤_}
+use mathlib.Core.List.{List, [], _∷_, map}
+use mathlib.Core.Bool.{Bool, true, false}
+use mathlib.Core.Path.{_≡_, refl, ap, sym, _∙_}
+use native.Mathlib.Omega.{arith}
+use borrow.Author.Tests.{le-leb}
+use lib.Dec.{leb}
+use lib.ListN.{length, take, drop}
+use lib.Seq.{take-at, drop-at}
+use Rattle.meaning.specs.Basics.{pick}
+use Rattle.meaning.specs.Reading.{Row}
+use Rattle.meaning.specs.Headers.{Placed, Answer, refused, accepted, read}
+use Rattle.meaning.specs.Writing.{Cell, cell, broken, Written, written, unwritten}
+use Rattle.meaning.specs.Memory.{rowWidth, tableOf, cellsOf, roomOf, laidOver, Reply, reply, readReply, readMemory, readAnswer, readRows, writeReply, writeMemory, write, writeAnswer, writeOutput}
+use Rattle.meaning.specs.Plain.{Decoded, decoded, undecoded, Outcome, outcome, decodeOutcome, encodeOutcome, encodeMemory}
+use Rattle.laws.specs.Plans.{written-writes}
+use Rattle.laws.specs.Ties.{SameMeaning, written-known}
+use Rattle.laws.specs.WriterRefusals.{WriterRefusal, no-edition, no-table, past-limit, no-room}
+use Rattle.laws.specs.Demands.{refused-shape, unwritten-shape}
+use Rattle.listing.specs.Listed.{table-length}
+use Rattle.values.specs.declared.encode.Encoded.{Encoded}
+use Rattle.reader.specs.declared.Answer as reader
+use Rattle.reader.specs.Promises.{ReadPromise}
+use Rattle.writer.specs.declared.Answer as writer
+use Rattle.writer.specs.Promise.{WritePromise}
+
+-- the rows at the front of lent memory, as numbers
+abbrev pub firstRows : ℕ → List ℕ → List ℕ
+firstRows count lent = take (count * rowWidth) lent
+
+-- the numbers behind them
+abbrev pub behindRows : ℕ → List ℕ → List ℕ
+behindRows count lent = drop (count * rowWidth) lent
+
+-- what the reader answers and leaves where a header is accepted and its rows have room
+pub record Filled (place : ℕ) (rows : List Placed) (before : List ℕ) (a : reader.Answer) (after : List ℕ) : Type 0 where
+  pub answers : a .answer ≡ 0
+  pub ends : a .place ≡ place
+  pub count : a .rows ≡ length rows
+  pub leaves : after ≡ laidOver before (tableOf rows)
+
+-- what the writer answers and leaves where a table is written
+pub record Laid (bytes rows before : List ℕ) (a : writer.Answer) (after : List ℕ) : Type 0 where
+  pub answers : a .answer ≡ 0
+  pub ends : a .place ≡ length bytes
+  pub count : a .rows ≡ roomOf rows
+  pub leaves : after ≡ laidOver before bytes
+
+-- the front of memory that something was laid over
+pub laid-front : (lent front : List ℕ) {n : ℕ} → length front ≡ n → take n (laidOver lent front) ≡ front
+unfolding laidOver
+laid-front lent front {n} h = take-at front (drop (length front) lent) n h
+
+pub laid-behind : (lent front : List ℕ) {n : ℕ} → length front ≡ n → drop n (laidOver lent front) ≡ drop n lent
+unfolding laidOver
+laid-behind lent front {n} h = drop-at front (drop (length front) lent) n h ∙ ap (λ (k : ℕ). drop k lent) h
+
+module _ {place : ℕ} {rows : List Placed} {before after : List ℕ} {a : reader.Answer} (f : Filled place rows before a after) where
+  table-long : length (tableOf rows) ≡ a .rows * rowWidth
+  table-long = table-length rows ∙ ap (λ (n : ℕ). n * rowWidth) (sym (f .count))
+
+  pub rows-read : firstRows (a .rows) after ≡ tableOf rows
+  rows-read = ap (firstRows (a .rows)) (f .leaves) ∙ laid-front before (tableOf rows) table-long
+
+  pub rows-behind : behindRows (a .rows) after ≡ behindRows (a .rows) before
+  rows-behind = ap (behindRows (a .rows)) (f .leaves) ∙ laid-behind before (tableOf rows) table-long
+
+pub bytes-written : {bytes rows before after : List ℕ} {a : writer.Answer} → Laid bytes rows before a after → take (a .place) after ≡ bytes
+bytes-written {bytes} {before = before} {a = a} l = ap (take (a .place)) (l .leaves) ∙ laid-front before bytes (sym (l .ends))
+
+-- The reader
+
+module _ {edition : ℕ} {input before after : List ℕ} {a : reader.Answer} (p : ReadPromise edition input before a after) where
+  abbrev AcceptedCall : Type 0
+  AcceptedCall = (place : ℕ) × (rows : List Placed) × (read edition input ≡ accepted place rows) × Filled place rows before a after
+
+  pub accepted-call : a .answer ≡ 0 → AcceptedCall
+  unfolding readAnswer readRows
+  accepted-call z = at (read edition input) refl (p .answers) (p .rows)
+    where
+      fits : (place : ℕ) (rows : List Placed) → read edition input ≡ accepted place rows → (room : Bool)
+          → reply (a .answer) (a .place) (a .rows) ≡ reply (pick room 0 14) place (length rows) → after ≡ pick room (laidOver before (tableOf rows)) before → AcceptedCall
+      fits place rows q true r m = (place, rows, q, record { answers = z; ends = ap (λ (x : Reply). x .place) r; count = ap (λ (x : Reply). x .rows) r; leaves = m })
+      fits place rows q false r m = let x : a .answer ≡ 14 = ap (λ (x : Reply). x .answer) r in absurd (omega arith)
+
+      at : (found : Answer) → read edition input ≡ found → reply (a .answer) (a .place) (a .rows) ≡ readReply (roomOf before) found → after ≡ readMemory before found → AcceptedCall
+      at (refused refusal place) q r m =
+          let h = refused-shape edition input refusal place q .0 in let x : a .answer ≡ refusal = ap (λ (x : Reply). x .answer) r in
+          absurd (omega arith)
+      at (accepted place rows) q r m = fits place rows q (leb (length rows) (roomOf before)) r m
+
+  -- a header that is accepted fills its rows, where they have room
+  pub fills : {place : ℕ} {rows : List Placed} → read edition input ≡ accepted place rows → length rows ≤ roomOf before → Filled place rows before a after
+  unfolding readAnswer readRows
+  fills {place} {rows} q room =
+      let r : reply (a .answer) (a .place) (a .rows) ≡ reply 0 place (length rows) = p .answers ∙ ap (readReply (roomOf before)) q ∙ ap (λ (b : Bool). reply (pick b 0 14) place (length rows)) (le-leb (length rows) (roomOf before) room) in
+      record {
+        answers = ap (λ (x : Reply). x .answer) r;
+        ends = ap (λ (x : Reply). x .place) r;
+        count = ap (λ (x : Reply). x .rows) r;
+        leaves = p .rows ∙ ap (readMemory before) q ∙ ap (λ (b : Bool). pick b (laidOver before (tableOf rows)) before) (le-leb (length rows) (roomOf before) room);
+      }
+
+  -- a header that is refused changes nothing lent
+  pub refuses : {refusal place : ℕ} → read edition input ≡ refused refusal place → (a .answer ≡ refusal) × (a .place ≡ place) × (a .rows ≡ 0) × (after ≡ before)
+  unfolding readAnswer readRows
+  refuses {refusal} {place} q =
+      let r : reply (a .answer) (a .place) (a .rows) ≡ reply refusal place 0 = p .answers ∙ ap (readReply (roomOf before)) q in
+      (ap (λ (x : Reply). x .answer) r, ap (λ (x : Reply). x .place) r, ap (λ (x : Reply). x .rows) r, p .rows ∙ ap (readMemory before) q)
+
+-- The writer
+
+refusal-some : {edition : ℕ} {rows pool : List ℕ} {room refusal place : ℕ} → WriterRefusal edition rows pool room refusal place → 1 ≤ refusal
+refusal-some (no-edition k) = omega arith
+refusal-some (no-table h) = omega arith
+refusal-some (past-limit h) = omega arith
+refusal-some (no-room bytes h l w) = omega arith
+
+-- a table that is written has whole rows only
+no-broken : (cells : List Cell) (table : List Row) → broken ∷ cells ≡ map cell table → ⊥
+no-broken cells [] q = let z : _≡_ {A = ℕ} 0 1 = cc q in absurd (omega arith)
+no-broken cells (row ∷ table) q = let z : _≡_ {A = ℕ} 0 1 = cc q in absurd (omega arith)
+
+pub rows-whole : (pool rows : List ℕ) (table : List Row) → cellsOf pool rows ≡ map cell table → length rows ≡ length table * rowWidth
+unfolding cellsOf
+rows-whole pool [] [] q = refl
+rows-whole pool [] (row ∷ table) q = let z : _≡_ {A = ℕ} 0 1 = cc q in absurd (omega arith)
+rows-whole pool (kind ∷ []) table q = absurd (no-broken [] table q)
+rows-whole pool (kind ∷ (level ∷ [])) table q = absurd (no-broken [] table q)
+rows-whole pool (kind ∷ (level ∷ (start ∷ []))) table q = absurd (no-broken [] table q)
+rows-whole pool (kind ∷ (level ∷ (start ∷ (many ∷ rows)))) [] q = let z : _≡_ {A = ℕ} 0 1 = cc q in absurd (omega arith)
+rows-whole pool (kind ∷ (level ∷ (start ∷ (many ∷ rows)))) (row ∷ table) q =
+    let rest : cellsOf pool rows ≡ map cell table = cc q in let h = rows-whole pool rows table rest in
+    omega arith
+
+module _ {edition : ℕ} {rows pool before after : List ℕ} {a : writer.Answer} (p : WritePromise edition rows pool before a after) where
+  abbrev WrittenCall : Type 0
+  WrittenCall = (bytes : List ℕ) × (write edition rows pool (length before) ≡ written bytes) × Laid bytes rows before a after
+
+  -- a table that is written is laid over the output
+  pub lays : {bytes : List ℕ} → write edition rows pool (length before) ≡ written bytes → Laid bytes rows before a after
+  unfolding writeAnswer writeOutput
+  lays {bytes} q =
+      let r : reply (a .answer) (a .place) (a .rows) ≡ reply 0 (length bytes) (roomOf rows) = p .answers ∙ ap (writeReply (roomOf rows)) q in
+      record {
+        answers = ap (λ (x : Reply). x .answer) r;
+        ends = ap (λ (x : Reply). x .place) r;
+        count = ap (λ (x : Reply). x .rows) r;
+        leaves = p .leaves ∙ ap (writeMemory before) q;
+      }
+
+  pub written-call : a .answer ≡ 0 → WrittenCall
+  unfolding writeAnswer
+  written-call z = at (write edition rows pool (length before)) refl (p .answers)
+    where
+      at : (found : Written) → write edition rows pool (length before) ≡ found → reply (a .answer) (a .place) (a .rows) ≡ writeReply (roomOf rows) found → WrittenCall
+      at (unwritten refusal place) q r =
+          let h = refusal-some (unwritten-shape edition rows pool (length before) refusal place q) in let x : a .answer ≡ refusal = ap (λ (x : Reply). x .answer) r in
+          absurd (omega arith)
+      at (written bytes) q r = (bytes, q, lays q)
+
+  -- what means the same as the table that was written has as many rows
+  pub same-count : {bytes : List ℕ} → write edition rows pool (length before) ≡ written bytes → (found : List Placed) (input : List ℕ) → SameMeaning rows pool (tableOf found) input → length found ≡ a .rows
+  same-count {bytes} q found input m =
+      let (e, k, w) = written-known edition rows pool (length before) bytes q in
+      let (table, n, c, writes, few, fits) = written-writes e (length before) (cellsOf pool rows) bytes w in
+      omega (arith, rows-whole pool rows table c, rows-whole input (tableOf found) table (sym m ∙ c), table-length found, lays q .count)
+
+-- The coders
+
+-- what an encoder answers and leaves where these bytes code the value
+pub record Encodes (bytes before after : List ℕ) (result : Encoded) : Type 0 where
+  pub answers : result .answer ≡ 0
+  pub ends : result .place ≡ length bytes
+  pub leaves : after ≡ laidOver before bytes
+
+-- an encoder that answers 0 had a value in range, and its bytes had room
+module _ (refusal : ℕ) (bytes before : List ℕ) {after : List ℕ} {result : Encoded} where
+  pub encoded-call : 1 ≤ refusal → (inRange : Bool) → outcome (result .answer) (result .place) ≡ encodeOutcome refusal inRange (length before) bytes → after ≡ encodeMemory inRange before bytes → result .answer ≡ 0 → (inRange ≡ true) × Encodes bytes before after result
+  encoded-call some false is leaves z = let x : result .answer ≡ refusal = ap (λ (o : Outcome). o .answer) is in absurd (omega arith)
+  encoded-call some true is leaves z = fits (leb (length bytes) (length before)) is leaves
+    where
+      fits : (room : Bool) → outcome (result .answer) (result .place) ≡ pick room (outcome 0 (length bytes)) (outcome 16 (length bytes)) → after ≡ pick room (laidOver before bytes) before → (true ≡ true) × Encodes bytes before after result
+      fits false o m = let x : result .answer ≡ 16 = ap (λ (o : Outcome). o .answer) o in absurd (omega arith)
+      fits true o m = (refl, record { answers = z; ends = ap (λ (o : Outcome). o .place) o; leaves = m })
+
+  pub encodes : (inRange : Bool) → outcome (result .answer) (result .place) ≡ encodeOutcome refusal inRange (length before) bytes → after ≡ encodeMemory inRange before bytes → inRange ≡ true → length bytes ≤ length before → Encodes bytes before after result
+  encodes inRange is leaves range room =
+      let fits : leb (length bytes) (length before) ≡ true = le-leb (length bytes) (length before) room in
+      let o : outcome (result .answer) (result .place) ≡ outcome 0 (length bytes) = is ∙ rw (range, fits) refl in
+      record { answers = ap (λ (o : Outcome). o .answer) o; ends = ap (λ (o : Outcome). o .place) o; leaves = leaves ∙ rw (range, fits) refl }
+
+pub encoded-front : {bytes before after : List ℕ} {result : Encoded} → Encodes bytes before after result → take (result .place) after ≡ bytes
+encoded-front {bytes} {before} {result = result} e = ap (take (result .place)) (e .leaves) ∙ laid-front before bytes (sym (e .ends))
+
+-- a decoder that answers 0 decoded its bytes
+pub decoded-call : (refusal : ℕ) {answer place : ℕ} → 1 ≤ refusal → (d : Decoded) → outcome answer place ≡ decodeOutcome refusal d → answer ≡ 0 → (v : List ℕ) × (d ≡ decoded v)
+decoded-call refusal some (decoded v) is z = (v, refl)
+decoded-call refusal {answer} some (undecoded offset) is z = let x : answer ≡ refusal = ap (λ (o : Outcome). o .answer) is in absurd (omega arith)
+
+pub decodes : (refusal : ℕ) {answer place : ℕ} {d : Decoded} {v : List ℕ} → outcome answer place ≡ decodeOutcome refusal d → d ≡ decoded v → (answer ≡ 0) × (place ≡ length v)
+decodes refusal is q = let o = is ∙ ap (decodeOutcome refusal) q in (ap (λ (o : Outcome). o .answer) o, ap (λ (o : Outcome). o .place) o)

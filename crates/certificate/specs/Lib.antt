@@ -1,0 +1,6 @@
+-- What the promises of the entries give together, each file by those before it.
+pub mod OneAnswer
+pub mod Lent
+pub mod Calls
+pub mod Coders
+pub mod Premises
