@@ -12,7 +12,7 @@ use Rattle.meaning.specs.Editions.{B, D, known, unknown, labelOf}
 use Rattle.meaning.specs.Writing.{Cell, broken, Envelope, Plan, stuck, plan, wholePlan, headerOf, Limit, fine, exceeds, limits, Written, written, unwritten, limited, planned, writeRows}
 use Rattle.meaning.specs.Memory.{cellOf, cellsOf, reply, laidOver, write, writeAnswer, writeOutput}
 use Rattle.writer.specs.Bodies.{rowCell, cellsFor, cellsAt}
-use Rattle.writer.specs.Whole.{Verdict, bad, needs, verdictOf, verdict, checkedOf, bytesOfPlan, Writable}
+use Rattle.writer.specs.Whole.{Verdict, bad, needs, verdictOf, verdict, checkedOf, bytesOfPlan, CheckedAs, Writable}
 use Rattle.writer.specs.Moves.{editionOf}
 use Rattle.writer.specs.Promise.{refusedAt, WrittenAs, WritePromise}
 use Rattle.writer.specs.declared.Answer.{Answer}
@@ -99,7 +99,10 @@ module _ (inD : Bool) (pool rows before : List ℕ) where
   written-as : {w : Written} {answer : Answer} {after : List ℕ} → result ≡ w → WrittenAs w rows before answer after → WrittenAs result rows before answer after
   written-as {w} {answer} {after} q x = rw q x
 
-  module _ {r : Checked} (c : r ≡ checkedOf (verdict 16 0 fine all)) where
+  module _ {r : Checked} {lengths : List ℕ} (k : CheckedAs all r lengths) where
+    abbrev c : r ≡ checkedOf (verdict 16 0 fine all)
+    c = k .is
+
     pub refuses : {answer place : ℕ} {a : Answer} → r ≡ Bad answer place → a ≡ refusedAt answer place → WrittenAs result rows before a before
     refuses {answer} {place} {a} q e =
         written-as (result-is ∙ ap (answered (length before) (bytesOfPlan all)) (verdict-bad (verdict 16 0 fine all) (sym c ∙ q))) (rw e (record { answers = refl; leaves = refl }))
@@ -108,8 +111,8 @@ module _ (inD : Bool) (pool rows before : List ℕ) where
       passed : verdict 16 0 fine all ≡ needs many
       passed = verdict-needs (verdict 16 0 fine all) (sym c ∙ q)
 
-      pub writable : many ≤ length before → Writable inD rows pool before
-      writable h = record { bytes-needed = many; passed = passed; room = h }
+      pub writable : length lengths ≡ 16 → many ≤ length before → Writable inD rows pool lengths before
+      writable l h = record { bytes-needed = many; passed = passed; noted = k .noted many passed; long = l; room = h }
 
       pub too-short : {a : Answer} → length before < many → a ≡ refusedAt 16 many → WrittenAs result rows before a before
       too-short {a} h e =

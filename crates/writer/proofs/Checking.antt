@@ -65,14 +65,14 @@ module _ (inD : Bool) (pool rows : List ℕ) (i : ℕ) {n : ℕ} (q : n ≡ open
 abbrev pub Ends : Body → List ℕ → List ℕ → ℕ → ℕ → Type 0
 Ends b pool rows row many = (bytes : List ℕ) × (b ≡ body bytes row (cellsAt pool rows row)) × (many ≡ capped (length bytes)) × (row ≤ length rows / 4)
 
-measured-stuck : (b : Body) (pool rows : List ℕ) {r : Bodied} {j : ℕ} → r ≡ Stuck j → Measured b pool rows r → b ≡ halt j
+pub measured-stuck : (b : Body) (pool rows : List ℕ) {r : Bodied} {j : ℕ} → r ≡ Stuck j → Measured b pool rows r → b ≡ halt j
 measured-stuck b pool rows {r} {j} e m = at b (subst (Measured b pool rows) e m)
   where
     at : (b : Body) → Measured b pool rows (Stuck j) → b ≡ halt j
     at (halt k) z = ap halt (sym z)
     at (body bytes k cells) z = absurd z
 
-measured-ended : (b : Body) (pool rows : List ℕ) {r : Bodied} {row many : ℕ} → r ≡ Ended row many → Measured b pool rows r → Ends b pool rows row many
+pub measured-ended : (b : Body) (pool rows : List ℕ) {r : Bodied} {row many : ℕ} → r ≡ Ended row many → Measured b pool rows r → Ends b pool rows row many
 measured-ended b pool rows {r} {row} {many} e m = at b (subst (Measured b pool rows) e m)
   where
     at : (b : Body) → Measured b pool rows (Ended row many) → Ends b pool rows row many

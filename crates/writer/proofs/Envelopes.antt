@@ -12,7 +12,7 @@ use borrow.Author.Tests.{le-leb, lt-leb}
 use Rattle.meaning.specs.Basics.{pick}
 use Rattle.meaning.specs.Bytes.{lengthBytes, twoBytes, fourBytes}
 use Rattle.meaning.specs.Editions.{Edition}
-use Rattle.meaning.specs.Writing.{Cell, envelopeSize}
+use Rattle.meaning.specs.Writing.{Cell, envelopeSize, wrap}
 use Rattle.writer.specs.Laying.{one, capped, Laid}
 use Rattle.writer.specs.Fitting.{standing, stateOf, Good}
 use Rattle.writer.specs.Bodies.{Body, halt, body, bodyOf, BodyIs}
@@ -73,6 +73,14 @@ module _ (out : List ℕ) (at n end : ℕ) (h : at ≤ n) (k : n ≤ end) (l : e
       ∙ ap (λ (x : List ℕ). (take at out ++ head) ++ (bytes ++ x)) behind
       ∙ append-assoc (take at out) head (bytes ++ drop end out) ∙ ap (λ (x : List ℕ). take at out ++ x) (sym (append-assoc head bytes (drop end out)))
 
+-- A body over an empty part is only measured
+
+pub measured : (B : Body) (pool rows m after : List ℕ) (r : Bodied) → BodyIs B pool rows m 0 r after → Measured B pool rows r
+measured (halt j) pool rows m after (Stuck i) z = z
+measured (halt j) pool rows m after (Ended row p) z = z
+measured (body bytes j cells) pool rows m after (Stuck i) z = z
+measured (body bytes j cells) pool rows m after (Ended row p) z = (z .0, z .1, z .2, z .3 .counted ∙ (let q : 0 + length bytes ≡ length bytes = omega arith in ap capped q))
+
 module _ (out : List ℕ) (at n end many : ℕ) (base : Bool) (e : end ≡ at + envelopeSize many) (i : n ≡ end - many) (l : end ≤ length out) where
   n-is : n ≡ at + length (headOf base many)
   n-is = omega (arith, head-length base many)
@@ -88,7 +96,7 @@ module _ (out : List ℕ) (at n end many : ℕ) (base : Bool) (e : end ≡ at + 
       from (Ended row p) z = laid-all (z .3) (q ∙ sym w)
 
   pub envelope-laid : (B : Body) (pool rows lh lb : List ℕ) (r : Bodied) {p : ℕ} → Laid (take (n - at) (drop at out)) 0 (headOf base many) lh p → BodyIs B pool rows (take (end - n) (drop n (putMid at (n - at) out lh))) 0 r lb
-      → EnvelopeWritten B base many out at (putMid n (end - n) (putMid at (n - at) out lh) lb) end
+      → EnvelopeWritten B pool rows base many out at (putMid n (end - n) (putMid at (n - at) out lh) lb) r
   envelope-laid B pool rows lh lb r a b =
       let hn = n-is in
       let hl = head-length base many in
@@ -97,27 +105,19 @@ module _ (out : List ℕ) (at n end many : ℕ) (base : Bool) (e : end ≡ at + 
       let whole : length (putMid at (n - at) out lh) ≡ length out = same-len-mid at (n - at) out lh (lhLength ∙ sym (mid-len at n out (omega arith))) in
       let m : length (take (end - n) (drop n (putMid at (n - at) out lh))) ≡ many = mid-len n end (putMid at (n - at) out lh) (omega arith) ∙ (let q : end - n ≡ many = omega (arith, n-is, head-length base many) in q) in
       record {
-        ends = e;
+        inside = measured B pool rows (take (end - n) (drop n (putMid at (n - at) out lh))) lb r b;
         laid = λ bytes j cells f w.
             parts-put out at n end (omega (arith, n-is)) (omega arith) l lh lb lhLength
             ∙ ap (λ (x : List ℕ). take at out ++ ((lh ++ x) ++ drop end out)) (body-bytes B pool rows (take (end - n) (drop n (putMid at (n - at) out lh))) lb r m b bytes j cells f w)
             ∙ ap (λ (x : List ℕ). take at out ++ ((x ++ bytes) ++ drop end out)) lhIs
-            ∙ ap (λ (k : ℕ). take at out ++ ((headOf base k ++ bytes) ++ drop end out)) (sym w);
+            ∙ ap (λ (k : ℕ). take at out ++ ((headOf base k ++ bytes) ++ drop end out)) (sym w) ∙ ap (λ (k : ℕ). take at out ++ (wrap base bytes ++ drop k out)) e;
       }
-
--- A body over an empty part is only measured
-
-pub measured : (B : Body) (pool rows m after : List ℕ) (r : Bodied) → BodyIs B pool rows m 0 r after → Measured B pool rows r
-measured (halt j) pool rows m after (Stuck i) z = z
-measured (halt j) pool rows m after (Ended row p) z = z
-measured (body bytes j cells) pool rows m after (Stuck i) z = z
-measured (body bytes j cells) pool rows m after (Ended row p) z = (z .0, z .1, z .2, z .3 .counted ∙ (let q : 0 + length bytes ≡ length bytes = omega arith in ap capped q))
 
 -- The code's own start is the definition's
 
 module _ (e : Edition) (cells : List Cell) (from : ℕ) {s t : Standing} (q : s ≡ t) where
-  pub written-from : {base : Bool} {many : ℕ} {before : List ℕ} {at : ℕ} {after : List ℕ} {end : ℕ} → EnvelopeWritten (bodyOf e cells from (stateOf s)) base many before at after end → EnvelopeWritten (bodyOf e cells from (stateOf t)) base many before at after end
-  written-from {base} {many} {before} {at} {after} {end} w = subst (λ (x : Standing). EnvelopeWritten (bodyOf e cells from (stateOf x)) base many before at after end) q w
+  pub written-from : {pool rows : List ℕ} {base : Bool} {many : ℕ} {before : List ℕ} {at : ℕ} {after : List ℕ} {r : Bodied} → EnvelopeWritten (bodyOf e cells from (stateOf s)) pool rows base many before at after r → EnvelopeWritten (bodyOf e cells from (stateOf t)) pool rows base many before at after r
+  written-from {pool} {rows} {base} {many} {before} {at} {after} {r} w = subst (λ (x : Standing). EnvelopeWritten (bodyOf e cells from (stateOf x)) pool rows base many before at after r) q w
 
 -- Parts are no longer than asked, and an envelope is a little longer than its inside
 

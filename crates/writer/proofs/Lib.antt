@@ -10,5 +10,7 @@ pub mod Closed
 pub mod Wholes
 pub mod Envelopes
 pub mod Checking
+pub mod Passing
+pub mod Noting
 pub mod Writing
 pub mod Answers

@@ -8,7 +8,7 @@ use lib.ListN.{length, take, drop}
 use Rattle.meaning.specs.Basics.{pick}
 use Rattle.meaning.specs.Editions.{Edition}
 use Rattle.meaning.specs.Headers.{start}
-use Rattle.meaning.specs.Writing.{Cell, cell, broken, Opens, envelopeRow, innerRow, opensOf, Plan, stuck, plan, newPlan, planOf, wholePlan, envelopeSize, withinLimit, wrap, envelopeLength, headerOf, Limit, fine, exceeds, limits}
+use Rattle.meaning.specs.Writing.{Cell, cell, broken, Opens, envelopeRow, innerRow, opensOf, Envelope, Plan, stuck, plan, newPlan, planOf, wholePlan, envelopeSize, withinLimit, wrap, envelopeLength, headerOf, Limit, fine, exceeds, limits}
 use Rattle.writer.specs.Moves.{editionOf}
 use Rattle.writer.specs.Fitting.{standing}
 use Rattle.writer.specs.Laying.{capped}
@@ -78,10 +78,13 @@ abbrev pub limitOf : Bool → ℕ → Limit
 limitOf true i = exceeds i
 limitOf false i = fine
 
+abbrev pub envelopesOf : Plan → List Envelope
+envelopesOf (stuck i) = []
+envelopesOf (plan bytes vs) = vs
+
 -- the bytes of the envelopes of a plan
 abbrev pub bytesOfPlan : Plan → List ℕ
-bytesOfPlan (stuck i) = []
-bytesOfPlan (plan bytes vs) = headerOf vs
+bytesOfPlan p = headerOf (envelopesOf p)
 
 abbrev pub passedAt : ℕ → ℕ → ℕ → Tally
 passedAt left total first = record { left = left - 1; total = total; over = true; first = first }
@@ -96,10 +99,29 @@ pub record Tallied (t : Tally) (i many : ℕ) (r : Tally) : Type 0 where
 abbrev pub startAt : ℕ → Standing
 startAt o = pick (eqb o 2) (standing 1 0 false) (standing 0 0 false)
 
+-- how long each envelope's inside is
+abbrev pub insides : List Envelope → List ℕ
+insides [] = []
+insides (v ∷ vs) = length (v .body) ∷ insides vs
+
+abbrev pub insidesOf : Plan → List ℕ
+insidesOf p = insides (envelopesOf p)
+
+-- these numbers stand at the front of those
+abbrev pub Begins : List ℕ → List ℕ → Type 0
+Begins front all = (behind : List ℕ) × (all ≡ front ++ behind)
+
+-- what the check promises: the verdict, and if it is passed the envelopes' lengths
+pub record CheckedAs (p : Plan) (r : Checked) (lengths : List ℕ) : Type 0 where
+  pub is : r ≡ checkedOf (verdict 16 0 fine p)
+  pub noted : (t : ℕ) → verdict 16 0 fine p ≡ needs t → Begins (insidesOf p) lengths
+
 -- what the pass that writes asks: the check was passed, and its bytes have room
-pub record Writable (inD : Bool) (rows pool output : List ℕ) : Type 0 where
+pub record Writable (inD : Bool) (rows pool lengths output : List ℕ) : Type 0 where
   pub bytes-needed : ℕ
   pub passed : verdict 16 0 fine (wholePlan (editionOf inD) (cellsAt pool rows 0)) ≡ needs bytes-needed
+  pub noted : Begins (insidesOf (wholePlan (editionOf inD) (cellsAt pool rows 0))) lengths
+  pub long : length lengths ≡ 16
   pub room : bytes-needed ≤ length output
 
 -- what writing an envelope asks: it opens before row `from`, its inside was measured, and the output has room for it
@@ -109,10 +131,10 @@ pub record EnvelopeRequires (inD : Bool) (rows pool : List ℕ) (from opened man
   pub small : many ≤ 1048576
   pub room : at + envelopeSize many ≤ length output
 
--- the envelope's bytes are laid from `at` on
-pub record EnvelopeWritten (b : Body) (base : Bool) (many : ℕ) (before : List ℕ) (at : ℕ) (after : List ℕ) (end : ℕ) : Type 0 where
-  pub ends : end ≡ at + envelopeSize many
-  pub laid : (bytes : List ℕ) (j : ℕ) (cells : List Cell) → b ≡ body bytes j cells → length bytes ≡ many → after ≡ take at before ++ (wrap base bytes ++ drop end before)
+-- the inside is as it was measured, and the envelope's bytes are laid from `at` on
+pub record EnvelopeWritten (b : Body) (pool rows : List ℕ) (base : Bool) (many : ℕ) (before : List ℕ) (at : ℕ) (after : List ℕ) (r : Bodied) : Type 0 where
+  pub inside : Measured b pool rows r
+  pub laid : (bytes : List ℕ) (j : ℕ) (cells : List Cell) → b ≡ body bytes j cells → length bytes ≡ many → after ≡ take at before ++ (wrap base bytes ++ drop (at + envelopeSize many) before)
 
 -- identifier and length of an envelope with so many bytes inside
 abbrev pub identifierOf : Bool → ℕ

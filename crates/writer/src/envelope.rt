@@ -5,7 +5,6 @@ use crate::body::open_at;
 use crate::lay::put;
 use crate::lay::put_four;
 use crate::lay::put_two;
-use crate::measure::measure;
 use crate::measure::size_of;
 use crate::measure::start_of;
 ghost use mathlib.Core.Path.{_≡_};
@@ -42,7 +41,7 @@ fn identifier(opened: usize) -> u8
     0xfd
 }
 
-// One envelope, whose inside has so many bytes; the place after it.
+// One envelope, whose inside has so many bytes; and where its rows end.
 fn put_envelope(
     in_d: bool,
     table: &[usize],
@@ -53,40 +52,54 @@ fn put_envelope(
     many: usize,
     output: &mut [u8],
     at: usize,
-) -> usize
+) -> Bodied
     requires { ⌜ (now table ≡ packed) × EnvelopeRequires in_d (now rows) (now pool) from opened many (now output) at ⌝ }
-    ensures { λ r. ⌜ EnvelopeWritten (bodyOf (editionOf in_d) (cellsAt (now (pool .entry)) (now (rows .entry)) from) from (stateOf (startAt opened))) (eqb opened 2) many (now (output .entry)) at (now (output .exit)) r ⌝ }
+    ensures { λ r. ⌜ EnvelopeWritten (bodyOf (editionOf in_d) (cellsAt (now (pool .entry)) (now (rows .entry)) from) from (stateOf (startAt opened))) (now (pool .entry)) (now (rows .entry)) (eqb opened 2) many (now (output .entry)) at (now (output .exit)) r ⌝ }
 {
     let end = at + size_of(many);
     let inside = end - many;
     put_head(opened, many, &mut output[at..inside]);
-    let s = start_of(opened);
-    body(in_d, table, rows, pool, from, s, &mut output[inside..end]);
-    end
+    body(
+        in_d,
+        table,
+        rows,
+        pool,
+        from,
+        start_of(opened),
+        &mut output[inside..end],
+    )
 }
 
-// Envelope by envelope.
-pub fn put_all(in_d: bool, table: &[usize], rows: &[u32], pool: &[u8], output: &mut [u8])
-    requires { ⌜ (now table ≡ packed) × Writable in_d (now rows) (now pool) (now output) ⌝ }
+// Envelope by envelope, with the lengths that the check noted.
+pub fn put_all(
+    in_d: bool,
+    table: &[usize],
+    rows: &[u32],
+    pool: &[u8],
+    lengths: &[usize],
+    output: &mut [u8],
+)
+    requires { ⌜ (now table ≡ packed) × Writable in_d (now rows) (now pool) (now lengths) (now output) ⌝ }
     ensures { λ _. ⌜ now (output .exit) ≡ laidOver (now (output .entry)) (bytesOfPlan (wholePlan (editionOf in_d) (cellsAt (now (pool .entry)) (now (rows .entry)) 0))) ⌝ }
 {
     let mut i: usize = 0;
+    let mut k: usize = 0;
     let mut at: usize = 0;
     loop {
         let opened = open_at(rows, pool, i);
         if opened == 0 {
             return;
         }
-        let from = i + 1;
-        let s = start_of(opened);
-        let r = measure(in_d, table, rows, pool, from, s);
-        let Bodied::Ended { row, many } = r else {
+        let many = lengths[k];
+        let r = put_envelope(in_d, table, rows, pool, i + 1, opened, many, output, at);
+        let Bodied::Ended { row, many: _ } = r else {
             return;
         };
-        at = put_envelope(in_d, table, rows, pool, from, opened, many, output, at);
         if opened == 2 {
             return;
         }
         i = row;
+        k += 1;
+        at += size_of(many);
     }
 }

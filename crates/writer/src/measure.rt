@@ -4,15 +4,14 @@ use crate::body::body;
 use crate::body::open_at;
 use crate::fit::Standing;
 ghost use mathlib.Core.Path.{_≡_};
-ghost use mathlib.Core.Bool.{false};
 ghost use mathlib.Core.List.{List};
-ghost use Prim.Native.Nat.{ℕ, _+_, _*_, _/_, _≤_};
-ghost use lib.ListN.{length};
-ghost use Rattle.meaning.specs.Writing.{envelopeSize, wholePlan, fine};
+ghost use Prim.Native.Nat.{ℕ, _+_, _-_, _*_, _/_, _≤_};
+ghost use lib.ListN.{length, set};
+ghost use Rattle.meaning.specs.Writing.{envelopeSize, wholePlan};
 ghost use Rattle.writer.specs.Moves.{packed, editionOf};
 ghost use Rattle.writer.specs.Bodies.{cellsAt, bodyOf};
 ghost use Rattle.writer.specs.Fitting.{stateOf, Good};
-ghost use Rattle.writer.specs.Whole.{passedAt, Measured, Tallied, startAt, limitOf, endVerdict, verdict, checkedOf};
+ghost use Rattle.writer.specs.Whole.{passedAt, Measured, Tallied, startAt, limitOf, endVerdict, checkedOf, CheckedAs};
 
 // A refusal, or the bytes needed.
 pub enum Checked {
@@ -126,6 +125,16 @@ pub fn measure(
     body(in_d, table, rows, pool, from, s, &mut none[..0])
 }
 
+// The length of one envelope's inside, for the pass that writes; a seventeenth has no place.
+fn note(lengths: &mut [usize], left: usize, many: usize)
+    requires { ⌜ (length (now lengths) ≡ 16) × (left ≤ 16) ⌝ }
+    ensures { λ _. ⌜ now (lengths .exit) ≡ set (now (lengths .entry)) (16 - left) many ⌝ }
+{
+    if left != 0 {
+        lengths[16 - left] = many;
+    }
+}
+
 // The answer behind the base: no row may follow.
 fn ended(rows: &[u32], row: usize, t: Tally) -> Checked
     ensures { λ r. ⌜ ((pool : List ℕ) → r ≡ checkedOf (endVerdict (cellsAt pool (now (rows .entry)) row) row (t .total) (limitOf (t .over) (t .first)))) ⌝ }
@@ -151,10 +160,16 @@ fn ended(rows: &[u32], row: usize, t: Tally) -> Checked
     Checked::Needs(t.total)
 }
 
-// What the rows come to: a refusal, or the bytes that they need.
-pub fn check(in_d: bool, table: &[usize], rows: &[u32], pool: &[u8]) -> Checked
-    requires { ⌜ now table ≡ packed ⌝ }
-    ensures { λ r. ⌜ r ≡ checkedOf (verdict 16 0 fine (wholePlan (editionOf in_d) (cellsAt (now (pool .entry)) (now (rows .entry)) 0))) ⌝ }
+// What the rows come to: a refusal, or the bytes that they need; then the envelopes' lengths are noted.
+pub fn check(
+    in_d: bool,
+    table: &[usize],
+    rows: &[u32],
+    pool: &[u8],
+    lengths: &mut [usize],
+) -> Checked
+    requires { ⌜ (now table ≡ packed) × (length (now lengths) ≡ 16) ⌝ }
+    ensures { λ r. ⌜ CheckedAs (wholePlan (editionOf in_d) (cellsAt (now (pool .entry)) (now (rows .entry)) 0)) r (now (lengths .exit)) ⌝ }
 {
     let mut i: usize = 0;
     let mut t = Tally {
@@ -171,15 +186,14 @@ pub fn check(in_d: bool, table: &[usize], rows: &[u32], pool: &[u8]) -> Checked
                 place: i,
             };
         }
-        let from = i + 1;
-        let s = start_of(opened);
-        let r = measure(in_d, table, rows, pool, from, s);
+        let r = measure(in_d, table, rows, pool, i + 1, start_of(opened));
         match r {
             Bodied::Stuck(j) => return Checked::Bad {
                 answer: NO_TABLE,
                 place: j,
             },
             Bodied::Ended { row, many } => {
+                note(lengths, t.left, many);
                 t = count_in(t, i, many);
                 if opened == 2 {
                     return ended(rows, row, t);

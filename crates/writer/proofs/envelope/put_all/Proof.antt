@@ -1,9 +1,7 @@
 -- `envelope::put_all`: the bytes so far, in front of the output as it was; the check rules out what is not written.
 use Prim.Native.Nat.{_-_, _/_}
-use Rattle.meaning.specs.Editions.{opens}
-use Rattle.writer.proofs.Checking.{ends-here, ends-later, ends-small, row-inside, stuck-here}
-use Rattle.writer.proofs.Envelopes.{start-good}
-use Rattle.writer.proofs.Writing.{Writing, writing-ends, writing-length, writing-none, writing-on, writing-room, writing-starts, writing-stuck}
+use Rattle.writer.proofs.Checking.{ends-later, here, measured-ended, measured-stuck, row-inside}
+use Rattle.writer.proofs.Writing.{Writing, writing-ends, writing-length, writing-none, writing-noted, writing-on, writing-starts, writing-stuck}
 use Rattle.writer.specs.Whole.{Writable}
 use borrow.Author.Needs.{needs}
 use lib.ListN.{length}
@@ -14,31 +12,73 @@ use Rattle.writer.proofs.envelope.put_all.Statement.{statement}
 use Rattle.writer.proofs.envelope.put_all.Tie as tie
 
 abbrev Inv-loop : tie.InvT-loop
-Inv-loop in-d table rows pool output₀ i₀ at₀ output i at = (w : Writable in-d rows pool output₀) → Writing in-d pool rows output₀ (w .bytes-needed) i at output
+Inv-loop in-d table rows pool lengths output₀ i₀ k₀ at₀ output i k at = (w : Writable in-d rows pool lengths output₀) → Writing in-d pool rows lengths output₀ (w .bytes-needed) i k at output
 
 abbrev μ-loop : tie.MeasureT-loop
-μ-loop in-d table rows pool output₀ i₀ at₀ output i at = length rows / 4 - i
+μ-loop in-d table rows pool lengths output₀ i₀ k₀ at₀ output i k at = length rows / 4 - i
 
 loop-holds : tie.Need-loop-holds Inv-loop μ-loop
-loop-holds c = λ w. writing-starts (c .before .before .before .before .args .in-d) (c .before .before .before .before .args .pool .now) (c .before .before .before .before .args .rows .now) (c .before .before .before .before .args .output .now) w
+loop-holds c = let a = c .before .before .before .before .before .args in writing-starts (a .in-d) (a .pool .now) (a .rows .now) (a .lengths .now) (a .output .now)
 
 open-at-requires : tie.Need-open-at-requires Inv-loop μ-loop
 open-at-requires c κs = search needs
 
 same-length : tie.Need-same-length Inv-loop μ-loop
-same-length c = writing-length (c .before .before .before .before .before .before .before .args .in-d) (c .before .before .before .before .before .before .before .args .pool .now) (c .before .before .before .before .before .before .before .args .rows .now) (c .before .before .before .before .before .before .before .args .output .now) (c .before .before .before .before .before .before .before .pre .1) (c .before .before .loop .inv (c .before .before .before .before .before .before .before .pre .1))
+same-length c =
+    let entry = c .before .before .before .before .before .before .before .before in
+    let a = entry .args in
+    let w = entry .pre .1 in
+    let l = c .before .before .loop in
+    writing-length (a .in-d) (a .pool .now) (a .rows .now) (a .lengths .now) (a .output .now) w (l .inv w)
 
 returns : tie.Need-returns Inv-loop μ-loop
-returns c = writing-none (c .before .before .before .before .before .before .before .args .in-d) (c .before .before .before .before .before .before .before .args .pool .now) (c .before .before .before .before .before .before .before .args .rows .now) (c .before .before .before .before .before .before .before .args .output .now) (c .before .before .before .before .before .before .before .pre .1) (c .before .before .loop .inv (c .before .before .before .before .before .before .before .pre .1)) (c .before .open-at .ensures) (c .if1 .taken)
+returns c =
+    let entry = c .before .before .before .before .before .before .before .before in
+    let a = entry .args in
+    let w = entry .pre .1 in
+    let l = c .before .before .loop in
+    writing-none (a .in-d) (a .pool .now) (a .rows .now) (a .lengths .now) (a .output .now) w (l .inv w) (c .before .open-at .ensures) (c .if1 .taken)
 
-add-from : tie.Need-add-from Inv-loop μ-loop
-add-from c = omega (arith, row-inside (c .before .before .before .before .before .before .before .args .in-d) (c .before .before .before .before .before .before .before .args .pool .now) (c .before .before .before .before .before .before .before .args .rows .now) (c .before .before .loop .i) (c .before .open-at .ensures) (c .if1 .left))
+mul-many : tie.Need-mul-many Inv-loop μ-loop
+mul-many c =
+    let entry = c .before .before .before .before .before .before .before .before in
+    let a = entry .args in
+    let w = entry .pre .1 in
+    let l = c .before .before .loop in
+    let o = c .before .open-at .ensures in
+    let h = c .if1 .left in
+    omega (arith, writing-noted (a .in-d) (a .pool .now) (a .rows .now) (a .lengths .now) (a .output .now) w (l .inv w) o h .0, w .long)
 
-start-of-requires : tie.Need-start-of-requires Inv-loop μ-loop
-start-of-requires c κs = search needs
+shared-slice-read-many : tie.Need-shared-slice-read-many Inv-loop μ-loop
+shared-slice-read-many c =
+    let entry = c .before .before .before .before .before .before .before .before .before in
+    let a = entry .args in
+    let w = entry .pre .1 in
+    let l = c .before .before .before .loop in
+    let o = c .before .before .open-at .ensures in
+    let h = c .before .if1 .left in
+    writing-noted (a .in-d) (a .pool .now) (a .rows .now) (a .lengths .now) (a .output .now) w (l .inv w) o h .0
 
-measure-requires : tie.Need-measure-requires Inv-loop μ-loop
-measure-requires c κs = (c .before .before .before .before .before .before .before .before .pre .0, start-good (c .before .before .open-at .result) (c .start-of .ensures), omega (arith, row-inside (c .before .before .before .before .before .before .before .before .args .in-d) (c .before .before .before .before .before .before .before .before .args .pool .now) (c .before .before .before .before .before .before .before .before .args .rows .now) (c .before .before .before .loop .i) (c .before .before .open-at .ensures) (c .before .if1 .left)))
+add-put-envelope : tie.Need-add-put-envelope Inv-loop μ-loop
+add-put-envelope c =
+    let entry = c .before .before .before .before .before .before .before .before .before in
+    let a = entry .args in
+    let w = entry .pre .1 in
+    let l = c .before .before .before .loop in
+    let o = c .before .before .open-at .ensures in
+    let h = c .before .if1 .left in
+    omega (arith, row-inside (a .in-d) (a .pool .now) (a .rows .now) (l .i) o h)
+
+put-envelope-requires : tie.Need-put-envelope-requires Inv-loop μ-loop
+put-envelope-requires c κs =
+    let entry = c .before .before .before .before .before .before .before .before .before .before in
+    let a = entry .args in
+    let w = entry .pre .1 in
+    let l = c .before .before .before .before .loop in
+    let o = c .before .before .before .open-at .ensures in
+    let h = c .before .before .if1 .left in
+    let n = writing-noted (a .in-d) (a .pool .now) (a .rows .now) (a .lengths .now) (a .output .now) w (l .inv w) o h in
+    (entry .pre .0, record { inside = omega (arith, row-inside (a .in-d) (a .pool .now) (a .rows .now) (l .i) o h); opens = omega (arith, h); small = n .2; room = omega (arith, n .1, writing-length (a .in-d) (a .pool .now) (a .rows .now) (a .lengths .now) (a .output .now) w (l .inv w)) })
 
 enum-known-r : tie.Need-enum-known-r Inv-loop μ-loop
 enum-known-r c = search needs
@@ -47,25 +87,98 @@ enum-told : tie.Need-enum-told Inv-loop μ-loop
 enum-told c = search needs
 
 same-length-2 : tie.Need-same-length-2 Inv-loop μ-loop
-same-length-2 c = writing-length (c .before .before .before .before .before .before .before .before .before .before .before .args .in-d) (c .before .before .before .before .before .before .before .before .before .before .before .args .pool .now) (c .before .before .before .before .before .before .before .before .before .before .before .args .rows .now) (c .before .before .before .before .before .before .before .before .before .before .before .args .output .now) (c .before .before .before .before .before .before .before .before .before .before .before .pre .1) (c .before .before .before .before .before .before .loop .inv (c .before .before .before .before .before .before .before .before .before .before .before .pre .1))
+same-length-2 c =
+    let entry = c .before .before .before .before .before .before .before .before .before .before .before .before .before .before .before in
+    let a = entry .args in
+    let w = entry .pre .1 in
+    let l = c .before .before .before .before .before .before .before .before .before .loop in
+    c .before .before .before .before .put-envelope .kept .1 .1 .1 .1 .1 .1 .1 .0 ∙ writing-length (a .in-d) (a .pool .now) (a .rows .now) (a .lengths .now) (a .output .now) w (l .inv w)
 
 returns-2 : tie.Need-returns-2 Inv-loop μ-loop
-returns-2 c = writing-stuck (c .before .before .before .before .before .before .before .before .before .before .before .args .in-d) (c .before .before .before .before .before .before .before .before .before .before .before .args .pool .now) (c .before .before .before .before .before .before .before .before .before .before .before .args .rows .now) (c .before .before .before .before .before .before .before .before .before .before .before .args .output .now) (c .before .before .before .before .before .before .before .before .before .before .before .pre .1) (c .before .before .before .before .before .before .loop .inv (c .before .before .before .before .before .before .before .before .before .before .before .pre .1)) (c .before .before .before .before .before .open-at .ensures) (c .before .before .before .before .if1 .left) (stuck-here (c .before .before .before .before .before .before .before .before .before .before .before .args .in-d) (c .before .before .before .before .before .before .before .before .before .before .before .args .pool .now) (c .before .before .before .before .before .before .before .before .before .before .before .args .rows .now) (c .before .before .before .before .before .before .loop .i) (c .before .before .before .before .before .open-at .ensures) (c .before .before .before .before .if1 .left) (c .before .before .before .start-of .ensures) (c .before .before .measure .result) (c .before .before .measure .ensures) (c .enum-told .given .1))
-
-put-envelope-requires : tie.Need-put-envelope-requires Inv-loop μ-loop
-put-envelope-requires c κs = (c .before .before .before .before .before .before .before .before .before .before .before .before .before .pre .0, record { inside = omega (arith, row-inside (c .before .before .before .before .before .before .before .before .before .before .before .before .before .args .in-d) (c .before .before .before .before .before .before .before .before .before .before .before .before .before .args .pool .now) (c .before .before .before .before .before .before .before .before .before .before .before .before .before .args .rows .now) (c .before .before .before .before .before .before .before .before .loop .i) (c .before .before .before .before .before .before .before .open-at .ensures) (c .before .before .before .before .before .before .if1 .left)); opens = omega (arith, c .before .before .before .before .before .before .if1 .left); small = ends-small ((ends-here (c .before .before .before .before .before .before .before .before .before .before .before .before .before .args .in-d) (c .before .before .before .before .before .before .before .before .before .before .before .before .before .args .pool .now) (c .before .before .before .before .before .before .before .before .before .before .before .before .before .args .rows .now) (c .before .before .before .before .before .before .before .before .loop .i) (c .before .before .before .before .before .before .before .open-at .ensures) (c .before .before .before .before .before .before .if1 .left) (c .before .before .before .before .before .start-of .ensures) (c .before .before .before .before .measure .result) (c .before .before .before .before .measure .ensures) (c .before .before .r .given .1)) .0) ((ends-here (c .before .before .before .before .before .before .before .before .before .before .before .before .before .args .in-d) (c .before .before .before .before .before .before .before .before .before .before .before .before .before .args .pool .now) (c .before .before .before .before .before .before .before .before .before .before .before .before .before .args .rows .now) (c .before .before .before .before .before .before .before .before .loop .i) (c .before .before .before .before .before .before .before .open-at .ensures) (c .before .before .before .before .before .before .if1 .left) (c .before .before .before .before .before .start-of .ensures) (c .before .before .before .before .measure .result) (c .before .before .before .before .measure .ensures) (c .before .before .r .given .1)) .2); room = omega (arith, writing-room (c .before .before .before .before .before .before .before .before .before .before .before .before .before .args .in-d) (c .before .before .before .before .before .before .before .before .before .before .before .before .before .args .pool .now) (c .before .before .before .before .before .before .before .before .before .before .before .before .before .args .rows .now) (c .before .before .before .before .before .before .before .before .before .before .before .before .before .args .output .now) (c .before .before .before .before .before .before .before .before .before .before .before .before .before .pre .1) (c .before .before .before .before .before .before .before .before .loop .inv (c .before .before .before .before .before .before .before .before .before .before .before .before .before .pre .1)) (c .before .before .before .before .before .before .before .open-at .ensures) (c .before .before .before .before .before .before .if1 .left) (ends-here (c .before .before .before .before .before .before .before .before .before .before .before .before .before .args .in-d) (c .before .before .before .before .before .before .before .before .before .before .before .before .before .args .pool .now) (c .before .before .before .before .before .before .before .before .before .before .before .before .before .args .rows .now) (c .before .before .before .before .before .before .before .before .loop .i) (c .before .before .before .before .before .before .before .open-at .ensures) (c .before .before .before .before .before .before .if1 .left) (c .before .before .before .before .before .start-of .ensures) (c .before .before .before .before .measure .result) (c .before .before .before .before .measure .ensures) (c .before .before .r .given .1)), writing-length (c .before .before .before .before .before .before .before .before .before .before .before .before .before .args .in-d) (c .before .before .before .before .before .before .before .before .before .before .before .before .before .args .pool .now) (c .before .before .before .before .before .before .before .before .before .before .before .before .before .args .rows .now) (c .before .before .before .before .before .before .before .before .before .before .before .before .before .args .output .now) (c .before .before .before .before .before .before .before .before .before .before .before .before .before .pre .1) (c .before .before .before .before .before .before .before .before .loop .inv (c .before .before .before .before .before .before .before .before .before .before .before .before .before .pre .1))) })
+returns-2 c =
+    let entry = c .before .before .before .before .before .before .before .before .before .before .before .before .before .before .before in
+    let a = entry .args in
+    let w = entry .pre .1 in
+    let l = c .before .before .before .before .before .before .before .before .before .loop in
+    let o = c .before .before .before .before .before .before .before .before .open-at .ensures in
+    let h = c .before .before .before .before .before .before .before .if1 .left in
+    writing-stuck (a .in-d) (a .pool .now) (a .rows .now) (a .lengths .now) (a .output .now) w (l .inv w) o h (measured-stuck (here (a .in-d) (a .pool .now) (a .rows .now) (l .i) o h) (a .pool .now) (a .rows .now) (c .enum-told .given .1) (c .before .before .before .before .put-envelope .ensures .inside))
 
 same-length-3 : tie.Need-same-length-3 Inv-loop μ-loop
-same-length-3 c = c .before .before .before .put-envelope .kept .1 .1 .1 .1 .1 .1 .1 .0 ∙ writing-length (c .before .before .before .before .before .before .before .before .before .before .before .before .before .before .before .before .before .args .in-d) (c .before .before .before .before .before .before .before .before .before .before .before .before .before .before .before .before .before .args .pool .now) (c .before .before .before .before .before .before .before .before .before .before .before .before .before .before .before .before .before .args .rows .now) (c .before .before .before .before .before .before .before .before .before .before .before .before .before .before .before .before .before .args .output .now) (c .before .before .before .before .before .before .before .before .before .before .before .before .before .before .before .before .before .pre .1) (c .before .before .before .before .before .before .before .before .before .before .before .before .loop .inv (c .before .before .before .before .before .before .before .before .before .before .before .before .before .before .before .before .before .pre .1))
+same-length-3 c =
+    let entry = c .before .before .before .before .before .before .before .before .before .before .before .before .before .before .before .before .before in
+    let a = entry .args in
+    let w = entry .pre .1 in
+    let l = c .before .before .before .before .before .before .before .before .before .before .before .loop in
+    c .before .before .before .before .before .before .put-envelope .kept .1 .1 .1 .1 .1 .1 .1 .0 ∙ writing-length (a .in-d) (a .pool .now) (a .rows .now) (a .lengths .now) (a .output .now) w (l .inv w)
 
 returns-3 : tie.Need-returns-3 Inv-loop μ-loop
-returns-3 c = writing-ends (c .before .before .before .before .before .before .before .before .before .before .before .before .before .before .before .before .before .args .in-d) (c .before .before .before .before .before .before .before .before .before .before .before .before .before .before .before .before .before .args .pool .now) (c .before .before .before .before .before .before .before .before .before .before .before .before .before .before .before .before .before .args .rows .now) (c .before .before .before .before .before .before .before .before .before .before .before .before .before .before .before .before .before .args .output .now) (c .before .before .before .before .before .before .before .before .before .before .before .before .before .before .before .before .before .pre .1) (c .before .before .before .before .before .before .before .before .before .before .before .before .loop .inv (c .before .before .before .before .before .before .before .before .before .before .before .before .before .before .before .before .before .pre .1)) (c .before .before .before .before .before .before .before .before .before .before .before .open-at .ensures) (c .before .before .before .before .before .before .before .before .before .before .if1 .left) (ends-here (c .before .before .before .before .before .before .before .before .before .before .before .before .before .before .before .before .before .args .in-d) (c .before .before .before .before .before .before .before .before .before .before .before .before .before .before .before .before .before .args .pool .now) (c .before .before .before .before .before .before .before .before .before .before .before .before .before .before .before .before .before .args .rows .now) (c .before .before .before .before .before .before .before .before .before .before .before .before .loop .i) (c .before .before .before .before .before .before .before .before .before .before .before .open-at .ensures) (c .before .before .before .before .before .before .before .before .before .before .if1 .left) (c .before .before .before .before .before .before .before .before .before .start-of .ensures) (c .before .before .before .before .before .before .before .before .measure .result) (c .before .before .before .before .before .before .before .before .measure .ensures) (c .before .before .before .before .before .before .r .given .1)) (c .before .before .before .put-envelope .ensures) (c .if2 .taken)
+returns-3 c =
+    let entry = c .before .before .before .before .before .before .before .before .before .before .before .before .before .before .before .before .before in
+    let a = entry .args in
+    let w = entry .pre .1 in
+    let l = c .before .before .before .before .before .before .before .before .before .before .before .loop in
+    let o = c .before .before .before .before .before .before .before .before .before .before .open-at .ensures in
+    let h = c .before .before .before .before .before .before .before .before .before .if1 .left in
+    let x = c .before .before .before .before .before .before .put-envelope .ensures in
+    let z = measured-ended (here (a .in-d) (a .pool .now) (a .rows .now) (l .i) o h) (a .pool .now) (a .rows .now) (c .before .before .r .given .1) (x .inside) in
+    writing-ends (a .in-d) (a .pool .now) (a .rows .now) (a .lengths .now) (a .output .now) w (l .inv w) o h z x (c .if2 .taken)
+
+add-k : tie.Need-add-k Inv-loop μ-loop
+add-k c =
+    let entry = c .before .before .before .before .before .before .before .before .before .before .before .before .before .before .before .before .before in
+    let a = entry .args in
+    let w = entry .pre .1 in
+    let l = c .before .before .before .before .before .before .before .before .before .before .before .loop in
+    let o = c .before .before .before .before .before .before .before .before .before .before .open-at .ensures in
+    let h = c .before .before .before .before .before .before .before .before .before .if1 .left in
+    omega (arith, writing-noted (a .in-d) (a .pool .now) (a .rows .now) (a .lengths .now) (a .output .now) w (l .inv w) o h .0, w .long)
+
+size-of-requires : tie.Need-size-of-requires Inv-loop μ-loop
+size-of-requires c κs =
+    let entry = c .before .before .before .before .before .before .before .before .before .before .before .before .before .before .before .before .before in
+    let a = entry .args in
+    let w = entry .pre .1 in
+    let l = c .before .before .before .before .before .before .before .before .before .before .before .loop in
+    let o = c .before .before .before .before .before .before .before .before .before .before .open-at .ensures in
+    let h = c .before .before .before .before .before .before .before .before .before .if1 .left in
+    writing-noted (a .in-d) (a .pool .now) (a .rows .now) (a .lengths .now) (a .output .now) w (l .inv w) o h .2
+
+add-at : tie.Need-add-at Inv-loop μ-loop
+add-at c =
+    let entry = c .before .before .before .before .before .before .before .before .before .before .before .before .before .before .before .before .before .before in
+    let a = entry .args in
+    let w = entry .pre .1 in
+    let l = c .before .before .before .before .before .before .before .before .before .before .before .before .loop in
+    let o = c .before .before .before .before .before .before .before .before .before .before .before .open-at .ensures in
+    let h = c .before .before .before .before .before .before .before .before .before .before .if1 .left in
+    let n = writing-noted (a .in-d) (a .pool .now) (a .rows .now) (a .lengths .now) (a .output .now) w (l .inv w) o h .1 in
+    let s = c .size-of .ensures .0 in
+    search needs
 
 loop-less : tie.Need-loop-less Inv-loop μ-loop
-loop-less c = omega (arith, ends-later (c .before .before .before .before .before .before .before .before .before .before .before .before .before .before .before .before .before .args .in-d) (c .before .before .before .before .before .before .before .before .before .before .before .before .before .before .before .before .before .args .pool .now) (c .before .before .before .before .before .before .before .before .before .before .before .before .before .before .before .before .before .args .rows .now) (c .before .before .before .before .before .before .before .before .before .before .before .before .loop .i) (c .before .before .before .before .before .before .before .before .before .before .before .open-at .ensures) (record { left = 0; total = 0; over = false; first = 0 }) (c .before .before .before .before .before .before .before .before .before .before .if1 .left) (ends-here (c .before .before .before .before .before .before .before .before .before .before .before .before .before .before .before .before .before .args .in-d) (c .before .before .before .before .before .before .before .before .before .before .before .before .before .before .before .before .before .args .pool .now) (c .before .before .before .before .before .before .before .before .before .before .before .before .before .before .before .before .before .args .rows .now) (c .before .before .before .before .before .before .before .before .before .before .before .before .loop .i) (c .before .before .before .before .before .before .before .before .before .before .before .open-at .ensures) (c .before .before .before .before .before .before .before .before .before .before .if1 .left) (c .before .before .before .before .before .before .before .before .before .start-of .ensures) (c .before .before .before .before .before .before .before .before .measure .result) (c .before .before .before .before .before .before .before .before .measure .ensures) (c .before .before .before .before .before .before .r .given .1)), (ends-here (c .before .before .before .before .before .before .before .before .before .before .before .before .before .before .before .before .before .args .in-d) (c .before .before .before .before .before .before .before .before .before .before .before .before .before .before .before .before .before .args .pool .now) (c .before .before .before .before .before .before .before .before .before .before .before .before .before .before .before .before .before .args .rows .now) (c .before .before .before .before .before .before .before .before .before .before .before .before .loop .i) (c .before .before .before .before .before .before .before .before .before .before .before .open-at .ensures) (c .before .before .before .before .before .before .before .before .before .before .if1 .left) (c .before .before .before .before .before .before .before .before .before .start-of .ensures) (c .before .before .before .before .before .before .before .before .measure .result) (c .before .before .before .before .before .before .before .before .measure .ensures) (c .before .before .before .before .before .before .r .given .1)) .3)
+loop-less c =
+    let entry = c .before .before .before .before .before .before .before .before .before .before .before .before .before .before .before .before .before .before in
+    let a = entry .args in
+    let w = entry .pre .1 in
+    let l = c .before .before .before .before .before .before .before .before .before .before .before .before .loop in
+    let o = c .before .before .before .before .before .before .before .before .before .before .before .open-at .ensures in
+    let h = c .before .before .before .before .before .before .before .before .before .before .if1 .left in
+    let x = c .before .before .before .before .before .before .before .put-envelope .ensures in
+    let z = measured-ended (here (a .in-d) (a .pool .now) (a .rows .now) (l .i) o h) (a .pool .now) (a .rows .now) (c .before .before .before .r .given .1) (x .inside) in
+    omega (arith, ends-later (a .in-d) (a .pool .now) (a .rows .now) (l .i) o (record { left = 0; total = 0; over = false; first = 0 }) h z, z .3)
 
 loop-again : tie.Need-loop-again Inv-loop μ-loop
-loop-again c = λ w. writing-on (c .before .before .before .before .before .before .before .before .before .before .before .before .before .before .before .before .before .args .in-d) (c .before .before .before .before .before .before .before .before .before .before .before .before .before .before .before .before .before .args .pool .now) (c .before .before .before .before .before .before .before .before .before .before .before .before .before .before .before .before .before .args .rows .now) (c .before .before .before .before .before .before .before .before .before .before .before .before .before .before .before .before .before .args .output .now) w (c .before .before .before .before .before .before .before .before .before .before .before .before .loop .inv w) (c .before .before .before .before .before .before .before .before .before .before .before .open-at .ensures) (c .before .before .before .before .before .before .before .before .before .before .if1 .left) (ends-here (c .before .before .before .before .before .before .before .before .before .before .before .before .before .before .before .before .before .args .in-d) (c .before .before .before .before .before .before .before .before .before .before .before .before .before .before .before .before .before .args .pool .now) (c .before .before .before .before .before .before .before .before .before .before .before .before .before .before .before .before .before .args .rows .now) (c .before .before .before .before .before .before .before .before .before .before .before .before .loop .i) (c .before .before .before .before .before .before .before .before .before .before .before .open-at .ensures) (c .before .before .before .before .before .before .before .before .before .before .if1 .left) (c .before .before .before .before .before .before .before .before .before .start-of .ensures) (c .before .before .before .before .before .before .before .before .measure .result) (c .before .before .before .before .before .before .before .before .measure .ensures) (c .before .before .before .before .before .before .r .given .1)) (c .before .before .before .put-envelope .ensures) (c .if2 .left)
+loop-again c =
+    let entry = c .before .before .before .before .before .before .before .before .before .before .before .before .before .before .before .before .before .before in
+    let a = entry .args in
+    let w = entry .pre .1 in
+    let l = c .before .before .before .before .before .before .before .before .before .before .before .before .loop in
+    let o = c .before .before .before .before .before .before .before .before .before .before .before .open-at .ensures in
+    let h = c .before .before .before .before .before .before .before .before .before .before .if1 .left in
+    let x = c .before .before .before .before .before .before .before .put-envelope .ensures in
+    let z = measured-ended (here (a .in-d) (a .pool .now) (a .rows .now) (l .i) o h) (a .pool .now) (a .rows .now) (c .before .before .before .r .given .1) (x .inside) in
+    λ w. writing-on (a .in-d) (a .pool .now) (a .rows .now) (a .lengths .now) (a .output .now) w (l .inv w) o h z x (c .size-of .ensures .0) (c .before .if2 .left)
 
 pub put-all-spec : {M : Type 1} → statement M
 put-all-spec =
@@ -77,15 +190,18 @@ put-all-spec =
     open-at-requires
     same-length
     returns
-    add-from
-    start-of-requires
-    measure-requires
+    mul-many
+    shared-slice-read-many
+    add-put-envelope
+    put-envelope-requires
     enum-known-r
     enum-told
     same-length-2
     returns-2
-    put-envelope-requires
     same-length-3
     returns-3
+    add-k
+    size-of-requires
+    add-at
     loop-less
     loop-again)
