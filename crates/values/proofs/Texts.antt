@@ -1,15 +1,15 @@
 -- A text at a place in the input, by its next byte, and by a run of bytes that are all text.
 use Prim.Native.Nat.{ℕ, zero, suc, _+_, _-_, _≤_, _<_}
 use mathlib.Core.List.{List}
-use mathlib.Core.Bool.{true, false}
-use mathlib.Core.Path.{_≡_, refl, ap, _∙_}
+use mathlib.Core.Bool.{Bool, true, false, _&&_, and-assoc}
+use mathlib.Core.Path.{_≡_, refl, ap, sym, _∙_}
 use native.Mathlib.Omega.{arith}
 use borrow.Author.Tests.{ne-eqb, le-leb, lt-leb, leb-true}
 use lib.Dec.{eqb}
 use lib.ListN.{length, getD}
-use Rattle.meaning.specs.Bytes.{textByte, takeText}
+use Rattle.meaning.specs.Bytes.{Taken, took, failed, textByte, takeText}
 use Rattle.laws.specs.From.{from, from-length, from-end, from-cons}
-use Rattle.values.specs.Stages.{spans, misses, span, textRun}
+use Rattle.values.specs.Stages.{spans, misses, span, Skipped, textRun}
 use Rattle.values.proofs.Logic.{both-hold}
 use Rattle.values.specs.Answers.{span-prefixed}
 
@@ -31,10 +31,10 @@ module _ (s : List ℕ) (end : ℕ) (l : end ≤ length s) (at i : ℕ) (g : at 
   unfolding takeText
   text-stops h z = rw (from-cons s i end h l, z) (ap (λ (x : ℕ). spans x (from s (i + 1) end)) (omega arith))
 
-  pub text-wrong : i < end → (getD s i 0 ≡ 0 → ⊥) → getD s i 0 < 32 → span (i - at) (takeText (from s i end)) ≡ misses 8 (end - i)
+  pub text-wrong : i < end → (getD s i 0 ≡ 0 → ⊥) → textByte (getD s i 0) ≡ false → span (i - at) (takeText (from s i end)) ≡ misses 8 (end - i)
   unfolding takeText
   text-wrong h z b =
-      rw (from-cons s i end h l, ne-eqb (getD s i 0) 0 z, no-text (getD s i 0) b) (ap (misses 8) (omega (arith, from-length s (i + 1) end (omega arith) l)))
+      rw (from-cons s i end h l, ne-eqb (getD s i 0) 0 z, b) (ap (misses 8) (omega (arith, from-length s (i + 1) end (omega arith) l)))
 
   pub text-goes : i < end → textByte (getD s i 0) ≡ true → span (i - at) (takeText (from s i end)) ≡ span (i + 1 - at) (takeText (from s (i + 1) end))
   unfolding takeText
@@ -56,3 +56,51 @@ text-runs s end l at i (suc n) g h b =
     let (before, last) = both-hold (textRun s i n) (textByte (getD s (i + suc n) 0)) b in
     let q : i + suc n + 1 ≡ i + suc (suc n) = omega arith in
     text-runs s end l at i n g (omega arith) before ∙ text-goes s end l at (i + suc n) (omega arith) (omega arith) last ∙ rw q refl
+
+-- the place behind a run
+pub run-skipped : (s : List ℕ) (end : ℕ) → end ≤ length s → (at n : ℕ) → at + n < end → textRun s at n ≡ true → Skipped s end at (at + suc n)
+run-skipped s end l at n h b =
+    let q : 0 ≡ at - at = omega arith in
+    record {
+      inside = omega arith;
+      before = omega arith;
+      is = ap (λ (x : ℕ). span x (takeText (from s at end))) q ∙ text-runs s end l at at n (omega arith) h b;
+    }
+
+pub skipped-none : (s : List ℕ) (end at : ℕ) → at ≤ end → Skipped s end at at
+skipped-none s end at h = let q : 0 ≡ at - at = omega arith in record { inside = omega arith; before = h; is = ap (λ (x : ℕ). span x (takeText (from s at end))) q }
+
+-- one stretch behind another
+span-behind : (n m : ℕ) (t u : Taken) → span 0 t ≡ span n u → span m t ≡ span (m + n) u
+span-behind n m (took v rest) (took w left) q =
+    let a : 0 + length v ≡ n + length w = cc q in let b : rest ≡ left = cc q in let e : m + length v ≡ m + n + length w = omega arith in
+    ap (spans (m + length v)) b ∙ ap (λ (k : ℕ). spans k left) e
+span-behind n m (took v rest) (failed r k) q = let z : _≡_ {A = ℕ} 0 1 = cc q in absurd (omega arith)
+span-behind n m (failed r k) (took v rest) q = let z : _≡_ {A = ℕ} 0 1 = cc q in absurd (omega arith)
+span-behind n m (failed r k) (failed r₁ k₁) q = q
+
+pub skipped-on : {s : List ℕ} {end at i k : ℕ} → Skipped s end at i → Skipped s end i k → Skipped s end at k
+skipped-on {s} {end} {at} {i} {k} a b =
+    let e : i - at + (k - i) ≡ k - at = omega (arith, a .inside, b .inside) in
+    record {
+      inside = omega (arith, a .inside, b .inside);
+      before = b .before;
+      is = a .is ∙ span-behind (k - i) (i - at) (takeText (from s i end)) (takeText (from s k end)) (b .is) ∙ ap (λ (x : ℕ). span x (takeText (from s k end))) e;
+    }
+
+-- two runs, one behind the other
+pub runs-join : (s : List ℕ) (i n m : ℕ) → (textRun s i n && textRun s (i + suc n) m) ≡ textRun s i (suc n + m)
+unfolding textRun
+runs-join s i n zero = let q : n ≡ n + 0 = omega arith in let p : suc n + 0 ≡ suc n = omega arith in sym (ap (textRun s i) p)
+runs-join s i n (suc m) =
+    let q : i + suc n + suc m ≡ i + suc (suc n + m) = omega arith in
+    let p : suc n + suc m ≡ suc (suc n + m) = omega arith in
+    sym (and-assoc (textRun s i n) (textRun s (i + suc n) m) (textByte (getD s (i + suc n + suc m) 0)))
+    ∙ ap (λ (b : Bool). b && textByte (getD s (i + suc n + suc m) 0)) (runs-join s i n m) ∙ ap (λ (k : ℕ). textRun s i (suc n + m) && textByte (getD s k 0)) q ∙ sym (ap (textRun s i) p)
+
+pub two-runs : (s : List ℕ) (i n : ℕ) {a b : Bool} → a ≡ textRun s i n → b ≡ textRun s (i + suc n) n → (a && b) ≡ textRun s i (suc n + n)
+two-runs s i n {a} {b} p q = ap (λ (x : Bool). x && b) p ∙ ap (λ (x : Bool). textRun s i n && x) q ∙ runs-join s i n n
+
+pub one-text : (s : List ℕ) (i : ℕ) → 32 ≤ getD s i 0 → textRun s i 0 ≡ true
+unfolding textRun
+one-text s i h = is-text (getD s i 0) h

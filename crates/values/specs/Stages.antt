@@ -66,6 +66,11 @@ pub record Skipped (s : List ℕ) (end at place : ℕ) : Type 0 where
   pub before : place ≤ end
   pub is : span 0 (takeText (from s at end)) ≡ span (place - at) (takeText (from s place end))
 
+-- the first place whose byte is no text, or the end
+pub record Run (s : List ℕ) (end at place : ℕ) : Type 0 where
+  pub skipped : Skipped s end at place
+  pub stops : place < end → textByte (getD s place 0) ≡ false
+
 -- whether a byte, and so many behind it, are text
 unfoldable pub textRun : List ℕ → ℕ → ℕ → Bool
 textRun s at zero = textByte (getD s at 0)

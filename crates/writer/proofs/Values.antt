@@ -6,17 +6,17 @@ use Prim.Native.Nat.{ℕ, suc, _+_, _-_, _≤_, _<_}
 use native.Mathlib.Omega.{arith}
 use lib.Dec.{T, eqb, leb, ltb}
 use lib.ListN.{length, getD}
-use borrow.Author.Tests.{eq-eqb, ne-eqb, eqb-true, le-leb, ltb-true, leb-false, leb-true}
+use borrow.Author.Tests.{ne-eqb, eqb-true, le-leb, ltb-true, leb-false, leb-true}
 use Rattle.meaning.specs.Basics.{pick, isEmpty}
 use Rattle.meaning.specs.Bytes.{Taken, took, failed, prefixed, textByte, takeText, textOk, numberOk, takeNumber, dateOk, takeDate, Check, blockOk, lengthBytes, oneByte, Width, fewest, past}
 use Rattle.meaning.specs.Editions.{Form, block, itself, opens, quiet}
 use Rattle.meaning.specs.Writing.{isOnly, valid, writeValue}
 use Rattle.laws.specs.Logic.{is-true}
-use Rattle.laws.specs.From.{from, from-length, from-end}
+use Rattle.laws.specs.From.{from, from-length, from-end, from-cons}
 use Rattle.laws.specs.Values.{Was, text-byte-above, date-in, date-out, number-in, number-out}
 use Rattle.values.specs.declared.Value.{Value}
 use Rattle.values.specs.declared.Value.the-variants.{Is, Refused}
-use Rattle.values.specs.Stages.{span, spans, misses, Valued}
+use Rattle.values.specs.Stages.{Span, span, spans, misses, Valued, Run}
 use Rattle.values.specs.Answers.{valued-at, valued-refused}
 use Rattle.writer.specs.Moves.{formOf}
 use Rattle.writer.specs.Laying.{view}
@@ -72,49 +72,36 @@ view-from pool start many = let q : start + many - start ≡ many = omega arith 
 
 -- A text whose end alone is missing
 
-same-test : (x y z : ℕ) → z ≡ x - y → leb x y ≡ eqb z 0
-same-test x y z q = at (leb x y) refl
-  where
-    at : (b : Bool) → leb x y ≡ b → b ≡ eqb z 0
-    at true e = let h = leb-true x y e in sym (eq-eqb z 0 (omega arith))
-    at false e = let h = leb-false x y e in sym (ne-eqb z 0 (λ w. omega arith))
+abbrev wantsEnd : Span → Bool
+wantsEnd (spans n rest) = false
+wantsEnd (misses refusal left) = eqb left 0
 
-abbrev wantsEnd : Taken → Bool
-wantsEnd (took v rest) = false
-wantsEnd (failed refusal left) = eqb left 0
+wants-more : (b n m : ℕ) (t : Taken) → wantsEnd (span n (prefixed b t)) ≡ wantsEnd (span m t)
+wants-more b n m (took v rest) = refl
+wants-more b n m (failed refusal left) = refl
 
-wants-more : (b : ℕ) (t : Taken) → wantsEnd (prefixed b t) ≡ wantsEnd t
-wants-more b (took v rest) = refl
-wants-more b (failed refusal left) = refl
-
-text-wants : (v : List ℕ) → wantsEnd (takeText v) ≡ textOk v
+text-wants : (n : ℕ) (v : List ℕ) → wantsEnd (span n (takeText v)) ≡ textOk v
 unfolding takeText textOk
-text-wants [] = refl
-text-wants (b ∷ v) = at (eqb b 0) refl (textByte b) refl (text-wants v)
+text-wants n [] = refl
+text-wants n (b ∷ v) = at (eqb b 0) refl (textByte b) refl (text-wants n v)
   where
-    at : (z : Bool) → eqb b 0 ≡ z → (l : Bool) → textByte b ≡ l → wantsEnd (takeText v) ≡ textOk v → wantsEnd (pick z (took [] v) (pick l (prefixed b (takeText v)) (failed 8 (suc (length v))))) ≡ (l && textOk v)
+    at : (z : Bool) → eqb b 0 ≡ z → (l : Bool) → textByte b ≡ l → wantsEnd (span n (takeText v)) ≡ textOk v → wantsEnd (span n (pick z (took [] v) (pick l (prefixed b (takeText v)) (failed 8 (suc (length v)))))) ≡ (l && textOk v)
     at true q true e i = let h = text-byte-above b (subst T (sym e) tt) in let z = eqb-true b 0 q in absurd (omega arith)
     at true q false e i = refl
-    at false q true e i = wants-more b (takeText v) ∙ i
+    at false q true e i = wants-more b n n (takeText v) ∙ i
     at false q false e i = ne-eqb (suc (length v)) 0 (λ x. omega arith)
 
-module _ (pool : List ℕ) (start many : ℕ) {kind back : ℕ} {r : Value} (a : Valued pool (start + many) start kind back (takeText (from pool start (start + many))) r) where
-  wants : wantsEnd (takeText (from pool start (start + many))) ≡ textOk (view pool start many)
-  wants = text-wants (from pool start (start + many)) ∙ ap textOk (view-from pool start many)
-
-  pub text-whole : {refusal at : ℕ} → r ≡ Refused refusal at → leb (start + many) at ≡ textOk (view pool start many)
-  text-whole {refusal} {at} q = by (takeText (from pool start (start + many))) (valued-refused a q .0) ∙ wants
-    where
-      by : (t : Taken) → span 0 t ≡ misses refusal (start + many - at) → leb (start + many) at ≡ wantsEnd t
-      by (took v rest) e = let z : _≡_ {A = ℕ} 0 1 = cc e in absurd (omega arith)
-      by (failed refusal₁ left) e = let l : left ≡ start + many - at = cc e in same-test (start + many) at left l
-
-  pub text-ended : {kd s n after : ℕ} → r ≡ Is kd s n after → false ≡ textOk (view pool start many)
-  text-ended {kd} {s} {n} {after} q = by (takeText (from pool start (start + many))) (valued-at a q .0) ∙ wants
-    where
-      by : (t : Taken) → span 0 t ≡ spans n (from pool after (start + many)) → false ≡ wantsEnd t
-      by (took v rest) e = refl
-      by (failed refusal left) e = let z : _≡_ {A = ℕ} 0 1 = cc e in absurd (omega arith)
+pub text-run : (pool : List ℕ) (start many : ℕ) → start + many ≤ length pool → {place : ℕ} → Run pool (start + many) start place → leb (start + many) place ≡ textOk (view pool start many)
+unfolding textOk
+text-run pool start many h {place} r =
+    at (leb (start + many) place) refl ∙ sym (text-wants (place - start) (from pool place (start + many)))
+    ∙ sym (ap wantsEnd (r .skipped .is)) ∙ text-wants 0 (from pool start (start + many)) ∙ ap textOk (view-from pool start many)
+  where
+    at : (b : Bool) → leb (start + many) place ≡ b → b ≡ textOk (from pool place (start + many))
+    at true q = sym (ap textOk (from-end pool place (start + many) (leb-true (start + many) place q)))
+    at false q =
+        let l = leb-false (start + many) place q in
+        sym (ap textOk (from-cons pool place (start + many) l h) ∙ ap (λ (x : Bool). x && textOk (from pool (place + 1) (start + many))) (r .stops l))
 
 -- A number, a date
 

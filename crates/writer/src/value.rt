@@ -31,17 +31,13 @@ pub fn valid_for(form: usize, code: usize, pool: &[u8], start: usize, many: usiz
     }
 }
 
-// "Text: bytes 20 to FF": the reader's own stage comes to the end of the view, and only asks for its 00.
+// "Text: bytes 20 to FF": the reader's own run comes to the end of the view.
 fn text_ok(pool: &[u8], start: usize, many: usize) -> bool
     requires { ⌜ start + many ≤ length (now pool) ⌝ }
     ensures { λ r. ⌜ r ≡ textOk (view (now (pool .entry)) start many) ⌝ }
 {
     let end = start + many;
-    let r = values::text::take(pool, end, start, 0);
-    let Value::Refused { refusal: _, at } = r else {
-        return false;
-    };
-    end <= at
+    end <= values::text::run(pool, end, start)
 }
 
 // The reader's own stage takes all of the view.

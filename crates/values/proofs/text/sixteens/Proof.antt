@@ -1,4 +1,4 @@
--- `text::skip` passes text alone: the invariant is its promise at the place reached, and a turn is one run of sixteen.
+-- `text::sixteens` passes text alone: the invariant is its promise at the place reached, and a turn is one run of sixteen.
 use Prim.Native.Nat.{ℕ, _-_}
 use mathlib.Core.Path.{_≡_, ap, sym, _∙_}
 use native.Mathlib.Omega.{arith}
@@ -6,8 +6,8 @@ use Rattle.meaning.specs.Bytes.{takeText}
 use Rattle.laws.specs.From.{from}
 use Rattle.values.specs.Stages.{span, Skipped}
 use Rattle.values.proofs.Texts.{text-runs}
-use Rattle.values.proofs.text.skip.Statement.{statement}
-use Rattle.values.proofs.text.skip.Tie as tie
+use Rattle.values.proofs.text.sixteens.Statement.{statement}
+use Rattle.values.proofs.text.sixteens.Tie as tie
 
 abbrev Inv-loop : tie.InvT-loop
 Inv-loop s end at i₀ i = Skipped s end at i
@@ -51,8 +51,8 @@ returns c = c .before .before .before .loop .inv
 returns-2 : tie.Need-returns-2 Inv-loop μ-loop
 returns-2 c = c .before .loop .inv
 
-pub skip-spec : {M : Type 1} → statement M
-skip-spec =
+pub sixteens-spec : {M : Type 1} → statement M
+sixteens-spec =
     tie.close
     (tie.spec
     Inv-loop

@@ -1,0 +1,32 @@
+-- `text::past_eight`: a run of eight, or none.
+use Rattle.values.proofs.Texts.{run-skipped, skipped-none}
+use mathlib.Core.Path.{_∙_, sym}
+use native.Mathlib.Omega.{arith}
+use borrow.Author.Needs.{needs}
+use Rattle.values.proofs.text.past_eight.Statement.{statement}
+use Rattle.values.proofs.text.past_eight.Tie as tie
+
+sub-if1 : tie.Need-sub-if1
+sub-if1 c = search needs
+
+eight-requires : tie.Need-eight-requires
+eight-requires c κs = search needs
+
+add-result : tie.Need-add-result
+add-result c = search needs
+
+returns : tie.Need-returns
+returns c =
+    let entry = c .before .before .before .before in
+    let a = entry .args in
+    run-skipped (a .s .now) (a .end) (entry .pre .whole) (a .at) 7 (omega (arith, c .before .before .if1 .taken)) (sym (c .before .eight .ensures) ∙ c .if2 .taken)
+
+returns-2 : tie.Need-returns-2
+returns-2 c = let entry = c .before .before .before .before in skipped-none (entry .args .s .now) (entry .args .end) (entry .args .at) (entry .pre .before)
+
+returns-3 : tie.Need-returns-3
+returns-3 c = let entry = c .before .before in skipped-none (entry .args .s .now) (entry .args .end) (entry .args .at) (entry .pre .before)
+
+pub past-eight-spec : {M : Type 1} → statement M
+past-eight-spec =
+    tie.close (tie.spec sub-if1 eight-requires add-result returns returns-2 returns-3)
