@@ -5,7 +5,7 @@ use mathlib.Core.List.{List, [], _∷_, _++_, append-assoc}
 use Prim.Native.Nat.{ℕ, suc, _+_, _-_, _/_, _%_, _≤_, _<_}
 use native.Mathlib.Omega.{arith}
 use native.Mathlib.Numerals.{add-one}
-use lib.ListN.{length}
+use lib.ListN.{length, take, drop}
 use lib.Dec.{eqb}
 use borrow.Author.Tests.{le-leb, lt-leb, eq-eqb, ne-eqb}
 use Rattle.meaning.specs.Basics.{pick}
@@ -13,7 +13,7 @@ use Rattle.meaning.specs.Editions.{Edition, State}
 use Rattle.meaning.specs.Reading.{Row}
 use Rattle.meaning.specs.Writing.{Fit, unfit, fits, fitRow, close, Cell, cell, broken, Opens, envelopeRow, innerRow, opensOf}
 use Rattle.meaning.specs.Memory.{cellOf}
-use Rattle.writer.specs.Laying.{view, rowWith, Laid, Layable}
+use Rattle.writer.specs.Laying.{rowWith, Laid, Layable}
 use Rattle.writer.specs.Fitting.{stateOf, Good, FitIs, CloseIs}
 use Rattle.writer.specs.Bodies.{rowCell, cellsFor, cellsAt, Body, halt, body, onBody, sealBody, rowBody, cellBody, bodyOf, opensNumber, openNumber, BodyIs, BodyOnto, Words}
 use Rattle.writer.specs.declared.body.Numbers.{Numbers}
@@ -36,8 +36,16 @@ module _ (pool rows : List ℕ) {i : ℕ} {r : Numbers} (h : i < length rows / 4
   row-cell : rowCell pool rows i ≡ cellOf pool (r .kind) (r .level) (r .start) (r .many)
   row-cell = rw (w .kind-is, w .level-is, w .start-is, w .many-is) refl
 
-  pub cell-in : r .start + r .many ≤ length pool → cellsAt pool rows i ≡ cell (rowWith (r .kind) (r .level) (view pool (r .start) (r .many))) ∷ cellsAt pool rows (i + 1)
-  cell-in k = cells-next pool rows i h ∙ ap (λ (x : Cell). x ∷ cellsAt pool rows (i + 1)) (row-cell ∙ rw (le-leb (r .start + r .many) (length pool) k) refl)
+  -- the bytes that the row views, as the part of the pool up to their end
+  abbrev pub viewed : List ℕ
+  viewed = take (r .start + r .many - r .start) (drop (r .start) pool)
+
+  pub cell-in : r .start + r .many ≤ length pool → cellsAt pool rows i ≡ cell (rowWith (r .kind) (r .level) viewed) ∷ cellsAt pool rows (i + 1)
+  cell-in k =
+      let q : r .many ≡ r .start + r .many - r .start = omega arith in
+      cells-next pool rows i h
+      ∙ ap (λ (x : Cell). x ∷ cellsAt pool rows (i + 1))
+      (row-cell ∙ (rw (le-leb (r .start + r .many) (length pool) k) refl) ∙ ap (λ (n : ℕ). cell (rowWith (r .kind) (r .level) (take n (drop (r .start) pool)))) q)
 
   pub cell-out : length pool < r .start + r .many → cellsAt pool rows i ≡ broken ∷ cellsAt pool rows (i + 1)
   cell-out k = cells-next pool rows i h ∙ ap (λ (x : Cell). x ∷ cellsAt pool rows (i + 1)) (row-cell ∙ rw (lt-leb (r .start + r .many) (length pool) k) refl)

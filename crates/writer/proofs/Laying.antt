@@ -5,13 +5,13 @@ use mathlib.Core.List.{List, [], _∷_, _++_}
 use Prim.Native.Nat.{ℕ, zero, suc, _+_, _-_, _/_, _%_, _≤_, _<_}
 use native.Mathlib.Omega.{arith}
 use native.Mathlib.Numerals.{add-one}
-use lib.ListN.{length, take, drop, getD, set, length-append, length-drop, length-set}
-use lib.Seq.{sets, length-sets, set-out, drop-cons, take-nil, take-suc, take-take, getD-drop, length-take-le}
+use lib.ListN.{length, take, getD, set, length-append, length-set}
+use lib.Seq.{sets, length-sets, set-out, take-nil, take-suc, take-length, length-take-le}
 use lib.Dec.{ltb}
 use borrow.Author.Tests.{le-ltb, ltb-true, ltb-false}
 use Rattle.meaning.specs.Basics.{pick}
 use Rattle.meaning.specs.Bytes.{lengthBytes, twoBytes, fourBytes}
-use Rattle.writer.specs.Laying.{view, capped, one, Laid, Layable, fittingOf}
+use Rattle.writer.specs.Laying.{capped, one, Laid, Layable, fittingOf}
 
 pub capped-id : (n : ℕ) → n ≤ 1048576 → n ≡ capped n
 capped-id n h = at (ltb n 1048576) refl
@@ -87,34 +87,13 @@ module _ {m : List ℕ} {at : ℕ} {bs m₁ : List ℕ} {p₁ : ℕ} (l : Laid m
         counted = k .counted ∙ ap (λ (x : ℕ). capped (x + length cs)) (l .counted) ∙ capped-add (at + length bs) (length cs) ∙ ap capped e;
       }
 
--- The bytes that a row views
+-- Bytes laid one by one
 
-pub view-length : (pool : List ℕ) (start many : ℕ) → start + many ≤ length pool → length (view pool start many) ≡ many
-view-length pool start many h = length-take-le many (drop start pool) (omega (arith, length-drop start pool))
-
-view-cons : (pool : List ℕ) (start n : ℕ) → start < length pool → view pool start (suc n) ≡ getD pool start 0 ∷ view pool (suc start) n
-view-cons pool start n h = rw (drop-cons pool start 0 h) refl
-
-pub view-at : (pool : List ℕ) (start many : ℕ) → start + many ≤ length pool → 0 < many → view pool start many ≡ getD pool start 0 ∷ view pool (start + 1) (many - 1)
-view-at pool start many h k =
-    let q : many ≡ suc (many - 1) = omega arith in
-    ap (view pool start) q ∙ view-cons pool start (many - 1) (omega arith) ∙ ap (λ (n : ℕ). getD pool start 0 ∷ view pool n (many - 1)) (sym (add-one start))
-
-pub view-single : (pool : List ℕ) (start many : ℕ) → start + many ≤ length pool → many ≡ 1 → view pool start many ≡ getD pool start 0 ∷ []
-view-single pool start many h q =
-    let z : many - 1 ≡ 0 = omega arith in
-    view-at pool start many h (omega arith) ∙ ap (λ (n : ℕ). getD pool start 0 ∷ view pool (start + 1) n) z
-
-view-next : (pool : List ℕ) (start i : ℕ) → start + i < length pool → view pool start (i + 1) ≡ view pool start i ++ one (getD pool (start + i) 0)
-view-next pool start i h =
-    ap (view pool start) (add-one i) ∙ take-suc (drop start pool) i 0 (omega (arith, length-drop start pool)) ∙ ap (λ (b : ℕ). view pool start i ++ one b) (getD-drop start pool i 0)
-
--- a view laid byte by byte
-pub lay-on : (pool : List ℕ) (start i : ℕ) (m₀ : List ℕ) (at : ℕ) {m : List ℕ} → start + i < length pool → m ≡ sets m₀ at (view pool start i) → set m (at + i) (getD pool (start + i) 0) ≡ sets m₀ at (view pool start (i + 1))
-lay-on pool start i m₀ at h q =
-    let v = view-length pool start i (omega arith) in
-    ap (λ (x : List ℕ). set x (at + i) (getD pool (start + i) 0)) q ∙ ap (λ (n : ℕ). set (sets m₀ at (view pool start i)) (at + n) (getD pool (start + i) 0)) (sym v)
-    ∙ sym (sets-append m₀ at (view pool start i) (one (getD pool (start + i) 0))) ∙ ap (sets m₀ at) (sym (view-next pool start i h))
+pub lay-on : (v : List ℕ) (i : ℕ) (m₀ : List ℕ) (at : ℕ) {m : List ℕ} → i < length v → m ≡ sets m₀ at (take i v) → set m (at + i) (getD v i 0) ≡ sets m₀ at (take (i + 1) v)
+lay-on v i m₀ at h q =
+    let l = length-take-le i v (omega arith) in
+    ap (λ (x : List ℕ). set x (at + i) (getD v i 0)) q ∙ ap (λ (n : ℕ). set (sets m₀ at (take i v)) (at + n) (getD v i 0)) (sym l)
+    ∙ sym (sets-append m₀ at (take i v) (one (getD v i 0))) ∙ ap (sets m₀ at) (sym (take-suc v i 0 h) ∙ ap (λ (n : ℕ). take n v) (sym (add-one i)))
 
 -- what has no room is not laid
 sets-front : (m : List ℕ) (at : ℕ) (bs : List ℕ) (k : ℕ) → length m ≤ at + k → sets m at (take k bs) ≡ sets m at bs
@@ -129,20 +108,14 @@ fitting-most many at room = by (ltb (room - at) many) refl
     by true q = let h = ltb-true (room - at) many q in (omega arith, omega arith)
     by false q = let h = ltb-false (room - at) many q in (omega arith, omega arith)
 
-pub copied : (pool : List ℕ) (start many : ℕ) (m : List ℕ) (at : ℕ) {n p : ℕ} {m₁ : List ℕ} → start + many ≤ length pool → n ≡ fittingOf many at (length m) → m₁ ≡ sets m at (view pool start n) → p ≡ capped (at + many) → Laid m at (view pool start many) m₁ p
-copied pool start many m at {n} h f q c =
-    record {
-      memory = q ∙ by (ltb (length m - at) many) refl;
-      counted = c ∙ ap (λ (k : ℕ). capped (at + k)) (sym (view-length pool start many h));
-    }
+pub copied : (v m : List ℕ) (at : ℕ) {n p : ℕ} {m₁ : List ℕ} → n ≡ fittingOf (length v) at (length m) → m₁ ≡ sets m at (take n v) → p ≡ capped (at + length v) → Laid m at v m₁ p
+copied v m at {n} f q c = record { memory = q ∙ by (ltb (length m - at) (length v)) refl; counted = c }
   where
-    by : (b : Bool) → ltb (length m - at) many ≡ b → sets m at (view pool start n) ≡ sets m at (view pool start many)
+    by : (b : Bool) → ltb (length m - at) (length v) ≡ b → sets m at (take n v) ≡ sets m at v
     by true e =
-        let k = ltb-true (length m - at) many e in
-        let z : n ≡ length m - at = f ∙ ap (λ (b : Bool). pick b (length m - at) many) e in
-        ap (λ (x : ℕ). sets m at (view pool start x)) z ∙ ap (sets m at) (sym (take-take (length m - at) many (drop start pool) (omega arith)))
-        ∙ sets-front m at (view pool start many) (length m - at) (omega arith)
-    by false e = ap (λ (x : ℕ). sets m at (view pool start x)) (f ∙ ap (λ (b : Bool). pick b (length m - at) many) e)
+        let z : n ≡ length m - at = f ∙ ap (λ (b : Bool). pick b (length m - at) (length v)) e in
+        ap (λ (x : ℕ). sets m at (take x v)) z ∙ sets-front m at v (length m - at) (omega arith)
+    by false e = ap (λ (x : ℕ). sets m at (take x v)) (f ∙ ap (λ (b : Bool). pick b (length m - at) (length v)) e) ∙ ap (sets m at) (take-length v)
 
 pub capped-past : (n : ℕ) → 1048576 ≤ n → 1048576 ≡ capped n
 capped-past n h = sym (ap (λ (b : Bool). pick b n 1048576) (le-ltb n 1048576 h))

@@ -2,12 +2,12 @@
 use mathlib.Core.Path.{_≡_, refl}
 use mathlib.Core.Bool.{Bool, true, false, _&&_}
 use mathlib.Core.List.{List, [], _∷_}
-use Prim.Native.Nat.{ℕ}
+use Prim.Native.Nat.{ℕ, zero, suc, _≤_, _<_}
 use native.Mathlib.Omega.{arith}
 use lib.Dec.{eqb}
 use lib.ListN.{length}
 use borrow.Author.Tests.{eq-eqb, ne-eqb}
-use Rattle.meaning.specs.Basics.{pick}
+use Rattle.meaning.specs.Basics.{pick, isEmpty}
 use Rattle.meaning.specs.Writing.{opensOf, envelopeRow, innerRow}
 use Rattle.writer.specs.Laying.{rowWith}
 use Rattle.writer.specs.Bodies.{opensNumber}
@@ -32,11 +32,15 @@ opens-by kind level [] l q = rw (eq-eqb level 0 l) (at (eqb kind 1) (eqb kind 2)
     at false false = refl
 opens-by kind level (b ∷ v) l q = absurd (omega arith)
 
-pub first-opens : (kind : ℕ) → kind ≡ 1 → _≡_ {A = ℕ} (pick (eqb kind 1) 1 (pick (eqb kind 2) 2 0)) 1
-first-opens kind q = rw (eq-eqb kind 1 q) refl
+pub opens-kind : (kind : ℕ) → kind ≤ 2 → kind ≡ pick (eqb kind 1) 1 (pick (eqb kind 2) 2 0)
+opens-kind zero h = refl
+opens-kind (suc zero) h = refl
+opens-kind (suc (suc zero)) h = refl
+opens-kind (suc (suc (suc k))) h = absurd (omega arith)
 
-pub second-opens : (kind : ℕ) → (kind ≡ 1 → ⊥) → kind ≡ 2 → _≡_ {A = ℕ} (pick (eqb kind 1) 1 (pick (eqb kind 2) 2 0)) 2
-second-opens kind h q = rw (ne-eqb kind 1 h, eq-eqb kind 2 q) refl
-
-pub none-opens : (kind : ℕ) → (kind ≡ 1 → ⊥) → (kind ≡ 2 → ⊥) → _≡_ {A = ℕ} (pick (eqb kind 1) 1 (pick (eqb kind 2) 2 0)) 0
-none-opens kind h k = rw (ne-eqb kind 1 h, ne-eqb kind 2 k) refl
+pub opens-past : (kind level : ℕ) (v : List ℕ) → 2 < kind → 0 ≡ opensNumber (opensOf (rowWith kind level v))
+opens-past kind level v h = rw (ne-eqb kind 1 (λ q. omega arith), ne-eqb kind 2 (λ q. omega arith)) (at (eqb level 0 && isEmpty v))
+  where
+    at : (b : Bool) → 0 ≡ opensNumber (pick b innerRow innerRow)
+    at true = refl
+    at false = refl

@@ -5,7 +5,8 @@ use mathlib.Core.List.{List, [], _∷_, _++_, append-nil}
 use Prim.Native.Nat.{ℕ, suc, _+_, _-_, _≤_, _<_}
 use native.Mathlib.Omega.{arith}
 use lib.Dec.{T, eqb, leb, ltb}
-use lib.ListN.{length, getD}
+use lib.ListN.{length, take, getD}
+use lib.Seq.{take-length}
 use borrow.Author.Tests.{ne-eqb, eqb-true, le-leb, ltb-true, leb-false, leb-true}
 use Rattle.meaning.specs.Basics.{pick, isEmpty}
 use Rattle.meaning.specs.Bytes.{Taken, took, failed, prefixed, textByte, takeText, textOk, numberOk, takeNumber, dateOk, takeDate, Check, blockOk, lengthBytes, oneByte, Width, fewest, past}
@@ -19,8 +20,6 @@ use Rattle.values.specs.declared.Value.the-variants.{Is, Refused}
 use Rattle.values.specs.Stages.{Span, span, spans, misses, Valued, Run}
 use Rattle.values.specs.Answers.{valued-at, valued-refused}
 use Rattle.writer.specs.Moves.{formOf}
-use Rattle.writer.specs.Laying.{view}
-use Rattle.writer.proofs.Laying.{view-at, view-single, view-length}
 
 -- A value that a stage takes whole, and no other
 
@@ -66,9 +65,9 @@ module _ (stage : List ℕ → Taken) (ok : List ℕ → Bool) (into : (v : List
     pub value-refused : {kind back : ℕ} {r : Value} {refusal place : ℕ} → Valued s end at kind back (stage v) r → r ≡ Refused refusal place → false ≡ ok v
     value-refused a q = sym (none-at (stage v) _ _ refl (valued-refused a q .0))
 
-view-from : (pool : List ℕ) (start many : ℕ) → from pool start (start + many) ≡ view pool start many
+from-all : (v : List ℕ) → from v 0 (length v) ≡ v
 unfolding from
-view-from pool start many = let q : start + many - start ≡ many = omega arith in ap (view pool start) q
+from-all v = let q : length v - 0 ≡ length v = omega arith in ap (λ (n : ℕ). take n v) q ∙ take-length v
 
 -- A text whose end alone is missing
 
@@ -76,9 +75,9 @@ abbrev wantsEnd : Span → Bool
 wantsEnd (spans n rest) = false
 wantsEnd (misses refusal left) = eqb left 0
 
-wants-more : (b n m : ℕ) (t : Taken) → wantsEnd (span n (prefixed b t)) ≡ wantsEnd (span m t)
-wants-more b n m (took v rest) = refl
-wants-more b n m (failed refusal left) = refl
+wants-more : (b n : ℕ) (t : Taken) → wantsEnd (span n (prefixed b t)) ≡ wantsEnd (span n t)
+wants-more b n (took v rest) = refl
+wants-more b n (failed refusal left) = refl
 
 text-wants : (n : ℕ) (v : List ℕ) → wantsEnd (span n (takeText v)) ≡ textOk v
 unfolding takeText textOk
@@ -88,61 +87,50 @@ text-wants n (b ∷ v) = at (eqb b 0) refl (textByte b) refl (text-wants n v)
     at : (z : Bool) → eqb b 0 ≡ z → (l : Bool) → textByte b ≡ l → wantsEnd (span n (takeText v)) ≡ textOk v → wantsEnd (span n (pick z (took [] v) (pick l (prefixed b (takeText v)) (failed 8 (suc (length v)))))) ≡ (l && textOk v)
     at true q true e i = let h = text-byte-above b (subst T (sym e) tt) in let z = eqb-true b 0 q in absurd (omega arith)
     at true q false e i = refl
-    at false q true e i = wants-more b n n (takeText v) ∙ i
+    at false q true e i = wants-more b n (takeText v) ∙ i
     at false q false e i = ne-eqb (suc (length v)) 0 (λ x. omega arith)
 
-pub text-run : (pool : List ℕ) (start many : ℕ) → start + many ≤ length pool → {place : ℕ} → Run pool (start + many) start place → leb (start + many) place ≡ textOk (view pool start many)
+pub text-run : (v : List ℕ) {place : ℕ} → Run v (length v) 0 place → leb (length v) place ≡ textOk v
 unfolding textOk
-text-run pool start many h {place} r =
-    at (leb (start + many) place) refl ∙ sym (text-wants (place - start) (from pool place (start + many)))
-    ∙ sym (ap wantsEnd (r .skipped .is)) ∙ text-wants 0 (from pool start (start + many)) ∙ ap textOk (view-from pool start many)
+text-run v {place} r =
+    at (leb (length v) place) refl ∙ sym (text-wants (place - 0) (from v place (length v))) ∙ sym (ap wantsEnd (r .skipped .is)) ∙ text-wants 0 (from v 0 (length v)) ∙ ap textOk (from-all v)
   where
-    at : (b : Bool) → leb (start + many) place ≡ b → b ≡ textOk (from pool place (start + many))
-    at true q = sym (ap textOk (from-end pool place (start + many) (leb-true (start + many) place q)))
+    at : (b : Bool) → leb (length v) place ≡ b → b ≡ textOk (from v place (length v))
+    at true q = sym (ap textOk (from-end v place (length v) (leb-true (length v) place q)))
     at false q =
-        let l = leb-false (start + many) place q in
-        sym (ap textOk (from-cons pool place (start + many) l h) ∙ ap (λ (x : Bool). x && textOk (from pool (place + 1) (start + many))) (r .stops l))
+        let l = leb-false (length v) place q in
+        sym (ap textOk (from-cons v place (length v) l (omega arith)) ∙ ap (λ (x : Bool). x && textOk (from v (place + 1) (length v))) (r .stops l))
 
 -- A number, a date
 
-module _ (pool : List ℕ) (start many : ℕ) (h : start + many ≤ length pool) where
-  abbrev numberHere : List ℕ → Bool
-  numberHere v = numberOk 0 true v
+abbrev numberHere : List ℕ → Bool
+numberHere v = numberOk 0 true v
 
-  pub number-whole : {kind back : ℕ} {r : Value} {kd s n after : ℕ} → Valued pool (start + many) start kind back (takeNumber 0 true (from pool start (start + many))) r → r ≡ Is kd s n after
-      → leb (start + many) after ≡ numberOk 0 true (view pool start many)
-  number-whole a q =
-      value-whole (takeNumber 0 true) numberHere (λ v t. number-in 0 true v [] t) (number-out 0 true) pool start (start + many) (omega arith) h a q ∙ ap numberHere (view-from pool start many)
+module _ (v : List ℕ) {kind back : ℕ} {r : Value} where
+  pub number-whole : {kd s n after : ℕ} → Valued v (length v) 0 kind back (takeNumber 0 true (from v 0 (length v))) r → r ≡ Is kd s n after → leb (length v) after ≡ numberOk 0 true v
+  number-whole a q = value-whole (takeNumber 0 true) numberHere (λ v t. number-in 0 true v [] t) (number-out 0 true) v 0 (length v) (omega arith) (omega arith) a q ∙ ap numberHere (from-all v)
 
-  pub number-refused : {kind back : ℕ} {r : Value} {refusal place : ℕ} → Valued pool (start + many) start kind back (takeNumber 0 true (from pool start (start + many))) r → r ≡ Refused refusal place
-      → false ≡ numberOk 0 true (view pool start many)
-  number-refused a q =
-      value-refused (takeNumber 0 true) numberHere (λ v t. number-in 0 true v [] t) (number-out 0 true) pool start (start + many) (omega arith) h a q ∙ ap numberHere (view-from pool start many)
+  pub number-refused : {refusal place : ℕ} → Valued v (length v) 0 kind back (takeNumber 0 true (from v 0 (length v))) r → r ≡ Refused refusal place → false ≡ numberOk 0 true v
+  number-refused a q = value-refused (takeNumber 0 true) numberHere (λ v t. number-in 0 true v [] t) (number-out 0 true) v 0 (length v) (omega arith) (omega arith) a q ∙ ap numberHere (from-all v)
 
   module _ (cs : List Check) where
-    pub date-whole : {kind back : ℕ} {r : Value} {kd s n after : ℕ} → Valued pool (start + many) start kind back (takeDate cs [] (from pool start (start + many))) r → r ≡ Is kd s n after
-        → leb (start + many) after ≡ dateOk cs [] (view pool start many)
-    date-whole a q =
-        value-whole (takeDate cs []) (dateOk cs []) (λ v t. date-in cs [] v [] t) (date-out cs []) pool start (start + many) (omega arith) h a q ∙ ap (dateOk cs []) (view-from pool start many)
+    pub date-whole : {kd s n after : ℕ} → Valued v (length v) 0 kind back (takeDate cs [] (from v 0 (length v))) r → r ≡ Is kd s n after → leb (length v) after ≡ dateOk cs [] v
+    date-whole a q = value-whole (takeDate cs []) (dateOk cs []) (λ v t. date-in cs [] v [] t) (date-out cs []) v 0 (length v) (omega arith) (omega arith) a q ∙ ap (dateOk cs []) (from-all v)
 
-    pub date-refused : {kind back : ℕ} {r : Value} {refusal place : ℕ} → Valued pool (start + many) start kind back (takeDate cs [] (from pool start (start + many))) r → r ≡ Refused refusal place
-        → false ≡ dateOk cs [] (view pool start many)
-    date-refused a q =
-        value-refused (takeDate cs []) (dateOk cs []) (λ v t. date-in cs [] v [] t) (date-out cs []) pool start (start + many) (omega arith) h a q ∙ ap (dateOk cs []) (view-from pool start many)
+    pub date-refused : {refusal place : ℕ} → Valued v (length v) 0 kind back (takeDate cs [] (from v 0 (length v))) r → r ≡ Refused refusal place → false ≡ dateOk cs [] v
+    date-refused a q = value-refused (takeDate cs []) (dateOk cs []) (λ v t. date-in cs [] v [] t) (date-out cs []) v 0 (length v) (omega arith) (omega arith) a q ∙ ap (dateOk cs []) (from-all v)
 
 -- A single byte that is the code
 
-other-length : (c : ℕ) (v : List ℕ) → (length v ≡ 1 → ⊥) → isOnly c v ≡ false
-other-length c [] h = refl
-other-length c (b ∷ []) h = absurd (h refl)
-other-length c (b ∷ (d ∷ v)) h = refl
+pub only-other : (c : ℕ) (v : List ℕ) → (length v ≡ 1 → ⊥) → false ≡ isOnly c v
+only-other c [] h = refl
+only-other c (b ∷ []) h = absurd (h refl)
+only-other c (b ∷ (d ∷ v)) h = refl
 
-module _ (c : ℕ) (pool : List ℕ) (start many : ℕ) (h : start + many ≤ length pool) where
-  pub only-other : (many ≡ 1 → ⊥) → false ≡ isOnly c (view pool start many)
-  only-other k = sym (other-length c (view pool start many) (λ q. k (sym (view-length pool start many h) ∙ q)))
-
-  pub only-byte : {b : ℕ} → many ≡ 1 → b ≡ getD pool start 0 → eqb b c ≡ isOnly c (view pool start many)
-  only-byte k q = sym (ap (isOnly c) (view-single pool start many h k) ∙ ap (λ (x : ℕ). eqb x c) (sym q))
+pub only-byte : (c : ℕ) (v : List ℕ) {b : ℕ} → length v ≡ 1 → b ≡ getD v 0 0 → eqb b c ≡ isOnly c v
+only-byte c [] k q = absurd (omega arith)
+only-byte c (d ∷ []) k q = ap (λ (x : ℕ). eqb x c) q
+only-byte c (d ∷ (e ∷ v)) k q = absurd (omega arith)
 
 -- The forms by their numbers
 

@@ -12,7 +12,7 @@ use Rattle.meaning.specs.Basics.{pick}
 use Rattle.meaning.specs.Editions.{State, state}
 use Rattle.meaning.specs.Writing.{Fit, unfit, fits, led}
 use Rattle.writer.specs.Moves.{roomOf, formOf, formIn, codeIn, kindIn, Known}
-use Rattle.writer.specs.Laying.{view, Laid, Layable}
+use Rattle.writer.specs.Laying.{Laid, Layable}
 use Rattle.writer.specs.declared.fit.Standing.{Standing}
 use Rattle.writer.specs.declared.fit.Fitted.{Fitted}
 use Rattle.writer.specs.declared.fit.Fitted.the-variants.{Unfit, Fits}
@@ -67,16 +67,14 @@ abbrev pub deepAt : ℕ → ℕ → Bool
 deepAt x level = eqb (kindIn x) agentName && ltb levelMost level
 
 -- what laying a row by its own move asks
-pub record PlaceRequires (x : ℕ) (s : Standing) (pool : List ℕ) (start many : ℕ) (part : List ℕ) (at : ℕ) : Type 0 where
+pub record PlaceRequires (x : ℕ) (s : Standing) (bytes : List ℕ) (part : List ℕ) (at : ℕ) : Type 0 where
   pub known : Known x
   pub level : s .level ≤ 4294967295
-  pub inside : start + many ≤ length pool
-  pub ok : valid (formOf (formIn x)) (codeIn x) (view pool start many) ≡ true
+  pub ok : valid (formOf (formIn x)) (codeIn x) bytes ≡ true
   pub layable : Layable part at
 
 -- what a row asks
-pub record RowRequires (s : Standing) (level : ℕ) (pool : List ℕ) (start many : ℕ) (part : List ℕ) (at : ℕ) : Type 0 where
+pub record RowRequires (s : Standing) (level : ℕ) (part : List ℕ) (at : ℕ) : Type 0 where
   pub good : Good s
   pub level-most : level ≤ 4294967295
-  pub inside : start + many ≤ length pool
   pub layable : Layable part at

@@ -3,14 +3,10 @@ use Prim.Native.Nat.{ℕ, _+_, _-_, _≤_}
 use mathlib.Core.List.{List, [], _∷_}
 use mathlib.Core.Path.{_≡_}
 use lib.Dec.{eqb, ltb}
-use lib.ListN.{length, take, drop}
+use lib.ListN.{length}
 use lib.Seq.{sets}
 use Rattle.meaning.specs.Basics.{pick}
 use Rattle.meaning.specs.Reading.{Row}
-
--- the bytes that a row views
-abbrev pub view : List ℕ → ℕ → ℕ → List ℕ
-view pool start many = take many (drop start pool)
 
 abbrev pub rowWith : ℕ → ℕ → List ℕ → Row
 rowWith kind level v = record { kind = kind; level = level; view = v }

@@ -9,7 +9,7 @@ ghost use Prim.Native.Nat.{ℕ, _+_, _/_, _≤_, _<_};
 ghost use lib.ListN.{length, getD};
 ghost use Rattle.meaning.specs.Writing.{opensOf, close};
 ghost use Rattle.writer.specs.Moves.{packed, editionOf};
-ghost use Rattle.writer.specs.Laying.{view, rowWith, Layable};
+ghost use Rattle.writer.specs.Laying.{rowWith, Layable};
 ghost use Rattle.writer.specs.Fitting.{stateOf, Good};
 ghost use Rattle.writer.specs.Bodies.{cellsAt, sealBody, bodyOf, BodyIs, opensNumber, openNumber, Words};
 
@@ -26,8 +26,6 @@ pub struct Numbers {
     pub start: usize,
     pub many: usize,
 }
-
-const EXTENSION_OPENS: usize = 1;
 
 const BASE_OPENS: usize = 2;
 
@@ -53,23 +51,19 @@ fn row_at(rows: &[u32], i: usize) -> Numbers
 }
 
 // Whether a row opens an envelope: 1 an extension, 2 the base, 0 neither.
-fn opening(kind: usize, level: usize, pool: &[u8], start: usize, many: usize) -> usize
-    requires { ⌜ start + many ≤ length (now pool) ⌝ }
-    ensures { λ r. ⌜ r ≡ opensNumber (opensOf (rowWith kind level (view (now (pool .entry)) start many))) ⌝ }
+fn opening(kind: usize, level: usize, bytes: &[u8]) -> usize
+    ensures { λ r. ⌜ r ≡ opensNumber (opensOf (rowWith kind level (now (bytes .entry)))) ⌝ }
 {
+    if BASE_OPENS < kind {
+        return 0;
+    }
     if level != 0 {
         return 0;
     }
-    if many != 0 {
+    if bytes.len() != 0 {
         return 0;
     }
-    if kind == EXTENSION_OPENS {
-        return 1;
-    }
-    if kind == BASE_OPENS {
-        return 2;
-    }
-    0
+    kind
 }
 
 // The same of row i; 0 too where there is no such row, or it views past the pool.
@@ -80,10 +74,12 @@ pub fn open_at(rows: &[u32], pool: &[u8], i: usize) -> usize
         return 0;
     }
     let r = row_at(rows, i);
-    if pool.len() < r.start + r.many {
+    let start = r.start;
+    let end = start + r.many;
+    if pool.len() < end {
         return 0;
     }
-    opening(r.kind, r.level, pool, r.start, r.many)
+    opening(r.kind, r.level, &pool[start..end])
 }
 
 // The end of an envelope before row i.
@@ -118,24 +114,16 @@ pub fn body(
     while i < n {
         let next = i + 1;
         let r = row_at(rows, i);
-        if pool.len() < r.start + r.many {
+        let start = r.start;
+        let end = start + r.many;
+        if pool.len() < end {
             return Bodied::Stuck(i);
         }
-        if opening(r.kind, r.level, pool, r.start, r.many) != 0 {
+        let bytes = &pool[start..end];
+        if opening(r.kind, r.level, bytes) != 0 {
             return seal(in_d, table, i, t, output, p);
         }
-        let f = fit_row(
-            in_d,
-            table,
-            t,
-            r.kind,
-            r.level,
-            pool,
-            r.start,
-            r.many,
-            output,
-            p,
-        );
+        let f = fit_row(in_d, table, t, r.kind, r.level, bytes, output, p);
         let Fitted::Fits { to, at } = f else {
             return Bodied::Stuck(i);
         };

@@ -19,7 +19,7 @@ ghost use Rattle.meaning.specs.Reading.{find, orElse};
 ghost use Rattle.meaning.specs.Writing.{standsFor, isPass, wayTo, atLevel, place, fitRow, close};
 ghost use Rattle.meaning.specs.Editions.{closing};
 ghost use Rattle.writer.specs.Moves.{Known, Finds, packed, editionOf, inEdition, movesAt, moveOf, nextIn, targetIn};
-ghost use Rattle.writer.specs.Laying.{view, rowWith, Layable};
+ghost use Rattle.writer.specs.Laying.{rowWith, Layable};
 ghost use Rattle.writer.specs.Fitting.{stateOf, standing, goTo, listEnding, agentEnding, deepAt, Good, FitIs, CloseIs, PlaceRequires, RowRequires};
 
 // The room by its number, the level of its rows, and whether an agent of level 1 is the one of `from`.
@@ -58,9 +58,9 @@ const RECEIVED_BY: usize = 8;
 const AGENT_NAME: usize = 15;
 
 // Whether a move is a row's own: of its kind, in a form that its bytes have.
-fn is_own(x: usize, in_d: bool, kind: usize, pool: &[u8], start: usize, many: usize) -> bool
-    requires { ⌜ (Known x) × (start + many ≤ length (now pool)) ⌝ }
-    ensures { λ r. ⌜ r ≡ (inEdition x in_d && standsFor (rowWith kind 0 (view (now (pool .entry)) start many)) (moveOf x)) ⌝ }
+fn is_own(x: usize, in_d: bool, kind: usize, bytes: &[u8]) -> bool
+    requires { ⌜ Known x ⌝ }
+    ensures { λ r. ⌜ r ≡ (inEdition x in_d && standsFor (rowWith kind 0 (now (bytes .entry))) (moveOf x)) ⌝ }
 {
     if kind_of(x) != kind {
         return false;
@@ -70,29 +70,21 @@ fn is_own(x: usize, in_d: bool, kind: usize, pool: &[u8], start: usize, many: us
         return false;
     }
     if in_edition(x, in_d) {
-        return valid_for(form, code_of(x), pool, start, many);
+        return valid_for(form, code_of(x), bytes);
     }
     false
 }
 
 // The number of a row's own move in a room, or 0.
-fn find_own(
-    in_d: bool,
-    table: &[usize],
-    room: usize,
-    kind: usize,
-    pool: &[u8],
-    start: usize,
-    many: usize,
-) -> usize
-    requires { ⌜ (now table ≡ packed) × (room < 22) × (start + many ≤ length (now pool)) ⌝ }
-    ensures { λ r. ⌜ Finds (find (standsFor (rowWith kind 0 (view (now (pool .entry)) start many))) (movesAt in_d room)) r ⌝ }
+fn find_own(in_d: bool, table: &[usize], room: usize, kind: usize, bytes: &[u8]) -> usize
+    requires { ⌜ (now table ≡ packed) × (room < 22) ⌝ }
+    ensures { λ r. ⌜ Finds (find (standsFor (rowWith kind 0 (now (bytes .entry)))) (movesAt in_d room)) r ⌝ }
 {
     let end = table[room + 1];
     let mut i = table[room];
     while i < end {
         let x = table[i];
-        if is_own(x, in_d, kind, pool, start, many) {
+        if is_own(x, in_d, kind, bytes) {
             return x;
         }
         i += 1;
@@ -138,17 +130,15 @@ fn own_move(
     s: Standing,
     kind: usize,
     level: usize,
-    pool: &[u8],
-    start: usize,
-    many: usize,
+    bytes: &[u8],
 ) -> usize
-    requires { ⌜ (now table ≡ packed) × (s .room < 22) × (start + many ≤ length (now pool)) ⌝ }
-    ensures { λ r. ⌜ (Finds (atLevel (eqb level (s .level)) (find (standsFor (rowWith kind 0 (view (now (pool .entry)) start many))) (movesAt in_d (s .room)))) r) × ((r ≡ 0) ⊎ (level ≡ s .level)) ⌝ }
+    requires { ⌜ (now table ≡ packed) × (s .room < 22) ⌝ }
+    ensures { λ r. ⌜ (Finds (atLevel (eqb level (s .level)) (find (standsFor (rowWith kind 0 (now (bytes .entry)))) (movesAt in_d (s .room)))) r) × ((r ≡ 0) ⊎ (level ≡ s .level)) ⌝ }
 {
     if level != s.level {
         return 0;
     }
-    find_own(in_d, table, s.room, kind, pool, start, many)
+    find_own(in_d, table, s.room, kind, bytes)
 }
 
 // "04" before a representation, "0A" before a received object, and a closing 01 before all others.
@@ -232,23 +222,15 @@ fn too_deep(x: usize, level: usize) -> bool
 }
 
 // A row by its own move.
-fn place_row(
-    x: usize,
-    s: Standing,
-    pool: &[u8],
-    start: usize,
-    many: usize,
-    output: &mut [u8],
-    at: usize,
-) -> Fitted
-    requires { ⌜ PlaceRequires x s (now pool) start many (now output) at ⌝ }
-    ensures { λ r. ⌜ ((kind level : ℕ) → FitIs (place (stateOf s) (rowWith kind level (view (now (pool .entry)) start many)) (moveOf x)) (now (output .entry)) at r (now (output .exit))) ⌝ }
+fn place_row(x: usize, s: Standing, bytes: &[u8], output: &mut [u8], at: usize) -> Fitted
+    requires { ⌜ PlaceRequires x s (now bytes) (now output) at ⌝ }
+    ensures { λ r. ⌜ ((kind level : ℕ) → FitIs (place (stateOf s) (rowWith kind level (now (bytes .entry))) (moveOf x)) (now (output .entry)) at r (now (output .exit))) ⌝ }
 {
     if too_deep(x, s.level) {
         return Fitted::Unfit;
     }
     let p = put_code(code_of(x), output, at);
-    let q = put_value(form_of(x), code_of(x), pool, start, many, output, p);
+    let q = put_value(form_of(x), code_of(x), bytes, output, p);
     let to = go(x, s);
     Fitted::Fits { to: to, at: q }
 }
@@ -260,21 +242,19 @@ pub fn fit_row(
     from: Standing,
     kind: usize,
     level: usize,
-    pool: &[u8],
-    start: usize,
-    many: usize,
+    bytes: &[u8],
     output: &mut [u8],
     at: usize,
 ) -> Fitted
-    requires { ⌜ (now table ≡ packed) × RowRequires from level (now pool) start many (now output) at ⌝ }
-    ensures { λ r. ⌜ FitIs (fitRow (editionOf in_d) (stateOf from) (rowWith kind level (view (now (pool .entry)) start many))) (now (output .entry)) at r (now (output .exit)) ⌝ }
+    requires { ⌜ (now table ≡ packed) × RowRequires from level (now output) at ⌝ }
+    ensures { λ r. ⌜ FitIs (fitRow (editionOf in_d) (stateOf from) (rowWith kind level (now (bytes .entry)))) (now (output .entry)) at r (now (output .exit)) ⌝ }
 {
     let mut s = from;
     let mut p = at;
     loop {
-        let x = own_move(in_d, table, s, kind, level, pool, start, many);
+        let x = own_move(in_d, table, s, kind, level, bytes);
         if x != 0 {
-            return place_row(x, s, pool, start, many, output, p);
+            return place_row(x, s, bytes, output, p);
         }
         let y = pass_move(in_d, table, s.room, kind);
         if y == 0 {

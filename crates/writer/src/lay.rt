@@ -3,12 +3,12 @@
 ghost use mathlib.Core.Path.{_≡_};
 ghost use mathlib.Core.Bool.{true};
 ghost use Prim.Native.Nat.{_+_, _-_, _≤_, _<_};
-ghost use lib.ListN.{length};
+ghost use lib.ListN.{length, take};
 ghost use lib.Seq.{sets};
 ghost use Rattle.meaning.specs.Bytes.{lengthBytes, twoBytes, fourBytes};
 ghost use Rattle.meaning.specs.Writing.{valid, writeValue};
 ghost use Rattle.writer.specs.Moves.{formOf};
-ghost use Rattle.writer.specs.Laying.{view, one, Laid, Layable, leadOf, fittingOf};
+ghost use Rattle.writer.specs.Laying.{one, Laid, Layable, leadOf, fittingOf};
 
 const MOST: usize = 1048576;
 
@@ -26,13 +26,14 @@ pub fn put(output: &mut [u8], at: usize, b: u8) -> usize
     at
 }
 
-// A view's bytes: those that have room, and the count of all.
-fn copy(pool: &[u8], start: usize, many: usize, output: &mut [u8], at: usize) -> usize
-    requires { ⌜ (start + many ≤ length (now pool)) × Layable (now output) at ⌝ }
-    ensures { λ r. ⌜ Laid (now (output .entry)) at (view (now (pool .entry)) start many) (now (output .exit)) r ⌝ }
+// Bytes: those that have room, and the count of all.
+fn copy(bytes: &[u8], output: &mut [u8], at: usize) -> usize
+    requires { ⌜ Layable (now output) at ⌝ }
+    ensures { λ r. ⌜ Laid (now (output .entry)) at (now (bytes .entry)) (now (output .exit)) r ⌝ }
 {
+    let many = bytes.len();
     let n = fitting(many, at, output.len());
-    lay(pool, start, n, output, at);
+    lay(bytes, n, output, at);
     if MOST - at < many {
         return MOST;
     }
@@ -53,13 +54,13 @@ fn fitting(many: usize, at: usize, room: usize) -> usize
 }
 
 // Bytes that have room: a loop without a branch, so that it goes by vectors.
-fn lay(pool: &[u8], start: usize, n: usize, output: &mut [u8], at: usize)
-    requires { ⌜ (start + n ≤ length (now pool)) × (n ≤ length (now output) - at) ⌝ }
-    ensures { λ _. ⌜ now (output .exit) ≡ sets (now (output .entry)) at (view (now (pool .entry)) start n) ⌝ }
+fn lay(bytes: &[u8], n: usize, output: &mut [u8], at: usize)
+    requires { ⌜ (n ≤ length (now bytes)) × (n ≤ length (now output) - at) ⌝ }
+    ensures { λ _. ⌜ now (output .exit) ≡ sets (now (output .entry)) at (take n (now (bytes .entry))) ⌝ }
 {
     let mut i: usize = 0;
     while i < n {
-        output[at + i] = pool[start + i];
+        output[at + i] = bytes[i];
         i += 1;
     }
 }
@@ -83,40 +84,33 @@ pub fn put_four(n: usize, output: &mut [u8], at: usize) -> usize
 }
 
 // A value behind its code: a text has 00 behind it, a block its length before it.
-pub fn put_value(
-    form: usize,
-    code: usize,
-    pool: &[u8],
-    start: usize,
-    many: usize,
-    output: &mut [u8],
-    at: usize,
-) -> usize
-    requires { ⌜ (start + many ≤ length (now pool)) × (Layable (now output) at) × (valid (formOf form) code (view (now pool) start many) ≡ true) ⌝ }
-    ensures { λ r. ⌜ Laid (now (output .entry)) at (writeValue (formOf form) (view (now (pool .entry)) start many)) (now (output .exit)) r ⌝ }
+pub fn put_value(form: usize, code: usize, bytes: &[u8], output: &mut [u8], at: usize) -> usize
+    requires { ⌜ (Layable (now output) at) × (valid (formOf form) code (now bytes) ≡ true) ⌝ }
+    ensures { λ r. ⌜ Laid (now (output .entry)) at (writeValue (formOf form) (now (bytes .entry))) (now (output .exit)) r ⌝ }
 {
+    let many = bytes.len();
     match form {
         1 => {
-            let p = copy(pool, start, many, output, at);
+            let p = copy(bytes, output, at);
             put(output, p, 0)
         }
-        2 => copy(pool, start, many, output, at),
+        2 => copy(bytes, output, at),
         5 => {
             let p = put(output, at, many as u8);
-            copy(pool, start, many, output, p)
+            copy(bytes, output, p)
         }
         6 => {
             let p = put_two(many, output, at);
-            copy(pool, start, many, output, p)
+            copy(bytes, output, p)
         }
         7 => {
             let p = put_four(many, output, at);
-            copy(pool, start, many, output, p)
+            copy(bytes, output, p)
         }
-        8 => copy(pool, start, many, output, at),
-        9 => copy(pool, start, many, output, at),
-        10 => copy(pool, start, many, output, at),
-        11 => copy(pool, start, many, output, at),
+        8 => copy(bytes, output, at),
+        9 => copy(bytes, output, at),
+        10 => copy(bytes, output, at),
+        11 => copy(bytes, output, at),
         _ => at,
     }
 }

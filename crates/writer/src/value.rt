@@ -3,50 +3,45 @@ use values::Value;
 ghost use mathlib.Core.Path.{_≡_};
 ghost use mathlib.Core.Bool.{true};
 ghost use mathlib.Core.List.{[]};
-ghost use Prim.Native.Nat.{_+_, _≤_};
-ghost use lib.ListN.{length};
 ghost use Rattle.meaning.specs.Bytes.{textOk, numberOk, dateOk, dateChecks};
 ghost use Rattle.meaning.specs.Writing.{isOnly, valid};
 ghost use Rattle.values.specs.Dates.{reaching};
 ghost use Rattle.writer.specs.Moves.{formOf};
-ghost use Rattle.writer.specs.Laying.{view};
 
 // "Length 9 or 10 picks the date code": the lengths of a date's and of a block's forms are apart.
-pub fn valid_for(form: usize, code: usize, pool: &[u8], start: usize, many: usize) -> bool
-    requires { ⌜ start + many ≤ length (now pool) ⌝ }
-    ensures { λ r. ⌜ r ≡ valid (formOf form) code (view (now (pool .entry)) start many) ⌝ }
+pub fn valid_for(form: usize, code: usize, bytes: &[u8]) -> bool
+    ensures { λ r. ⌜ r ≡ valid (formOf form) code (now (bytes .entry)) ⌝ }
 {
+    let many = bytes.len();
     match form {
-        1 => text_ok(pool, start, many),
-        2 => number_ok(pool, start, many),
-        3 => is_only(code, pool, start, many),
+        1 => text_ok(bytes),
+        2 => number_ok(bytes),
+        3 => is_only(code, bytes),
         5 => many < 256,
         6 => (256 <= many) & (many < 65536),
         7 => (65536 <= many) & (many < 4294967296),
-        8 => date_ok(pool, start, many, true, false),
-        9 => date_ok(pool, start, many, true, true),
-        10 => date_ok(pool, start, many, false, false),
-        11 => date_ok(pool, start, many, false, true),
+        8 => date_ok(bytes, true, false),
+        9 => date_ok(bytes, true, true),
+        10 => date_ok(bytes, false, false),
+        11 => date_ok(bytes, false, true),
         _ => many == 0,
     }
 }
 
 // "Text: bytes 20 to FF": the reader's own run comes to the end of the view.
-fn text_ok(pool: &[u8], start: usize, many: usize) -> bool
-    requires { ⌜ start + many ≤ length (now pool) ⌝ }
-    ensures { λ r. ⌜ r ≡ textOk (view (now (pool .entry)) start many) ⌝ }
+fn text_ok(bytes: &[u8]) -> bool
+    ensures { λ r. ⌜ r ≡ textOk (now (bytes .entry)) ⌝ }
 {
-    let end = start + many;
-    end <= values::text::run(pool, end, start)
+    let end = bytes.len();
+    end <= values::text::run(bytes, end, 0)
 }
 
 // The reader's own stage takes all of the view.
-fn number_ok(pool: &[u8], start: usize, many: usize) -> bool
-    requires { ⌜ start + many ≤ length (now pool) ⌝ }
-    ensures { λ r. ⌜ r ≡ numberOk 0 true (view (now (pool .entry)) start many) ⌝ }
+fn number_ok(bytes: &[u8]) -> bool
+    ensures { λ r. ⌜ r ≡ numberOk 0 true (now (bytes .entry)) ⌝ }
 {
-    let end = start + many;
-    let r = values::number::take(pool, end, start);
+    let end = bytes.len();
+    let r = values::number::take(bytes, end, 0);
     let Value::Is {
         kind: _,
         start: _,
@@ -59,12 +54,11 @@ fn number_ok(pool: &[u8], start: usize, many: usize) -> bool
     end <= after
 }
 
-fn date_ok(pool: &[u8], start: usize, many: usize, absolute: bool, designated: bool) -> bool
-    requires { ⌜ start + many ≤ length (now pool) ⌝ }
-    ensures { λ r. ⌜ r ≡ dateOk (dateChecks (reaching absolute) designated) [] (view (now (pool .entry)) start many) ⌝ }
+fn date_ok(bytes: &[u8], absolute: bool, designated: bool) -> bool
+    ensures { λ r. ⌜ r ≡ dateOk (dateChecks (reaching absolute) designated) [] (now (bytes .entry)) ⌝ }
 {
-    let end = start + many;
-    let r = values::date::bytes(pool, end, start, 0, absolute, designated);
+    let end = bytes.len();
+    let r = values::date::bytes(bytes, end, 0, 0, absolute, designated);
     let Value::Is {
         kind: _,
         start: _,
@@ -78,14 +72,13 @@ fn date_ok(pool: &[u8], start: usize, many: usize, absolute: bool, designated: b
 }
 
 // A standard representation is its code.
-fn is_only(code: usize, pool: &[u8], start: usize, many: usize) -> bool
-    requires { ⌜ start + many ≤ length (now pool) ⌝ }
-    ensures { λ r. ⌜ r ≡ isOnly code (view (now (pool .entry)) start many) ⌝ }
+fn is_only(code: usize, bytes: &[u8]) -> bool
+    ensures { λ r. ⌜ r ≡ isOnly code (now (bytes .entry)) ⌝ }
 {
-    if many != 1 {
+    if bytes.len() != 1 {
         return false;
     }
-    wide(pool[start]) == code
+    wide(bytes[0]) == code
 }
 
 fn wide(b: u8) -> usize

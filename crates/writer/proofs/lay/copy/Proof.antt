@@ -14,11 +14,11 @@ lay-requires : tie.Need-lay-requires
 lay-requires c κs =
     let entry = c .before .before .before .before in
     let a = entry .args in
-    let m = fitting-most (a .many) (a .at) (length (a .output .now)) in
-    (omega (arith, m .0, c .before .fitting .ensures, entry .pre .0), omega (arith, m .1, c .before .fitting .ensures))
+    let m = fitting-most (length (a .bytes .now)) (a .at) (length (a .output .now)) in
+    (omega (arith, m .0, c .before .fitting .ensures), omega (arith, m .1, c .before .fitting .ensures))
 
 sub-if1 : tie.Need-sub-if1
-sub-if1 c = c .before .before .before .before .before .before .before .pre .1 .counted
+sub-if1 c = c .before .before .before .before .before .before .before .pre .counted
 
 same-length : tie.Need-same-length
 same-length c = search needs
@@ -27,7 +27,7 @@ returns : tie.Need-returns
 returns c =
     let entry = c .before .before .before .before .before .before .before .before in
     let a = entry .args in
-    copied (a .pool .now) (a .start) (a .many) (a .output .now) (a .at) (entry .pre .0) (c .before .before .before .before .before .fitting .ensures) (c .before .before .before .lay .ensures) (capped-past (a .at + a .many) (omega (arith, c .if1 .taken, entry .pre .1 .counted)))
+    copied (a .bytes .now) (a .output .now) (a .at) (c .before .before .before .before .before .fitting .ensures) (c .before .before .before .lay .ensures) (capped-past (a .at + length (a .bytes .now)) (omega (arith, c .if1 .taken, entry .pre .counted)))
 
 add-result : tie.Need-add-result
 add-result c = search needs
@@ -39,7 +39,7 @@ returns-2 : tie.Need-returns-2
 returns-2 c =
     let entry = c .before .before .before .before .before .before .before .before in
     let a = entry .args in
-    copied (a .pool .now) (a .start) (a .many) (a .output .now) (a .at) (entry .pre .0) (c .before .before .before .before .before .fitting .ensures) (c .before .before .before .lay .ensures) (capped-id (a .at + a .many) (omega (arith, c .if1 .left, entry .pre .1 .counted)))
+    copied (a .bytes .now) (a .output .now) (a .at) (c .before .before .before .before .before .fitting .ensures) (c .before .before .before .lay .ensures) (capped-id (a .at + length (a .bytes .now)) (omega (arith, c .if1 .left, entry .pre .counted)))
 
 pub copy-spec : {M : Type 1} → statement M
 copy-spec =

@@ -1,15 +1,12 @@
--- `value::number_ok`: the reader's stage takes all of the view, or it is no number.
+-- `value::number_ok`: the reader's stage takes all of the bytes, or they are no number.
 use Rattle.writer.proofs.Values.{number-refused, number-whole}
 use borrow.Author.Needs.{needs}
 use native.Mathlib.Omega.{arith}
 use Rattle.writer.proofs.value.number_ok.Statement.{statement}
 use Rattle.writer.proofs.value.number_ok.Tie as tie
 
-add-end : tie.Need-add-end
-add-end c = search needs
-
 take-requires : tie.Need-take-requires
-take-requires c κs = record { whole = c .before .pre; before = omega arith }
+take-requires c κs = record { whole = omega arith; before = omega arith }
 
 enum-known-r : tie.Need-enum-known-r
 enum-known-r c = search needs
@@ -18,11 +15,10 @@ enum-told : tie.Need-enum-told
 enum-told c = search needs
 
 returns : tie.Need-returns
-returns c = number-refused (c .before .before .before .before .args .pool .now) (c .before .before .before .before .args .start) (c .before .before .before .before .args .many) (c .before .before .before .before .pre) (c .before .before .take .ensures) (c .enum-told .given .1)
+returns c = number-refused (c .before .before .before .before .args .bytes .now) (c .before .before .take .ensures) (c .enum-told .given .1)
 
 returns-2 : tie.Need-returns-2
-returns-2 c = number-whole (c .before .before .before .before .before .args .pool .now) (c .before .before .before .before .before .args .start) (c .before .before .before .before .before .args .many) (c .before .before .before .before .before .pre) (c .before .before .before .take .ensures) (c .before .r .given .1)
+returns-2 c = number-whole (c .before .before .before .before .before .args .bytes .now) (c .before .before .before .take .ensures) (c .before .r .given .1)
 
 pub number-ok-spec : {M : Type 1} → statement M
-number-ok-spec =
-    tie.close (tie.spec add-end take-requires enum-known-r enum-told returns returns-2)
+number-ok-spec = tie.close (tie.spec take-requires enum-known-r enum-told returns returns-2)

@@ -1,11 +1,11 @@
 -- `value::valid_for`: each form's number against its test.
 use Rattle.meaning.specs.Bytes.{fourBytes, twoBytes}
 use Rattle.meaning.specs.Writing.{valid}
-use Rattle.writer.proofs.Laying.{view-length}
 use Rattle.writer.proofs.Values.{block-is, short-block-is, valid-as, valid-rest}
 use Rattle.writer.specs.Moves.{formOf}
 use borrow.Author.Needs.{needs}
-use mathlib.Core.Path.{ap}
+use lib.ListN.{length}
+use mathlib.Core.Path.{ap, refl}
 use Rattle.writer.proofs.value.valid_for.Statement.{statement}
 use Rattle.writer.proofs.value.valid_for.Tie as tie
 
@@ -44,15 +44,15 @@ returns-3 c = valid-as (c .before .before .before .args .form) (c .before .befor
 
 returns-4 : tie.Need-returns-4
 unfolding formOf valid
-returns-4 c = valid-as (c .before .before .args .form) (c .before .before .args .code) _ (ap formOf (c .match .keys4)) (short-block-is _ _ (view-length _ _ _ (c .before .before .pre)))
+returns-4 c = valid-as (c .before .before .args .form) (c .before .before .args .code) _ (ap formOf (c .match .keys4)) (short-block-is _ _ refl)
 
 returns-5 : tie.Need-returns-5
 unfolding formOf valid
-returns-5 c = valid-as (c .before .before .args .form) (c .before .before .args .code) _ (ap formOf (c .match .keys5)) (block-is twoBytes _ _ (view-length _ _ _ (c .before .before .pre)))
+returns-5 c = valid-as (c .before .before .args .form) (c .before .before .args .code) _ (ap formOf (c .match .keys5)) (block-is twoBytes _ _ refl)
 
 returns-6 : tie.Need-returns-6
 unfolding formOf valid
-returns-6 c = valid-as (c .before .before .args .form) (c .before .before .args .code) _ (ap formOf (c .match .keys6)) (block-is fourBytes _ _ (view-length _ _ _ (c .before .before .pre)))
+returns-6 c = valid-as (c .before .before .args .form) (c .before .before .args .code) _ (ap formOf (c .match .keys6)) (block-is fourBytes _ _ refl)
 
 returns-7 : tie.Need-returns-7
 unfolding formOf valid
@@ -73,7 +73,7 @@ returns-10 c = valid-as (c .before .before .before .args .form) (c .before .befo
 returns-11 : tie.Need-returns-11
 returns-11 c =
     let r = c .match .rest in
-    valid-rest (c .before .before .args .form) (c .before .before .args .code) _ (c .before .before .args .many) (view-length _ _ _ (c .before .before .pre)) (r .0 .0 .0 .0 .0 .0 .0 .1) (r .0 .0 .0 .0 .0 .0 .0 .0 .0 .1) (r .0 .0 .0 .0 .0 .0 .0 .0 .1) (r .0 .0 .0 .0 .0 .0 .1) (r .0 .0 .0 .0 .0 .1) (r .0 .0 .0 .0 .1) (r .0 .0 .0 .1) (r .0 .0 .1) (r .0 .1) (r .1)
+    valid-rest (c .before .before .args .form) (c .before .before .args .code) _ (length (c .before .before .args .bytes .now)) refl (r .0 .0 .0 .0 .0 .0 .0 .1) (r .0 .0 .0 .0 .0 .0 .0 .0 .0 .1) (r .0 .0 .0 .0 .0 .0 .0 .0 .1) (r .0 .0 .0 .0 .0 .0 .1) (r .0 .0 .0 .0 .0 .1) (r .0 .0 .0 .0 .1) (r .0 .0 .0 .1) (r .0 .0 .1) (r .0 .1) (r .1)
 
 pub valid-for-spec : {M : Type 1} → statement M
 valid-for-spec =
