@@ -1,4 +1,4 @@
-//! The archive's seven entries for Rust, as `include/gamulisyan.h` declares them, and `read` and `write` over slices.
+//! The archive's eight entries for Rust, as `include/gamulisyan.h` declares them, and `read` and `write` over slices.
 //! Copy this file; docs/RUST.md says how to link it.
 #![allow(dead_code)]
 
@@ -76,6 +76,7 @@ extern "C" {
     pub fn gamulisyan_number_encode(value: u64, output: *mut u8, length: usize) -> Coded;
     pub fn gamulisyan_date_decode(kind: u32, bytes: *const u8, length: usize) -> Dated;
     pub fn gamulisyan_date_encode(kind: u32, date: Date, output: *mut u8, length: usize) -> Coded;
+    pub fn gamulisyan_version() -> u32;
 }
 
 /// Kind, level, start and length of one row.
@@ -125,6 +126,12 @@ pub fn payload(edition: u32, input: &[u8]) -> &[u8] {
     &input[part.start..part.end]
 }
 
+/// Major, minor and patch of the archive that is linked; all 0 if it is no release.
+pub fn version() -> [u32; 3] {
+    let number = unsafe { gamulisyan_version() };
+    [number / 1_000_000, number / 1000 % 1000, number % 1000]
+}
+
 #[cfg(test)]
 mod tests {
     use super::*;
@@ -172,5 +179,10 @@ mod tests {
         assert_eq!(coded, Coded { answer: 0, place: 10 });
         let dated = unsafe { gamulisyan_date_decode(FORWARD, output.as_ptr(), output.len()) };
         assert_eq!(dated, Dated { answer: 0, place: 10, date });
+    }
+
+    #[test]
+    fn answers_a_version() {
+        assert!(version().iter().all(|&part| part < 1000));
     }
 }

@@ -12,6 +12,10 @@
 extern "C" {
 #endif
 
+/* The version of this header, major * 1,000,000 + minor * 1,000 + patch, and as text; 0.0.0 is no release. */
+#define GAMULISYAN_VERSION 0u
+#define GAMULISYAN_VERSION_TEXT "0.0.0"
+
 /* Answers by number: document 01 says when each is given, and which place goes with it. */
 enum {
     GAMULISYAN_ACCEPTED = 0,
@@ -145,6 +149,10 @@ struct gamulisyan_dated gamulisyan_date_decode(uint32_t kind, const uint8_t *byt
    a component out of range or another kind, then 16 at the bytes needed. Leaves the coded date, without a date code, at the
    front of `output`, and after a refusal nothing. */
 struct gamulisyan_coded gamulisyan_date_encode(uint32_t kind, struct gamulisyan_date date, uint8_t *output, size_t length);
+
+/* Takes nothing. Answers the version of the archive that is linked, a number as GAMULISYAN_VERSION is; the two are equal unless header
+   and archive are of different releases. Changes no memory. */
+uint32_t gamulisyan_version(void);
 
 #ifdef __cplusplus
 }

@@ -2,6 +2,8 @@
 ghost use Rattle.reader.specs.Promises.{ReadPromise, PartPromise};
 ghost use Rattle.writer.specs.Promise.{WritePromise};
 ghost use Rattle.values.specs.Plain.{NumberDecodes, NumberEncodes, DateDecodes, DateEncodes, plainOf};
+ghost use Rattle.gamulisyan.specs.Version.{version};
+ghost use mathlib.Core.Path.{_≡_};
 use reader::Part;
 use values::date::Date;
 use values::decode::DecodedDate;
@@ -60,4 +62,14 @@ pub extern "C" fn gamulisyan_date_encode(kind: u32, date: Date, output: &mut [u8
     ensures { λ r. ⌜ DateEncodes kind (plainOf date) (now (output .entry)) (now (output .exit)) r ⌝ }
 {
     values::encode::date(kind, date, output)
+}
+
+// A line that `./release` stamps. The promise ties it to specs/Version.antt: a stamp of one and not the other is not proved.
+const VERSION: u32 = 0;
+
+#[no_mangle]
+pub extern "C" fn gamulisyan_version() -> u32
+    ensures { λ r. ⌜ r ≡ version ⌝ }
+{
+    VERSION
 }

@@ -1,0 +1,2 @@
+-- The version that the archive answers.
+pub mod Version
