@@ -90,6 +90,7 @@ same-length-3 c = search needs
 
 returns-3 : tie.Need-returns-3 Inv-loop μ-loop
 returns-3 c =
+    let fit-row = c .before .before .before .before .fit-row in
     let entry = c .before .before .before .before .before .before .before .before .before .before .before .before .before .before .before .before .before .before in
     let a = entry .args in
     let l = c .before .before .before .before .before .before .before .before .before .before .before .before .before .loop in
@@ -97,28 +98,33 @@ returns-3 c =
     let inside = below (c .before .before .before .before .before .before .before .before .before .before .before .before .loop-test .taken) (l .inv .1) in
     let cells = cell-in (a .pool .now) (a .rows .now) inside (r .ensures) (c .before .before .before .before .before .before .before .before .before .if1 .left) in
     let o = c .before .before .before .before .before .before .before .opening .ensures in
-    body-unfit (l .inv .5) _ _ _ (c .before .before .before .before .fit-row .last .1 .1 .1 .1 .1 .1 .0) (bodyOf (editionOf (a .in-d)) (cellsAt (a .pool .now) (a .rows .now) (l .i + 1)) (l .i + 1)) (fitRow (editionOf (a .in-d)) (stateOf (l .t)) (rowWith (r .result .kind) (r .result .level) (viewed (a .pool .now) (a .rows .now) inside (r .ensures)))) (body-row (editionOf (a .in-d)) (l .i) (stateOf (l .t)) cells (sym o ∙ c .before .before .before .before .before .before .if2 .left)) (c .enum-told .given .1) (c .before .before .before .before .fit-row .ensures)
+    body-unfit (l .inv .5) _ _ _ (fit-row .last .1 .1 .1 .1 .1 .1 .0) (bodyOf (editionOf (a .in-d)) (cellsAt (a .pool .now) (a .rows .now) (l .i + 1)) (l .i + 1)) (fitRow (editionOf (a .in-d)) (stateOf (l .t)) (rowWith (r .result .kind) (r .result .level) (viewed (a .pool .now) (a .rows .now) inside (r .ensures)))) (body-row (editionOf (a .in-d)) (l .i) (stateOf (l .t)) cells (sym o ∙ c .before .before .before .before .before .before .if2 .left)) (c .enum-told .given .1) (fit-row .ensures)
 
 loop-less : tie.Need-loop-less Inv-loop μ-loop
 loop-less c = search needs
 
 loop-again : tie.Need-loop-again Inv-loop μ-loop
 loop-again c =
+    let loop-test = c .before .before .before .before .before .before .before .before .before .before .before .before .before .loop-test in
+    let fit-row = c .before .before .before .before .before .fit-row in
     let entry = c .before .before .before .before .before .before .before .before .before .before .before .before .before .before .before .before .before .before .before in
     let a = entry .args in
     let l = c .before .before .before .before .before .before .before .before .before .before .before .before .before .before .loop in
     let r = c .before .before .before .before .before .before .before .before .before .before .before .before .row-at in
-    let inside = below (c .before .before .before .before .before .before .before .before .before .before .before .before .before .loop-test .taken) (l .inv .1) in
+    let inside = below (loop-test .taken) (l .inv .1) in
     let cells = cell-in (a .pool .now) (a .rows .now) inside (r .ensures) (c .before .before .before .before .before .before .before .before .before .before .if1 .left) in
     let o = c .before .before .before .before .before .before .before .before .opening .ensures in
-    let (g, b) = body-goes (l .inv .5) (l .i) (bodyOf (editionOf (a .in-d)) (cellsAt (a .pool .now) (a .rows .now) (l .i + 1)) (l .i + 1)) (fitRow (editionOf (a .in-d)) (stateOf (l .t)) (rowWith (r .result .kind) (r .result .level) (viewed (a .pool .now) (a .rows .now) inside (r .ensures)))) (c .before .before .before .before .before .fit-row .last .1 .1 .1 .1 .1 .1 .0) (entry .pre .3) (body-row (editionOf (a .in-d)) (l .i) (stateOf (l .t)) cells (sym o ∙ c .before .before .before .before .before .before .before .if2 .left)) (c .before .f .given .1) (c .before .before .before .before .before .fit-row .ensures) in
-    (omega (arith, c .before .before .before .before .before .before .before .before .before .before .before .before .before .loop-test .taken), l .inv .1, g, record { counted = laid-most (b .laid); small = omega (arith, laid-length (b .laid), entry .pre .3) }, laid-length (b .laid), b)
+    let (g, b) = body-goes (l .inv .5) (l .i) (bodyOf (editionOf (a .in-d)) (cellsAt (a .pool .now) (a .rows .now) (l .i + 1)) (l .i + 1)) (fitRow (editionOf (a .in-d)) (stateOf (l .t)) (rowWith (r .result .kind) (r .result .level) (viewed (a .pool .now) (a .rows .now) inside (r .ensures)))) (fit-row .last .1 .1 .1 .1 .1 .1 .0) (entry .pre .3) (body-row (editionOf (a .in-d)) (l .i) (stateOf (l .t)) cells (sym o ∙ c .before .before .before .before .before .before .before .if2 .left)) (c .before .f .given .1) (fit-row .ensures) in
+    (omega (arith, loop-test .taken), l .inv .1, g, record { counted = laid-most (b .laid); small = omega (arith, laid-length (b .laid), entry .pre .3) }, laid-length (b .laid), b)
 
 same-length-4 : tie.Need-same-length-4 Inv-loop μ-loop
 same-length-4 c = search needs
 
 returns-4 : tie.Need-returns-4 Inv-loop μ-loop
-returns-4 c = body-halts (c .before .before .loop .inv .5) _ _ _ _ (body-broken (editionOf (c .before .before .before .before .before .before .before .args .in-d)) (c .before .before .loop .i) (stateOf (c .before .before .loop .t)) (cells-part (c .before .before .before .before .before .before .before .args .pool .now) (c .before .before .before .before .before .before .before .args .rows .now) (c .before .before .loop .i) (omega arith) (c .if3 .taken)))
+returns-4 c =
+    let a = c .before .before .before .before .before .before .before .args in
+    let l = c .before .before .loop in
+    body-halts (l .inv .5) _ _ _ _ (body-broken (editionOf (a .in-d)) (l .i) (stateOf (l .t)) (cells-part (a .pool .now) (a .rows .now) (l .i) (omega arith) (c .if3 .taken)))
 
 seal-requires-2 : tie.Need-seal-requires-2 Inv-loop μ-loop
 seal-requires-2 c κs = (c .before .before .before .before .before .before .before .before .pre .0, c .before .before .before .loop .inv .2, c .before .before .before .loop .inv .3)
@@ -127,7 +133,11 @@ same-length-5 : tie.Need-same-length-5 Inv-loop μ-loop
 same-length-5 c = search needs
 
 returns-5 : tie.Need-returns-5 Inv-loop μ-loop
-returns-5 c = body-seals (c .before .before .before .before .before .before .loop .inv .5) _ _ _ _ (c .before .before .before .before .before .before .before .before .before .before .before .pre .3) (body-nil (editionOf (c .before .before .before .before .before .before .before .before .before .before .before .args .in-d)) (c .before .before .before .before .before .before .loop .i) (stateOf (c .before .before .before .before .before .before .loop .t)) (cells-none (c .before .before .before .before .before .before .before .before .before .before .before .args .pool .now) (c .before .before .before .before .before .before .before .before .before .before .before .args .rows .now) (c .before .before .before .before .before .before .loop .i) (omega arith) (c .before .before .before .before .if3 .left))) (c .before .before .seal2 .ensures _ _ (omega arith))
+returns-5 c =
+    let entry = c .before .before .before .before .before .before .before .before .before .before .before in
+    let a = entry .args in
+    let l = c .before .before .before .before .before .before .loop in
+    body-seals (l .inv .5) _ _ _ _ (entry .pre .3) (body-nil (editionOf (a .in-d)) (l .i) (stateOf (l .t)) (cells-none (a .pool .now) (a .rows .now) (l .i) (omega arith) (c .before .before .before .before .if3 .left))) (c .before .before .seal2 .ensures _ _ (omega arith))
 
 pub body-spec : {M : Type 1} → statement M
 body-spec =

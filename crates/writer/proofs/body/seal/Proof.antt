@@ -20,13 +20,17 @@ same-length : tie.Need-same-length
 same-length c = search needs
 
 returns : tie.Need-returns
-returns c = λ pool rows l. seal-stuck (c .before .before .before .before .before .before .before .before .args .i) (close (editionOf (c .before .before .before .before .before .before .before .before .args .in-d)) (stateOf (c .before .before .before .before .before .before .before .before .args .s))) _ _ _ (c .before .before .before .before .close-all .ensures) pool rows l (c .enum-told .given .1)
+returns c =
+    let a = c .before .before .before .before .before .before .before .before .args in
+    λ pool rows l. seal-stuck (a .i) (close (editionOf (a .in-d)) (stateOf (a .s))) _ _ _ (c .before .before .before .before .close-all .ensures) pool rows l (c .enum-told .given .1)
 
 same-length-2 : tie.Need-same-length-2
 same-length-2 c = search needs
 
 returns-2 : tie.Need-returns-2
-returns-2 c = λ pool rows l. seal-ended (c .before .before .before .before .before .before .before .before .before .args .i) (close (editionOf (c .before .before .before .before .before .before .before .before .before .args .in-d)) (stateOf (c .before .before .before .before .before .before .before .before .before .args .s))) _ _ _ (c .before .before .before .before .before .close-all .ensures) pool rows l (c .before .f .given .1)
+returns-2 c =
+    let a = c .before .before .before .before .before .before .before .before .before .args in
+    λ pool rows l. seal-ended (a .i) (close (editionOf (a .in-d)) (stateOf (a .s))) _ _ _ (c .before .before .before .before .before .close-all .ensures) pool rows l (c .before .f .given .1)
 
 pub seal-spec : {M : Type 1} → statement M
 seal-spec =

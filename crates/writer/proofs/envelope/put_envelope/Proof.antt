@@ -31,7 +31,10 @@ part-put-head-end : tie.Need-part-put-head-end
 part-put-head-end c = omega (arith, c .size-of .ensures .0, c .before .before .before .before .before .pre .1 .room)
 
 put-head-requires : tie.Need-put-head-requires
-put-head-requires c κs = (c .before .before .before .before .before .before .pre .1 .small, omega (arith, take-most (c .before .before .before .before .before .before .args .at + c .before .size-of .result - c .before .before .before .before .before .before .args .many - c .before .before .before .before .before .before .args .at) (drop (c .before .before .before .before .before .before .args .at) (c .before .before .before .before .before .before .args .output .now)), c .before .size-of .ensures .0, size-least (c .before .before .before .before .before .before .args .many) .1))
+put-head-requires c κs =
+    let entry = c .before .before .before .before .before .before in
+    let a = entry .args in
+    (entry .pre .1 .small, omega (arith, take-most (a .at + c .before .size-of .result - a .many - a .at) (drop (a .at) (a .output .now)), c .before .size-of .ensures .0, size-least (a .many) .1))
 
 start-of-requires : tie.Need-start-of-requires
 start-of-requires c κs = search needs
@@ -46,13 +49,20 @@ part-body-end : tie.Need-part-body-end
 part-body-end c = omega (arith, c .before .before .before .before .before .size-of .ensures .0, c .before .before .before .before .before .before .before .before .before .before .pre .1 .room, laid-length (c .before .before .before .put-head .ensures))
 
 body-requires : tie.Need-body-requires
-body-requires c κs = (c .before .before .before .before .before .before .before .before .before .before .before .pre .0, start-good (c .before .before .before .before .before .before .before .before .before .before .before .args .opened) (c .before .start-of .ensures), c .before .before .before .before .before .before .before .before .before .before .before .pre .1 .inside, simp length-take (omega (arith, c .before .before .before .before .before .before .before .before .before .before .before .pre .1 .small)))
+body-requires c κs =
+    let entry = c .before .before .before .before .before .before .before .before .before .before .before in
+    let a = entry .args in
+    (entry .pre .0, start-good (a .opened) (c .before .start-of .ensures), entry .pre .1 .inside, simp length-take (omega (arith, entry .pre .1 .small)))
 
 same-length : tie.Need-same-length
 same-length c = search needs
 
 returns : tie.Need-returns
-returns c = written-from (editionOf (c .before .before .before .before .before .before .before .before .before .before .before .before .before .before .args .in-d)) (cellsAt (c .before .before .before .before .before .before .before .before .before .before .before .before .before .before .args .pool .now) (c .before .before .before .before .before .before .before .before .before .before .before .before .before .before .args .rows .now) (c .before .before .before .before .before .before .before .before .before .before .before .before .before .before .args .from)) (c .before .before .before .before .before .before .before .before .before .before .before .before .before .before .args .from) (c .before .before .before .before .start-of .ensures) (envelope-laid (c .before .before .before .before .before .before .before .before .before .before .before .before .before .before .args .output .now) (c .before .before .before .before .before .before .before .before .before .before .before .before .before .before .args .at) (c .before .before .before .before .before .before .before .before .before .before .before .before .before .before .args .at + c .before .before .before .before .before .before .before .before .before .size-of .result - c .before .before .before .before .before .before .before .before .before .before .before .before .before .before .args .many) (c .before .before .before .before .before .before .before .before .before .before .before .before .before .before .args .at + c .before .before .before .before .before .before .before .before .before .size-of .result) (c .before .before .before .before .before .before .before .before .before .before .before .before .before .before .args .many) (eqb (c .before .before .before .before .before .before .before .before .before .before .before .before .before .before .args .opened) 2) (ap (λ (n : ℕ). c .before .before .before .before .before .before .before .before .before .before .before .before .before .before .args .at + n) (c .before .before .before .before .before .before .before .before .before .size-of .ensures .0)) refl (omega (arith, c .before .before .before .before .before .before .before .before .before .size-of .ensures .0, c .before .before .before .before .before .before .before .before .before .before .before .before .before .before .pre .1 .room)) _ _ _ _ _ _ (c .before .before .before .before .before .before .before .put-head .ensures) (c .before .before .body .ensures))
+returns c =
+    let entry = c .before .before .before .before .before .before .before .before .before .before .before .before .before .before in
+    let a = entry .args in
+    let size-of = c .before .before .before .before .before .before .before .before .before .size-of in
+    written-from (editionOf (a .in-d)) (cellsAt (a .pool .now) (a .rows .now) (a .from)) (a .from) (c .before .before .before .before .start-of .ensures) (envelope-laid (a .output .now) (a .at) (a .at + size-of .result - a .many) (a .at + size-of .result) (a .many) (eqb (a .opened) 2) (ap (λ (n : ℕ). a .at + n) (size-of .ensures .0)) refl (omega (arith, size-of .ensures .0, entry .pre .1 .room)) _ _ _ _ _ _ (c .before .before .before .before .before .before .before .put-head .ensures) (c .before .before .body .ensures))
 
 pub put-envelope-spec : {M : Type 1} → statement M
 put-envelope-spec =

@@ -39,15 +39,20 @@ same-length-2 : tie.Need-same-length-2 Inv-loop μ-loop
 same-length-2 c = search needs
 
 returns-2 : tie.Need-returns-2 Inv-loop μ-loop
-returns-2 c = onto-stuck (c .before .before .before .loop .inv .4) _ (close-none (c .before .before .before .before .before .before .args .in-d) (c .before .before .before .loop .s) (c .before .before .before .loop .inv .0) (c .before .before .if1 .left) (c .before .find-pass .ensures) (c .if2 .taken))
+returns-2 c =
+    let l = c .before .before .before .loop in
+    onto-stuck (l .inv .4) _ (close-none (c .before .before .before .before .before .before .args .in-d) (l .s) (l .inv .0) (c .before .before .if1 .left) (c .before .find-pass .ensures) (c .if2 .taken))
 
 code-of-requires : tie.Need-code-of-requires Inv-loop μ-loop
 code-of-requires c κs = search needs
 
 cast-put : tie.Need-cast-put Inv-loop μ-loop
 cast-put c =
-    let k = c .before .before .before .find-pass .ensures .known (c .before .before .if2 .left) in
-    let h = k .quiet-coded (close-quiet (c .before .before .before .before .before .before .before .before .args .in-d) (c .before .before .before .before .before .loop .s) (c .before .before .before .before .before .loop .inv .0) (c .before .before .before .before .if1 .left) (c .before .before .before .find-pass .ensures) (c .before .before .if2 .left)) in
+    let l = c .before .before .before .before .before .loop in
+    let find-pass = c .before .before .before .find-pass in
+    let if2 = c .before .before .if2 in
+    let k = find-pass .ensures .known (if2 .left) in
+    let h = k .quiet-coded (close-quiet (c .before .before .before .before .before .before .before .before .args .in-d) (l .s) (l .inv .0) (c .before .before .before .before .if1 .left) (find-pass .ensures) (if2 .left)) in
     omega (arith, h, c .code-of .ensures)
 
 put-requires : tie.Need-put-requires Inv-loop μ-loop
@@ -57,14 +62,22 @@ go-requires : tie.Need-go-requires Inv-loop μ-loop
 go-requires c κs = heavy-level (c .before .before .before .before .before .before .before .before .loop .s) _ (c .before .before .before .before .before .before .before .before .loop .inv .1)
 
 loop-less : tie.Need-loop-less Inv-loop μ-loop
-loop-less c = lighter-at (c .before .before .before .before .before .before .before .before .before .loop .s) (c .go .ensures) (close-lighter (c .before .before .before .before .before .before .before .before .before .before .before .before .args .in-d) (c .before .before .before .before .before .before .before .before .before .loop .s) (c .before .before .before .before .before .before .before .before .before .loop .inv .0) (c .before .before .before .before .before .before .before .before .if1 .left) (c .before .before .before .before .before .before .before .find-pass .ensures) (c .before .before .before .before .before .before .if2 .left))
+loop-less c =
+    let l = c .before .before .before .before .before .before .before .before .before .loop in
+    lighter-at (l .s) (c .go .ensures) (close-lighter (c .before .before .before .before .before .before .before .before .before .before .before .before .args .in-d) (l .s) (l .inv .0) (c .before .before .before .before .before .before .before .before .if1 .left) (c .before .before .before .before .before .before .before .find-pass .ensures) (c .before .before .before .before .before .before .if2 .left))
 
 loop-again : tie.Need-loop-again Inv-loop μ-loop
 loop-again c =
-    let l = c .before .before .before .before .before .before .before .before .before .loop .inv in
+    let entry = c .before .before .before .before .before .before .before .before .before .before .before .before in
+    let a = entry .args in
+    let at-loop = c .before .before .before .before .before .before .before .before .before .loop in
+    let if1 = c .before .before .before .before .before .before .before .before .if1 in
+    let find-pass = c .before .before .before .before .before .before .before .find-pass in
+    let if2 = c .before .before .before .before .before .before .if2 in
+    let l = at-loop .inv in
     let e = c .before .before .before .put .ensures in
-    let h = lighter-at (c .before .before .before .before .before .before .before .before .before .loop .s) (c .go .ensures) (close-lighter (c .before .before .before .before .before .before .before .before .before .before .before .before .args .in-d) (c .before .before .before .before .before .before .before .before .before .loop .s) (c .before .before .before .before .before .before .before .before .before .loop .inv .0) (c .before .before .before .before .before .before .before .before .if1 .left) (c .before .before .before .before .before .before .before .find-pass .ensures) (c .before .before .before .before .before .before .if2 .left)) in
-    (goes-room (c .before .before .before .before .before .before .before .before .before .loop .s) (c .go .ensures) (c .before .before .before .before .before .before .before .find-pass .ensures .known (c .before .before .before .before .before .before .if2 .left)), omega (arith, h, l .1), laid-layable e (l .2), laid-length e ∙ l .3, onto-byte (l .4) (c .before .before .before .before .before .before .before .before .before .before .before .before .pre .2 .small) (close-passes (c .before .before .before .before .before .before .before .before .before .before .before .before .args .in-d) (c .before .before .before .before .before .before .before .before .before .loop .s) (c .before .before .before .before .before .before .before .before .before .loop .inv .0) (c .before .before .before .before .before .before .before .before .if1 .left) (c .before .before .before .before .before .before .before .find-pass .ensures) (c .before .before .before .before .before .before .if2 .left) ∙ ap (λ (t : Standing). led (codeIn (c .before .before .before .before .before .before .before .find-pass .result) ∷ []) (close (editionOf (c .before .before .before .before .before .before .before .before .before .before .before .before .args .in-d)) (stateOf t))) (sym (c .go .ensures))) (c .before .before .before .before .code-of .ensures) e)
+    let h = lighter-at (at-loop .s) (c .go .ensures) (close-lighter (a .in-d) (at-loop .s) (at-loop .inv .0) (if1 .left) (find-pass .ensures) (if2 .left)) in
+    (goes-room (at-loop .s) (c .go .ensures) (find-pass .ensures .known (if2 .left)), omega (arith, h, l .1), laid-layable e (l .2), laid-length e ∙ l .3, onto-byte (l .4) (entry .pre .2 .small) (close-passes (a .in-d) (at-loop .s) (at-loop .inv .0) (if1 .left) (find-pass .ensures) (if2 .left) ∙ ap (λ (t : Standing). led (codeIn (find-pass .result) ∷ []) (close (editionOf (a .in-d)) (stateOf t))) (sym (c .go .ensures))) (c .before .before .before .before .code-of .ensures) e)
 
 pub close-all-spec : {M : Type 1} → statement M
 close-all-spec =

@@ -11,13 +11,17 @@ find-pass-requires : tie.Need-find-pass-requires
 find-pass-requires c κs = search needs
 
 returns : tie.Need-returns
-returns c = finds-first _ (c .if1 .taken) (finds-way (c .before .before .before .before .args .in-d) (c .before .before .before .before .args .room) (c .before .before .before .before .args .kind) (c .before .before .way-to .ensures) (c .before .find-pass .ensures))
+returns c =
+    let a = c .before .before .before .before .args in
+    finds-first _ (c .if1 .taken) (finds-way (a .in-d) (a .room) (a .kind) (c .before .before .way-to .ensures) (c .before .find-pass .ensures))
 
 find-pass-requires-2 : tie.Need-find-pass-requires-2
 find-pass-requires-2 c κs = search needs
 
 returns-2 : tie.Need-returns-2
-returns-2 c = finds-second (c .before .if1 .left) (finds-way (c .before .before .before .before .before .args .in-d) (c .before .before .before .before .before .args .room) (c .before .before .before .before .before .args .kind) (c .before .before .before .way-to .ensures) (c .before .before .find-pass .ensures)) (c .find-pass2 .ensures)
+returns-2 c =
+    let a = c .before .before .before .before .before .args in
+    finds-second (c .before .if1 .left) (finds-way (a .in-d) (a .room) (a .kind) (c .before .before .before .way-to .ensures) (c .before .before .find-pass .ensures)) (c .find-pass2 .ensures)
 
 pub pass-move-spec : {M : Type 1} → statement M
 pass-move-spec =

@@ -11,7 +11,9 @@ too-deep-requires : tie.Need-too-deep-requires
 too-deep-requires c κs = search needs
 
 returns : tie.Need-returns
-returns c = λ kind level. place-deep (c .before .before .before .before .args .x) (c .before .before .before .before .args .s) kind level (c .before .before .before .before .args .bytes .now) _ _ _ (sym (c .before .too-deep .ensures) ∙ c .if1 .taken)
+returns c =
+    let a = c .before .before .before .before .args in
+    λ kind level. place-deep (a .x) (a .s) kind level (a .bytes .now) _ _ _ (sym (c .before .too-deep .ensures) ∙ c .if1 .taken)
 
 code-of-requires : tie.Need-code-of-requires
 code-of-requires c κs = search needs
@@ -26,7 +28,9 @@ code-of-requires-2 : tie.Need-code-of-requires-2
 code-of-requires-2 c κs = search needs
 
 put-value-requires : tie.Need-put-value-requires
-put-value-requires c κs = (laid-layable (c .before .before .before .before .before .put-code .ensures) (c .before .before .before .before .before .before .before .before .before .before .before .before .pre .layable), valid-at _ (c .before .before .form-of .ensures) (c .before .code-of2 .ensures) (c .before .before .before .before .before .before .before .before .before .before .before .before .pre .ok))
+put-value-requires c κs =
+    let entry = c .before .before .before .before .before .before .before .before .before .before .before .before in
+    (laid-layable (c .before .before .before .before .before .put-code .ensures) (entry .pre .layable), valid-at _ (c .before .before .form-of .ensures) (c .before .code-of2 .ensures) (entry .pre .ok))
 
 go-requires : tie.Need-go-requires
 go-requires c κs = omega (arith, c .before .before .before .before .before .before .before .before .before .before .before .before .before .before .before .pre .level)
@@ -35,7 +39,10 @@ same-length : tie.Need-same-length
 same-length c = search needs
 
 returns-2 : tie.Need-returns-2
-returns-2 c = λ kind level. place-fits (c .before .before .before .before .before .before .before .before .before .before .before .before .before .before .before .before .args .x) (c .before .before .before .before .before .before .before .before .before .before .before .before .before .before .before .before .args .s) kind level (c .before .before .before .before .before .before .before .before .before .before .before .before .before .before .before .before .args .bytes .now) (sym (c .before .before .before .before .before .before .before .before .before .before .before .before .before .too-deep .ensures) ∙ c .before .before .before .before .before .before .before .before .before .before .before .before .if1 .left) (c .before .before .before .before .before .before .before .before .before .before .before .before .before .before .before .before .pre .known) (c .before .before .before .before .before .before .before .before .before .before .before .before .before .before .before .before .pre .level) (c .before .before .before .before .before .before .before .before .before .before .before .before .before .before .before .before .pre .layable .small) (c .before .before .before .before .before .before .before .before .before .before .before .code-of .ensures) (c .before .before .before .before .before .before .form-of .ensures) (c .before .before .before .before .before .before .before .before .before .put-code .ensures) (c .before .before .before .put-value .ensures) (c .go .ensures)
+returns-2 c =
+    let entry = c .before .before .before .before .before .before .before .before .before .before .before .before .before .before .before .before in
+    let a = entry .args in
+    λ kind level. place-fits (a .x) (a .s) kind level (a .bytes .now) (sym (c .before .before .before .before .before .before .before .before .before .before .before .before .before .too-deep .ensures) ∙ c .before .before .before .before .before .before .before .before .before .before .before .before .if1 .left) (entry .pre .known) (entry .pre .level) (entry .pre .layable .small) (c .before .before .before .before .before .before .before .before .before .before .before .code-of .ensures) (c .before .before .before .before .before .before .form-of .ensures) (c .before .before .before .before .before .before .before .before .before .put-code .ensures) (c .before .before .before .put-value .ensures) (c .go .ensures)
 
 pub place-row-spec : {M : Type 1} → statement M
 place-row-spec =

@@ -22,7 +22,10 @@ copy-requires-2 c κs = search needs
 
 cast-put : tie.Need-cast-put
 unfolding formOf
-cast-put c = let h = block-small (c .before .before .before .before .args .form) (c .before .before .before .before .args .code) _ (length (c .before .before .before .before .args .bytes .now)) oneByte refl (ap formOf (c .before .match .keys3)) (c .before .before .before .before .pre .1) in omega (arith, h)
+cast-put c =
+    let entry = c .before .before .before .before in
+    let a = entry .args in
+    let h = block-small (a .form) (a .code) _ (length (a .bytes .now)) oneByte refl (ap formOf (c .before .match .keys3)) (entry .pre .1) in omega (arith, h)
 
 put-requires-2 : tie.Need-put-requires-2
 put-requires-2 c κs = search needs
@@ -32,14 +35,20 @@ copy-requires-3 c κs = laid-layable (c .before .before .before .put2 .ensures) 
 
 put-two-requires : tie.Need-put-two-requires
 unfolding formOf
-put-two-requires c κs = (block-small (c .before .before .before .before .args .form) (c .before .before .before .before .args .code) _ (length (c .before .before .before .before .args .bytes .now)) twoBytes refl (ap formOf (c .before .match .keys4)) (c .before .before .before .before .pre .1), c .before .before .before .before .pre .0)
+put-two-requires c κs =
+    let entry = c .before .before .before .before in
+    let a = entry .args in
+    (block-small (a .form) (a .code) _ (length (a .bytes .now)) twoBytes refl (ap formOf (c .before .match .keys4)) (entry .pre .1), entry .pre .0)
 
 copy-requires-4 : tie.Need-copy-requires-4
 copy-requires-4 c κs = laid-layable (c .before .before .before .put-two .ensures) (c .before .before .before .before .before .before .before .before .pre .0)
 
 put-four-requires : tie.Need-put-four-requires
 unfolding formOf
-put-four-requires c κs = (block-small (c .before .before .before .before .args .form) (c .before .before .before .before .args .code) _ (length (c .before .before .before .before .args .bytes .now)) fourBytes refl (ap formOf (c .before .match .keys5)) (c .before .before .before .before .pre .1), c .before .before .before .before .pre .0)
+put-four-requires c κs =
+    let entry = c .before .before .before .before in
+    let a = entry .args in
+    (block-small (a .form) (a .code) _ (length (a .bytes .now)) fourBytes refl (ap formOf (c .before .match .keys5)) (entry .pre .1), entry .pre .0)
 
 copy-requires-5 : tie.Need-copy-requires-5
 copy-requires-5 c κs = laid-layable (c .before .before .before .put-four .ensures) (c .before .before .before .before .before .before .before .before .pre .0)
@@ -61,7 +70,10 @@ same-length c = search needs
 
 returns : tie.Need-returns
 unfolding formOf writeValue
-returns c = laid-as (laid-then (c .before .before .before .before .before .before .copy .ensures) (c .before .before .before .before .before .before .before .before .before .before .before .pre .0 .small) (c .before .before .put .ensures)) _ (writes-as (c .before .before .before .before .before .before .before .before .before .before .before .args .form) _ _ (ap formOf (c .before .before .before .before .before .before .before .before .match .keys1)) refl)
+returns c =
+    let entry = c .before .before .before .before .before .before .before .before .before .before .before in
+    let a = entry .args in
+    laid-as (laid-then (c .before .before .before .before .before .before .copy .ensures) (entry .pre .0 .small) (c .before .before .put .ensures)) _ (writes-as (a .form) _ _ (ap formOf (c .before .before .before .before .before .before .before .before .match .keys1)) refl)
 
 same-length-2 : tie.Need-same-length-2
 same-length-2 c = search needs
@@ -75,21 +87,30 @@ same-length-3 c = search needs
 
 returns-3 : tie.Need-returns-3
 unfolding formOf writeValue
-returns-3 c = laid-as (laid-then (c .before .before .before .before .before .before .put2 .ensures) (c .before .before .before .before .before .before .before .before .before .before .before .pre .0 .small) (c .before .before .copy3 .ensures)) _ (writes-as (c .before .before .before .before .before .before .before .before .before .before .before .args .form) _ _ (ap formOf (c .before .before .before .before .before .before .before .before .match .keys3)) (block-writes oneByte (c .before .before .before .before .before .before .before .before .before .before .before .args .bytes .now) _ refl))
+returns-3 c =
+    let entry = c .before .before .before .before .before .before .before .before .before .before .before in
+    let a = entry .args in
+    laid-as (laid-then (c .before .before .before .before .before .before .put2 .ensures) (entry .pre .0 .small) (c .before .before .copy3 .ensures)) _ (writes-as (a .form) _ _ (ap formOf (c .before .before .before .before .before .before .before .before .match .keys3)) (block-writes oneByte (a .bytes .now) _ refl))
 
 same-length-4 : tie.Need-same-length-4
 same-length-4 c = search needs
 
 returns-4 : tie.Need-returns-4
 unfolding formOf writeValue
-returns-4 c = laid-as (laid-then (c .before .before .before .before .before .before .put-two .ensures) (c .before .before .before .before .before .before .before .before .before .before .before .pre .0 .small) (c .before .before .copy4 .ensures)) _ (writes-as (c .before .before .before .before .before .before .before .before .before .before .before .args .form) _ _ (ap formOf (c .before .before .before .before .before .before .before .before .match .keys4)) (block-writes twoBytes (c .before .before .before .before .before .before .before .before .before .before .before .args .bytes .now) _ refl))
+returns-4 c =
+    let entry = c .before .before .before .before .before .before .before .before .before .before .before in
+    let a = entry .args in
+    laid-as (laid-then (c .before .before .before .before .before .before .put-two .ensures) (entry .pre .0 .small) (c .before .before .copy4 .ensures)) _ (writes-as (a .form) _ _ (ap formOf (c .before .before .before .before .before .before .before .before .match .keys4)) (block-writes twoBytes (a .bytes .now) _ refl))
 
 same-length-5 : tie.Need-same-length-5
 same-length-5 c = search needs
 
 returns-5 : tie.Need-returns-5
 unfolding formOf writeValue
-returns-5 c = laid-as (laid-then (c .before .before .before .before .before .before .put-four .ensures) (c .before .before .before .before .before .before .before .before .before .before .before .pre .0 .small) (c .before .before .copy5 .ensures)) _ (writes-as (c .before .before .before .before .before .before .before .before .before .before .before .args .form) _ _ (ap formOf (c .before .before .before .before .before .before .before .before .match .keys5)) (block-writes fourBytes (c .before .before .before .before .before .before .before .before .before .before .before .args .bytes .now) _ refl))
+returns-5 c =
+    let entry = c .before .before .before .before .before .before .before .before .before .before .before in
+    let a = entry .args in
+    laid-as (laid-then (c .before .before .before .before .before .before .put-four .ensures) (entry .pre .0 .small) (c .before .before .copy5 .ensures)) _ (writes-as (a .form) _ _ (ap formOf (c .before .before .before .before .before .before .before .before .match .keys5)) (block-writes fourBytes (a .bytes .now) _ refl))
 
 same-length-6 : tie.Need-same-length-6
 same-length-6 c = search needs
@@ -121,8 +142,10 @@ returns-9 c = laid-as (c .before .before .copy9 .ensures) _ (writes-as (c .befor
 
 returns-10 : tie.Need-returns-10
 returns-10 c =
+    let entry = c .before .before .before in
+    let a = entry .args in
     let r = c .match .rest in
-    laid-as (laid-none _ _ (c .before .before .before .pre .0)) _ (writes-none (c .before .before .before .args .form) _ (r .0 .0 .0 .0 .0 .0 .0 .0 .1) (r .0 .0 .0 .0 .0 .0 .0 .1) (r .0 .0 .0 .0 .0 .0 .1) (r .0 .0 .0 .0 .0 .1) (r .0 .0 .0 .0 .1) (r .0 .0 .0 .1) (r .0 .0 .1) (r .0 .1) (r .1))
+    laid-as (laid-none _ _ (entry .pre .0)) _ (writes-none (a .form) _ (r .0 .0 .0 .0 .0 .0 .0 .0 .1) (r .0 .0 .0 .0 .0 .0 .0 .1) (r .0 .0 .0 .0 .0 .0 .1) (r .0 .0 .0 .0 .0 .1) (r .0 .0 .0 .0 .1) (r .0 .0 .0 .1) (r .0 .0 .1) (r .0 .1) (r .1))
 
 pub put-value-spec : {M : Type 1} → statement M
 put-value-spec =

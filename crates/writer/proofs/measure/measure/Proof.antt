@@ -17,7 +17,9 @@ body-requires : tie.Need-body-requires
 body-requires c κs = search needs
 
 returns : tie.Need-returns
-returns c = measured (bodyOf (editionOf (c .before .before .before .before .before .before .args .in-d)) (cellsAt (c .before .before .before .before .before .before .args .pool .now) (c .before .before .before .before .before .before .args .rows .now) (c .before .before .before .before .before .before .args .from)) (c .before .before .before .before .before .before .args .from) (stateOf (c .before .before .before .before .before .before .args .s))) (c .before .before .before .before .before .before .args .pool .now) (c .before .before .before .before .before .before .args .rows .now) _ _ _ (c .before .body .ensures)
+returns c =
+    let a = c .before .before .before .before .before .before .args in
+    measured (bodyOf (editionOf (a .in-d)) (cellsAt (a .pool .now) (a .rows .now) (a .from)) (a .from) (stateOf (a .s))) (a .pool .now) (a .rows .now) _ _ _ (c .before .body .ensures)
 
 pub measure-spec : {M : Type 1} → statement M
 measure-spec =
