@@ -21,13 +21,21 @@ bounded-requires : tie.Need-bounded-requires
 bounded-requires c κs = (omega arith, omega arith, omega arith)
 
 returns-2 : tie.Need-returns-2
-returns-2 c = let a = c .before .before .before .before .before .args in short-form (a .s .now) (a .at) (a .base) (c .before .before .before .before .before .pre) (c .before .before .two-bytes .result) (c .before .before .before .if1 .left) (c .before .before .two-bytes .ensures .0) (c .before .if2 .taken) (c .bounded .ensures)
+returns-2 c =
+    let entry = c .before .before .before .before .before in
+    let given = entry .args in
+    let two-bytes = c .before .before .two-bytes in
+    let a = given in short-form (a .s .now) (a .at) (a .base) (entry .pre) (two-bytes .result) (c .before .before .before .if1 .left) (two-bytes .ensures .0) (c .before .if2 .taken) (c .bounded .ensures)
 
 sub-if3 : tie.Need-sub-if3
 sub-if3 c = search needs
 
 returns-3 : tie.Need-returns-3
-returns-3 c = let a = c .before .before .before .before .before .args in no-long-length (a .s .now) (a .at) (a .base) (c .before .before .before .before .before .pre) (c .before .before .two-bytes .result) (c .before .before .before .if1 .left) (c .before .before .two-bytes .ensures .0) (c .before .if2 .left) (c .if3 .taken)
+returns-3 c =
+    let entry = c .before .before .before .before .before in
+    let given = entry .args in
+    let two-bytes = c .before .before .two-bytes in
+    let a = given in no-long-length (a .s .now) (a .at) (a .base) (entry .pre) (two-bytes .result) (c .before .before .before .if1 .left) (two-bytes .ensures .0) (c .before .if2 .left) (c .if3 .taken)
 
 add-four-bytes : tie.Need-add-four-bytes
 add-four-bytes c = search needs
@@ -39,7 +47,11 @@ bounded-requires-2 : tie.Need-bounded-requires-2
 bounded-requires-2 c κs = search needs
 
 returns-4 : tie.Need-returns-4
-returns-4 c = let a = c .before .before .before .before .before .before .before .args in long-form (a .s .now) (a .at) (a .base) (c .before .before .before .before .before .before .before .pre) (c .before .before .before .before .two-bytes .result) (c .before .before .before .before .before .if1 .left) (c .before .before .before .before .two-bytes .ensures .0) (c .before .four-bytes .result) (c .before .before .before .if2 .left) (c .before .before .if3 .left) (c .before .four-bytes .ensures) (c .bounded2 .ensures)
+returns-4 c =
+    let entry = c .before .before .before .before .before .before .before in
+    let given = entry .args in
+    let two-bytes = c .before .before .before .before .two-bytes in
+    let a = given in long-form (a .s .now) (a .at) (a .base) (entry .pre) (two-bytes .result) (c .before .before .before .before .before .if1 .left) (two-bytes .ensures .0) (c .before .four-bytes .result) (c .before .before .before .if2 .left) (c .before .before .if3 .left) (c .before .four-bytes .ensures) (c .bounded2 .ensures)
 
 pub measured-spec : {M : Type 1} → statement M
 measured-spec =

@@ -73,8 +73,9 @@ extra-code-requires c κs = search needs
 
 extras-requires : tie.Need-extras-requires
 extras-requires c κs =
-    let k = c .before .before .before .before .before .before .before .before .before .before .before .before .before .before .before .before .before .before .before .before .before .before .before .before .before .pre .1 in
-    (ready-to (c .before .before .before .before .before .before .before .before .before .before .before .before .before .before .before .before .before .before .before .before .before .before .before .before .before .pre .0) (moved-to (c .before .before .before .via .given .1) (via-read (c .before .before .before .before .before .before .before) B)), λ q. received-code (k .edition) (sym (c .extra-code .ensures (k .edition) (k .is)) ∙ q))
+    let entry = c .before .before .before .before .before .before .before .before .before .before .before .before .before .before .before .before .before .before .before .before .before .before .before .before .before in
+    let k = entry .pre .1 in
+    (ready-to (entry .pre .0) (moved-to (c .before .before .before .via .given .1) (via-read (c .before .before .before .before .before .before .before) B)), λ q. received-code (k .edition) (sym (c .extra-code .ensures (k .edition) (k .is)) ∙ q))
 
 same-length-4 : tie.Need-same-length-4
 same-length-4 c = search needs

@@ -38,7 +38,9 @@ returns : tie.Need-returns
 returns c e is = handed (c .enum-told .given .1) (by-read (c .before .before .before .before) e)
 
 date-requires : tie.Need-date-requires
-date-requires c κs = (ready-to (c .before .before .before .before .before .before .before .before .before .before .pre .0) (moved-to (c .before .before .by .given .1) (by-read (c .before .before .before .before .before .before) B)), c .before .before .before .before .before .before .before .before .before .before .pre .1)
+date-requires c κs =
+    let entry = c .before .before .before .before .before .before .before .before .before .before in
+    (ready-to (entry .pre .0) (moved-to (c .before .before .by .given .1) (by-read (c .before .before .before .before .before .before) B)), entry .pre .1)
 
 enum-known-date : tie.Need-enum-known-date
 enum-known-date c = search needs
@@ -53,7 +55,9 @@ returns-2 : tie.Need-returns-2
 returns-2 c e is = handed (c .enum-told2 .given .1) (date-read (c .before .before .before .before) e is)
 
 behind-date-requires : tie.Need-behind-date-requires
-behind-date-requires c κs = (ready-to (c .before .before .before .before .before .before .before .before .before .before .before .before .before .before .before .before .before .pre .0) (moved-to (c .before .before .date2 .given .1) (date-read (c .before .before .before .before .before .before) (c .before .before .before .before .before .before .before .before .before .before .before .before .before .before .before .before .before .pre .1 .edition) (c .before .before .before .before .before .before .before .before .before .before .before .before .before .before .before .before .before .pre .1 .is))), c .before .before .before .before .before .before .before .before .before .before .before .before .before .before .before .before .before .pre .1)
+behind-date-requires c κs =
+    let entry = c .before .before .before .before .before .before .before .before .before .before .before .before .before .before .before .before .before in
+    (ready-to (entry .pre .0) (moved-to (c .before .before .date2 .given .1) (date-read (c .before .before .before .before .before .before) (entry .pre .1 .edition) (entry .pre .1 .is))), entry .pre .1)
 
 same-length-3 : tie.Need-same-length-3
 same-length-3 c = search needs

@@ -103,13 +103,15 @@ returns-3 c e q any d h = handed (c .enum-told .given .1) (once-more (c .before 
 
 loop-less : tie.Need-loop-less Inv-loop μ-loop
 loop-less c =
-    let u = moved-to (c .before .r .given .1) (c .before .before .before .before .before .extra .ensures B (state agentExtra (c .before .before .before .before .before .before .before .before .before .before .before .before .before .args .level) true) (state afterResolvers (c .before .before .before .before .before .before .before .before .before .before .before .before .before .args .level) true) (agent-any B (c .before .before .before .before .before .before .before .before .before .before .before .before .before .args .level) true)) in
+    let a = c .before .before .before .before .before .before .before .before .before .before .before .before .before .args in
+    let u = moved-to (c .before .r .given .1) (c .before .before .before .before .before .extra .ensures B (state agentExtra (a .level) true) (state afterResolvers (a .level) true) (agent-any B (a .level) true)) in
     omega arith
 
 loop-again : tie.Need-loop-again Inv-loop μ-loop
 loop-again c =
+    let a = c .before .before .before .before .before .before .before .before .before .before .before .before .before .args in
     let t = c .before .before .before .before .before in
-    let u = moved-to (c .before .r .given .1) (t .extra .ensures B (state agentExtra (c .before .before .before .before .before .before .before .before .before .before .before .before .before .args .level) true) (state afterResolvers (c .before .before .before .before .before .before .before .before .before .before .before .before .before .args .level) true) (agent-any B (c .before .before .before .before .before .before .before .before .before .before .before .before .before .args .level) true)) in
+    let u = moved-to (c .before .r .given .1) (t .extra .ensures B (state agentExtra (a .level) true) (state afterResolvers (a .level) true) (agent-any B (a .level) true)) in
     (omega arith, omega arith, omega arith, t .extra .kept .1 .1 .1 .0 ∙ c .before .before .before .before .before .before .before .before .before .before .loop .inv .3, λ e q any d h. went (c .before .r .given .1) (once-more t e q any d h))
 
 pub extras-spec : {M : Type 1} → statement M
