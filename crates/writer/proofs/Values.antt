@@ -9,7 +9,7 @@ use lib.ListN.{length, take, getD}
 use lib.Seq.{take-length}
 use borrow.Author.Tests.{ne-eqb, eqb-true, le-leb, ltb-true, leb-false, leb-true}
 use Rattle.meaning.specs.Basics.{pick, isEmpty}
-use Rattle.meaning.specs.Bytes.{Taken, took, failed, prefixed, textByte, takeText, textOk, numberOk, takeNumber, dateOk, takeDate, Check, blockOk, lengthBytes, oneByte, Width, fewest, past}
+use Rattle.meaning.specs.Bytes.{Taken, took, failed, prefixed, textByte, takeText, textOk, numberOk, takeNumber, dateOk, takeDate, Check, passes, Reach, absolute, relative, dateChecks, blockOk, lengthBytes, oneByte, Width, fewest, past}
 use Rattle.meaning.specs.Editions.{Form, block, itself, opens, quiet}
 use Rattle.meaning.specs.Writing.{isOnly, valid, writeValue}
 use Rattle.laws.specs.Logic.{is-true}
@@ -18,6 +18,7 @@ use Rattle.laws.specs.Values.{Was, text-byte-above, date-in, date-out, number-i
 use Rattle.values.specs.declared.Value.{Value}
 use Rattle.values.specs.declared.Value.the-variants.{Is, Refused}
 use Rattle.values.specs.Stages.{Span, span, spans, misses, Valued, Run}
+use Rattle.values.specs.Dates.{dateLength}
 use Rattle.values.specs.Answers.{valued-at, valued-refused}
 use Rattle.writer.specs.Moves.{formOf}
 
@@ -119,6 +120,27 @@ module _ (v : List ℕ) {kind back : ℕ} {r : Value} where
 
     pub date-refused : {refusal place : ℕ} → Valued v (length v) 0 kind back (takeDate cs [] (from v 0 (length v))) r → r ≡ Refused refusal place → false ≡ dateOk cs [] v
     date-refused a q = value-refused (takeDate cs []) (dateOk cs []) (λ v t. date-in cs [] v [] t) (date-out cs []) v 0 (length v) (omega arith) (omega arith) a q ∙ ap (dateOk cs []) (from-all v)
+
+-- a date has as many bytes as checks
+other-length : (cs : List Check) (earlier v : List ℕ) → (length v ≡ length cs → ⊥) → false ≡ dateOk cs earlier v
+unfolding dateOk
+other-length [] earlier [] h = absurd (h refl)
+other-length [] earlier (b ∷ v) h = refl
+other-length (c ∷ cs) earlier [] h = refl
+other-length (c ∷ cs) earlier (b ∷ v) h = at (passes c earlier b) (other-length cs (b ∷ earlier) v (λ q. h (ap suc q)))
+  where
+    at : (p : Bool) → false ≡ dateOk cs (b ∷ earlier) v → false ≡ (p && dateOk cs (b ∷ earlier) v)
+    at true q = q
+    at false q = refl
+
+pub date-length : (reach : Reach) (designated : Bool) (v : List ℕ) → (length v ≡ dateLength designated → ⊥) → false ≡ dateOk (dateChecks reach designated) [] v
+date-length reach designated v h = other-length (dateChecks reach designated) [] v (λ q. h (q ∙ long reach designated))
+  where
+    long : (reach : Reach) (designated : Bool) → length (dateChecks reach designated) ≡ dateLength designated
+    long absolute true = refl
+    long absolute false = refl
+    long relative true = refl
+    long relative false = refl
 
 -- A single byte that is the code
 

@@ -8,7 +8,7 @@ ghost use Rattle.meaning.specs.Writing.{isOnly, valid};
 ghost use Rattle.values.specs.Dates.{reaching};
 ghost use Rattle.writer.specs.Moves.{formOf};
 
-// "Length 9 or 10 picks the date code": the lengths of a date's and of a block's forms are apart.
+// The lengths of a date's and of a block's forms are apart.
 pub fn valid_for(form: usize, code: usize, bytes: &[u8]) -> bool
     ensures { λ r. ⌜ r ≡ valid (formOf form) code (now (bytes .entry)) ⌝ }
 {
@@ -54,10 +54,14 @@ fn number_ok(bytes: &[u8]) -> bool
     end <= after
 }
 
+// "Length 9 or 10 picks the date code": most often it is the other one's, and no byte has to be looked at.
 fn date_ok(bytes: &[u8], absolute: bool, designated: bool) -> bool
     ensures { λ r. ⌜ r ≡ dateOk (dateChecks (reaching absolute) designated) [] (now (bytes .entry)) ⌝ }
 {
     let end = bytes.len();
+    if end != values::date::length_of(designated) {
+        return false;
+    }
     let r = values::date::bytes(bytes, end, 0, 0, absolute, designated);
     let Value::Is {
         kind: _,
