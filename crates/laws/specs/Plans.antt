@@ -175,7 +175,7 @@ unfolding moves shared own
 closed-moves B i = every-in (λ m. false) i tt
 closed-moves D i = every-in (λ m. false) i tt
 
-closed-fits : (e : Edition) (row : Row) (st st′ : State) (bs : List ℕ) → fitRow e st row ≡ fits st′ bs → st .room ≡ closed → ⊥
+pub closed-fits : (e : Edition) (row : Row) (st st′ : State) (bs : List ℕ) → fitRow e st row ≡ fits st′ bs → st .room ≡ closed → ⊥
 closed-fits e row =
     fit-holds e row (λ st st′ bs. st .room ≡ closed → ⊥) (λ st st′ m bs i p q. closed-moves e (subst (λ (r : Room). In m (moves e r)) q i)) (λ st st′ m bs i p h q. closed-moves e (subst (λ (r : Room). In m (moves e r)) q i))
 

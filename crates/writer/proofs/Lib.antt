@@ -6,7 +6,6 @@ pub mod Openings
 pub mod Rows
 pub mod Tallies
 pub mod Bodies
-pub mod Closed
 pub mod Wholes
 pub mod Envelopes
 pub mod Checking

@@ -14,12 +14,12 @@ use Rattle.meaning.specs.Reading.{Row}
 use Rattle.meaning.specs.Headers.{start}
 use Rattle.meaning.specs.Writing.{Fit, unfit, fits, fitRow, close, Cell, cell, broken, Opens, envelopeRow, innerRow, opensOf, Envelope, envelopeAt, Plan, stuck, plan, onPlan, newPlan, rowPlan, turnPlan, endPlan, nextRow, lastRow, planOf, wholePlan, envelopeSize, withinLimit, wrap, headerOf, Limit, fine, exceeds, limits}
 use Rattle.laws.specs.Fits.{close-once}
+use Rattle.laws.specs.Plans.{closed-fits}
 use Rattle.laws.specs.Envelopes.{wrap-length}
 use Rattle.writer.specs.Laying.{capped}
 use Rattle.writer.specs.Bodies.{Body, halt, body, onBody, sealBody, rowBody, cellBody, bodyOf, opensNumber, openNumber}
 use Rattle.writer.specs.Whole.{openPlan, edge, fromBody, needs, firstOver, verdictOf, verdict, sized, endVerdict, limitOf, Tallied}
 use Rattle.writer.specs.declared.measure.Tally.{Tally}
-use Rattle.writer.proofs.Closed.{closed-unfit}
 
 -- Bodies and edges are the plan
 
@@ -75,9 +75,9 @@ plan-body e (broken ∷ cs) i b st = refl
 plan-body e (cell row ∷ cs) i b st = cell-same e b st i row cs (opensOf row) refl (plan-body e cs (suc i) b)
 
 -- before the first envelope nothing is open, and nothing fits
-closed-fits : (e : Edition) (row : Row) (o : Fit) → fitRow e (state closed 0 false) row ≡ o → o ≡ unfit
-closed-fits e row unfit q = refl
-closed-fits e row (fits st bs) q = absurd (closed-unfit e row st bs q)
+none-fits : (e : Edition) (row : Row) (o : Fit) → fitRow e (state closed 0 false) row ≡ o → o ≡ unfit
+none-fits e row unfit q = refl
+none-fits e row (fits st bs) q = absurd (closed-fits e row (state closed 0 false) st bs q refl)
 
 -- the whole is the edge before row 0
 pub whole-edge : (e : Edition) (cs : List Cell) → wholePlan e cs ≡ edge e false [] 0 cs
@@ -87,7 +87,7 @@ whole-edge e (broken ∷ cs) = refl
 whole-edge e (cell row ∷ cs) = at (opensOf row)
   where
     at : (o : Opens) → nextRow e false (state closed 0 false) 0 row (planOf e cs 1) o ≡ openPlan 0 [] (λ c. planOf e cs 1 c (start c)) o
-    at innerRow = ap (rowPlan 0 (planOf e cs 1 false)) (closed-fits e row (fitRow e (state closed 0 false) row) refl)
+    at innerRow = ap (rowPlan 0 (planOf e cs 1 false)) (none-fits e row (fitRow e (state closed 0 false) row) refl)
     at (envelopeRow b) = ap (turnPlan 0 b (planOf e cs 1 b)) (close-once e (state closed 0 false))
 
 pub edge-none : (e : Edition) (bs : List ℕ) (j : ℕ) (cs : List Cell) → openNumber cs ≡ 0 → edge e false bs j cs ≡ stuck j
