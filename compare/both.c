@@ -1,7 +1,7 @@
 #include "both.h"
 
 #include "gamulisyan.h"
-#include "generate.h"
+#include "header.h"
 #include "second.h"
 
 #include <stdio.h>

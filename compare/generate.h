@@ -2,14 +2,8 @@
 #ifndef COMPARE_GENERATE_H
 #define COMPARE_GENERATE_H
 
+#include "header.h"
 #include "random.h"
-
-enum { MOST_HEADER = 17 * 1048576 + 65536 };
-
-struct header {
-    uint8_t *bytes;
-    size_t length;
-};
 
 /* A header of this edition, now and then with one parameter that document 01 refuses, and some payload behind it. */
 void generate_header(struct source *source, uint32_t edition, struct header *header);

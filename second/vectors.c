@@ -2,6 +2,7 @@
    memory between guards, and the whole of it is compared afterwards. */
 #include "second.h"
 
+#include "recorded.h"
 #include "rules.h"
 
 #include <inttypes.h>
@@ -9,7 +10,7 @@
 #include <stdlib.h>
 #include <string.h>
 
-enum { GUARD = 64, MOST_LENT = 1048576, PATTERN = 0xA5, MOST_FIELDS = 8, MOST_LINE = 65536 };
+enum { GUARD = 64, MOST_LENT = 1048576, PATTERN = 0xA5 };
 
 /* Words, so that rows may be lent from it too. */
 struct lent {
@@ -24,11 +25,6 @@ struct bench {
     struct lent target; /* rows to fill, or output */
     uint8_t expected[MOST_LENT];
     uint8_t given[MOST_LENT];
-};
-
-struct fields {
-    char *text[MOST_FIELDS];
-    size_t count;
 };
 
 /* A checker prints what it got if that differs from the case. */
@@ -74,46 +70,6 @@ static bool holds_only(struct lent *lent, const uint8_t *bytes, size_t length)
             return false;
     }
     return true;
-}
-
-static uint64_t number(const char *text)
-{
-    return strtoull(text, NULL, 10);
-}
-
-static bool is_none(const char *text)
-{
-    return text[0] == '\0' || strcmp(text, "-") == 0;
-}
-
-static unsigned hex_digit(char digit)
-{
-    return digit <= '9' ? (unsigned)(digit - '0') : (unsigned)(digit - 'a' + 10);
-}
-
-static size_t hex_bytes(const char *text, uint8_t *bytes)
-{
-    size_t length = 0;
-    if (is_none(text))
-        return 0;
-    for (; text[0] != '\0' && text[1] != '\0'; text += 2)
-        bytes[length++] = (uint8_t)(hex_digit(text[0]) << 4 | hex_digit(text[1]));
-    return length;
-}
-
-/* The numbers of a comma list, as they lie in memory; answers the bytes they take. */
-static size_t list_bytes(const char *text, uint8_t *bytes)
-{
-    size_t length = 0;
-    if (is_none(text))
-        return 0;
-    for (const char *item = text; item != NULL; item = strchr(item, ',')) {
-        item += *item == ',';
-        uint32_t value = (uint32_t)number(item);
-        memcpy(bytes + length, &value, sizeof value);
-        length += sizeof value;
-    }
-    return length;
 }
 
 static void print_hex(const uint8_t *bytes, size_t length)
@@ -265,59 +221,24 @@ static bool check_date(const struct fields *fields, struct bench *bench)
                                                   : check_date_decode(fields, bench);
 }
 
-static struct fields split(char *line)
-{
-    struct fields fields = {.count = 0};
-    for (char *field = line; field != NULL && fields.count < MOST_FIELDS;) {
-        fields.text[fields.count++] = field;
-        field = strchr(field, '\t');
-        if (field != NULL)
-            *field++ = '\0';
-    }
-    return fields;
-}
-
 struct tally {
     unsigned passed;
     unsigned failed;
 };
 
-static void check_line(const char *name, unsigned row, const char *line, checker *check, struct bench *bench,
-                       struct tally *tally)
-{
-    char copy[MOST_LINE];
-    strcpy(copy, line);
-    struct fields fields = split(copy);
-    for (size_t missing = fields.count; missing < MOST_FIELDS; missing++)
-        fields.text[missing] = "";
-    if (check(&fields, bench)) {
-        tally->passed++;
-        return;
-    }
-    printf("\n  for %s line %u: %s\n", name, row, line);
-    tally->failed++;
-}
-
 static void check_file(const char *folder, const char *name, checker *check, struct bench *bench, struct tally *tally)
 {
-    char path[4096];
-    char line[MOST_LINE];
-    snprintf(path, sizeof path, "%s/%s", folder, name);
-    FILE *file = fopen(path, "r");
-    if (file == NULL) {
-        perror(path);
-        exit(2);
-    }
-    for (unsigned row = 1; fgets(line, sizeof line, file) != NULL; row++) {
-        size_t end = strcspn(line, "\n");
-        if (line[end] == '\0') {
-            fprintf(stderr, "%s line %u is too long or has no end\n", path, row);
-            exit(2);
+    struct recorded recorded;
+    struct fields fields;
+    open_recorded(&recorded, folder, name);
+    while (next_case(&recorded, &fields)) {
+        if (check(&fields, bench)) {
+            tally->passed++;
+            continue;
         }
-        line[end] = '\0';
-        check_line(name, row, line, check, bench, tally);
+        printf("\n  for %s line %u: %s\n", name, recorded.row, recorded.line);
+        tally->failed++;
     }
-    fclose(file);
 }
 
 int main(int count, char **arguments)

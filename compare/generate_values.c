@@ -1,0 +1,112 @@
+#include "generate_values.h"
+
+void put(struct header *header, unsigned byte)
+{
+    if (header->length < MOST_HEADER)
+        header->bytes[header->length++] = (uint8_t)byte;
+}
+
+void put_number(struct header *header, size_t value, unsigned width)
+{
+    while (width-- > 0)
+        put(header, (unsigned)(value >> 8 * width & 0xFF));
+}
+
+/* Mostly short, now and then around sixteen and up to some hundred bytes. */
+static size_t text_length(struct source *source)
+{
+    switch (random_below(source, 8)) {
+    case 0:
+        return 0;
+    case 1:
+        return 14 + random_below(source, 6);
+    case 2:
+        return random_below(source, 300);
+    default:
+        return 1 + random_below(source, 8);
+    }
+}
+
+void put_text_of(struct source *source, struct header *header, size_t length)
+{
+    while (length-- > 0)
+        put(header, 0x20 + (unsigned)random_below(source, 0xE0));
+    put(header, 0);
+}
+
+void put_text(struct source *source, struct header *header)
+{
+    put_text_of(source, header, text_length(source));
+}
+
+static void put_pair(struct source *source, struct header *header, unsigned least, unsigned most)
+{
+    unsigned value = least + (unsigned)random_below(source, most - least + 1);
+    put(header, 16 * (value / 10 + 1) + value % 10 + 1);
+}
+
+static void put_date_bytes(struct source *source, struct header *header, int absolute)
+{
+    static const unsigned least[8] = {0, 0, 1, 1, 0, 0, 0, 0};
+    static const unsigned most[8] = {99, 99, 12, 31, 23, 59, 59, 99};
+    for (unsigned part = 0; part < 8; part++)
+        put_pair(source, header, absolute ? least[part] : 0, absolute ? most[part] : 99);
+    put(header, 16 * (1 + (unsigned)random_below(source, 10)));
+}
+
+static void put_designator(struct source *source, struct header *header)
+{
+    put(header, (random_once_in(source, 2) ? 'A' : 'a') + (unsigned)random_below(source, 26));
+}
+
+void put_date(struct source *source, uint32_t edition, struct header *header)
+{
+    static const unsigned codes_of_d[6] = {0x20, 0x21, 0x22, 0x24, 0x25, 0x26};
+    unsigned code = edition == EDITION_B ? 0x20 + (unsigned)random_below(source, 2) : codes_of_d[random_below(source, 6)];
+    int designated = edition == EDITION_B ? code == 0x21 : code >= 0x24;
+    put(header, code);
+    put_date_bytes(source, header, edition == EDITION_B || (code & 3) == 0);
+    if (designated)
+        put_designator(source, header);
+}
+
+void put_block_of(struct source *source, struct header *header, size_t length)
+{
+    unsigned width = length < 256 ? 1 : length < 65536 ? 2 : 4;
+    put(header, width == 1 ? 0x16 : width == 2 ? 0x17 : 0x19);
+    put_number(header, length, width);
+    while (length-- > 0)
+        put(header, (unsigned)random_below(source, 256));
+}
+
+void put_any(struct source *source, struct header *header)
+{
+    if (random_once_in(source, 2)) {
+        put(header, 0x14);
+        put_text(source, header);
+        return;
+    }
+    put_block_of(source, header, random_once_in(source, 12) ? 250 + random_below(source, 12) : text_length(source));
+}
+
+void put_representation(struct source *source, struct header *header)
+{
+    size_t which = random_below(source, 4);
+    put(header, which == 3 ? 0x00 : 0x10 + (unsigned)which);
+    if (which == 3)
+        put_text(source, header);
+}
+
+void put_payload_length(struct source *source, struct header *header)
+{
+    char digits[16];
+    uint64_t value = random_once_in(source, 4) ? UINT32_MAX : random_word(source) >> (32 + random_below(source, 32));
+    unsigned count = 0;
+    do
+        digits[count++] = (char)(value % 10);
+    while ((value /= 10) > 0);
+    unsigned place = count;
+    for (; place > 1; place -= 2)
+        put(header, 16 * ((unsigned)digits[place - 1] + 1) + (unsigned)digits[place - 2] + 1);
+    put(header, place == 1 ? 16 * ((unsigned)digits[0] + 1) : 0);
+}
