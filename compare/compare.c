@@ -130,8 +130,10 @@ static void check_header(struct source *source, struct tally *tally, uint32_t ed
 {
     size_t most = header->length > 4096 ? MOST_ROWS / 16 : 256;
     struct answer read = both_read(tally, edition, header->bytes, header->length, most * ROW_NUMBERS, table);
-    if (random_once_in(source, 8))
-        both_read(tally, (uint32_t)random_below(source, 4), header->bytes, header->length, random_below(source, 64), NULL);
+    if (random_once_in(source, 8)) {
+        uint32_t label = (uint32_t)random_below(source, 4);
+        both_read(tally, label, header->bytes, header->length, random_below(source, 64), NULL);
+    }
     if (read.answer != ACCEPTED)
         return;
     check_demands(tally, edition, header, read);
@@ -140,18 +142,46 @@ static void check_header(struct source *source, struct tally *tally, uint32_t ed
     both_read(tally, edition, header->bytes, header->length, read.rows * ROW_NUMBERS - random_below(source, 5) % (read.rows * ROW_NUMBERS), NULL);
 }
 
+/* Two coded digits, or one and four zero bits. */
+static uint8_t digits(struct source *source)
+{
+    unsigned earlier = 1 + (unsigned)random_below(source, 10);
+    if (random_once_in(source, 8))
+        return (uint8_t)(16 * earlier);
+    return (uint8_t)(16 * earlier + 1 + random_below(source, 10));
+}
+
+static void check_number(struct source *source, struct tally *tally, const uint8_t *bytes)
+{
+    unsigned shift = (unsigned)random_below(source, 64);
+    uint64_t value = random_word(source) >> shift;
+    size_t length = random_below(source, 8);
+    both_number(tally, value, bytes, length, random_below(source, 9));
+}
+
+/* Each component up to just above its bound, and from year to designator. */
+static void check_date(struct source *source, struct tally *tally, const uint8_t *bytes)
+{
+    static const size_t bounds[8] = {10002, 15, 34, 26, 62, 62, 1002, 128};
+    uint32_t components[8];
+    for (size_t i = 0; i < 8; i++)
+        components[i] = (uint32_t)random_below(source, bounds[i]);
+    if (random_once_in(source, 2))
+        components[7] = 0;
+    struct header date = {header_bytes, 0};
+    generate_header(source, EDITION_D, &date);
+    uint32_t kind = 4 + (uint32_t)random_below(source, 5);
+    size_t length = random_below(source, 12);
+    both_date(tally, kind, components, date.length > 24 ? date.bytes + 5 : bytes, length, random_below(source, 12));
+}
+
 static void check_values(struct source *source, struct tally *tally)
 {
     uint8_t bytes[12];
-    uint32_t components[8] = {(uint32_t)random_below(source, 10002), (uint32_t)random_below(source, 15), (uint32_t)random_below(source, 34), (uint32_t)random_below(source, 26),
-                              (uint32_t)random_below(source, 62),    (uint32_t)random_below(source, 62), (uint32_t)random_below(source, 1002),
-                              random_once_in(source, 2) ? 0 : (uint32_t)random_below(source, 128)};
-    struct header date = {header_bytes, 0};
     for (size_t place = 0; place < sizeof bytes; place++)
-        bytes[place] = (uint8_t)(16 * (1 + random_below(source, 10)) + (random_once_in(source, 8) ? 0 : 1 + random_below(source, 10)));
-    both_number(tally, random_word(source) >> random_below(source, 64), bytes, random_below(source, 8), random_below(source, 9));
-    generate_header(source, EDITION_D, &date);
-    both_date(tally, 4 + (uint32_t)random_below(source, 5), components, date.length > 24 ? date.bytes + 5 : bytes, random_below(source, 12), random_below(source, 12));
+        bytes[place] = digits(source);
+    check_number(source, tally, bytes);
+    check_date(source, tally, bytes);
 }
 
 static void check_bounds(struct source *source, struct tally *tally)

@@ -104,6 +104,7 @@ void put_parameter(struct source *source, uint32_t edition, struct header *heade
 
 void put_flaw(struct source *source, uint32_t edition, struct header *header)
 {
+    int wide;
     switch (random_below(source, 6)) {
     case 0: /* a length form too wide */
         put(header, 0x0B);
@@ -116,7 +117,8 @@ void put_flaw(struct source *source, uint32_t edition, struct header *header)
         break;
     case 2: /* a payload length too large, with a leading zero, or with no digits */
         put(header, 0x06);
-        put_number(header, random_once_in(source, 2) ? 0x53A5A783A7 : 0x1200, random_once_in(source, 2) ? 5 : 2);
+        wide = random_once_in(source, 2);
+        put_number(header, random_once_in(source, 2) ? 0x53A5A783A7 : 0x1200, wide ? 5 : 2);
         break;
     case 3: /* a text byte below 20 */
         put(header, 0x05);

@@ -56,7 +56,8 @@ static void put_date_bytes(struct source *source, struct header *header, int abs
 
 static void put_designator(struct source *source, struct header *header)
 {
-    put(header, (random_once_in(source, 2) ? 'A' : 'a') + (unsigned)random_below(source, 26));
+    unsigned first = random_once_in(source, 2) ? 'A' : 'a';
+    put(header, first + (unsigned)random_below(source, 26));
 }
 
 void put_date(struct source *source, uint32_t edition, struct header *header)
@@ -100,7 +101,8 @@ void put_representation(struct source *source, struct header *header)
 void put_payload_length(struct source *source, struct header *header)
 {
     char digits[16];
-    uint64_t value = random_once_in(source, 4) ? UINT32_MAX : random_word(source) >> (32 + random_below(source, 32));
+    unsigned shift = 32 + (unsigned)random_below(source, 32);
+    uint64_t value = random_once_in(source, 4) ? UINT32_MAX : random_word(source) >> shift;
     unsigned count = 0;
     do
         digits[count++] = (char)(value % 10);

@@ -1,4 +1,5 @@
-/* A seeded generator: the same seed gives the same cases on every machine. */
+/* A seeded generator. Nobody draws twice where the compiler may choose the order, so that the same seed gives the same cases
+   under every compiler. */
 #ifndef COMPARE_RANDOM_H
 #define COMPARE_RANDOM_H
 
