@@ -1,11 +1,11 @@
 -- From the lists that are left to places in a slice: `from s at end` are the bytes from a place to the declared end.
 use Prim.Native.Nat.{ℕ, zero, suc, _+_, _-_, _≤_, _<_}
-use mathlib.Core.List.{List, [], _∷_, _++_}
-use mathlib.Core.Path.{_≡_, refl, ap, sym, _∙_}
+use mathlib.Core.List.{List, [], _∷_}
+use mathlib.Core.Path.{_≡_, refl, ap, _∙_}
 use native.Mathlib.Omega.{arith}
 use native.Mathlib.Numerals.{add-one}
-use lib.ListN.{length, getD, take, drop, length-take, length-drop, length-append}
-use lib.Seq.{drop-cons, drop-append-seam}
+use lib.ListN.{length, getD, take, drop, length-take, length-drop}
+use lib.Seq.{drop-cons}
 
 unfoldable pub from : List ℕ → ℕ → ℕ → List ℕ
 from s at end = take (end - at) (drop at s)
@@ -29,13 +29,3 @@ from-drop s zero at end h k = let q : at ≡ at + 0 = omega arith in ap (λ (x :
 from-drop s (suc n) at end h k =
     let q : at + 1 + n ≡ at + suc n = omega arith in
     ap (drop (suc n)) (from-cons s at end (omega arith) k) ∙ from-drop s n (at + 1) end (omega arith) k ∙ ap (λ (x : ℕ). from s x end) q
-
--- the bytes behind a value are those from the place after it
-pub rest-from : (s : List ℕ) (at end : ℕ) (xs rest : List ℕ) → at ≤ end → end ≤ length s → from s at end ≡ xs ++ rest
-    → (rest ≡ from s (end - length rest) end) × (end - length rest ≡ at + length xs) × (at + length xs ≤ end)
-rest-from s at end xs rest h k q =
-    let a = from-length s at end h k in
-    let b : length (from s at end) ≡ length xs + length rest = ap length q ∙ length-append xs rest in
-    let c : end - length rest ≡ at + length xs = omega arith in
-    let d : rest ≡ drop (length xs) (from s at end) = sym (drop-append-seam xs rest) ∙ ap (drop (length xs)) (sym q) in
-    (d ∙ from-drop s (length xs) at end (omega arith) k ∙ ap (λ (x : ℕ). from s x end) (sym c), c, omega arith)

@@ -1,18 +1,13 @@
--- A turn of the printing, from the promise of `next`: the piece lies in the memory, and what is left to print falls by its length.
+-- A turn of the printing, from the promise of `next`: what is left to print falls by the piece's length.
 use Prim.Native.Nat.{ℕ, _+_, _≤_}
 use mathlib.Core.List.{List}
 use mathlib.Core.Path.{_≡_, ap}
 use native.Mathlib.Omega.{arith}
-use lib.ListN.{length, drop, length-append}
-use Rattle.meaning.specs.Memory.{laidOver}
+use lib.ListN.{length, length-append}
 use Rattle.listing.specs.declared.Piece.{Piece}
 use Rattle.listing.specs.Text.{textAt}
 use Rattle.listing.specs.Pieces.{Cursor, PieceOf, pieceLeast}
 use Rattle.lister.specs.Promise.{Turned}
-
-pub piece-inside : {text : ℕ → ℕ → List ℕ} {stop : Cursor} {line byte : ℕ} {before after : List ℕ} {next : Piece} → PieceOf text stop line byte before after next → next .length ≤ length after
-unfolding laidOver
-piece-inside {before = before} p = omega (arith, p .long, ap length (p .lays), length-append (p .piece) (drop (length (p .piece)) before))
 
 module _ (answer place count : ℕ) (rows bytes : List ℕ) where
   pub piece-turned : {stop : Cursor} {line byte : ℕ} {before after : List ℕ} {next : Piece} → PieceOf (textAt answer place count rows bytes) stop line byte before after next → pieceLeast ≤ length before → Turned answer place count rows bytes line byte next

@@ -1,5 +1,5 @@
--- What a caller has from a piece: it fits its memory, less text is left behind it, and one promise allows one answer.
-use Prim.Native.Nat.{ℕ, _≤_, _<_}
+-- What a caller has from a piece: it lies in its memory, and one promise allows one answer.
+use Prim.Native.Nat.{ℕ, _≤_}
 use mathlib.Core.List.{List, _++_}
 use mathlib.Core.Path.{_≡_, ap, sym, _∙_}
 use native.Mathlib.Omega.{arith}
@@ -16,14 +16,10 @@ answered {r} {s} n c = ap (λ (k : ℕ). at k (cursor (r .line) (r .byte))) n �
     at k x = record { length = k; line = x .line; byte = x .byte }
 
 module _ {text : ℕ → ℕ → List ℕ} {stop : Cursor} {line byte : ℕ} {before : List ℕ} where
-  -- the piece is a part of the memory, whose length a call keeps
-  pub piece-fits : {after : List ℕ} {r : Piece} → PieceOf text stop line byte before after r → length after ≡ length before → r .length ≤ length before
+  -- the piece is a part of the memory
+  pub piece-inside : {after : List ℕ} {r : Piece} → PieceOf text stop line byte before after r → r .length ≤ length after
   unfolding laidOver
-  piece-fits p h = omega (arith, p .long, ap length (p .lays), length-append (p .piece) (drop (length (p .piece)) before))
-
-  -- the measure of a loop that prints until a piece is empty
-  pub text-falls : {after : List ℕ} {r : Piece} → PieceOf text stop line byte before after r → 0 < r .length → length (text (r .line) (r .byte)) < length (text line byte)
-  text-falls {r = r} p h = omega (arith, ap length (p .is), length-append (p .piece) (text (r .line) (r .byte)), p .long)
+  piece-inside p = omega (arith, p .long, ap length (p .lays), length-append (p .piece) (drop (length (p .piece)) before))
 
   piece-left : {after : List ℕ} {r : Piece} (p : PieceOf text stop line byte before after r) → text line byte ≡ p .piece ++ text (stop .line) (stop .byte)
   piece-left p = p .is ∙ ap (λ (c : Cursor). p .piece ++ text (c .line) (c .byte)) (p .stops)

@@ -5,4 +5,3 @@ pub mod Numbers
 pub mod Dates
 pub mod Blocks
 pub mod Plain
-pub mod Steps

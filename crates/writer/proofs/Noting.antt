@@ -1,16 +1,16 @@
 -- The lengths that the check notes: those so far and those of the plan from here on are all, unless a limit is passed.
 use Prim.Native.Nat.{ℕ, zero, suc, _+_, _-_, _≤_, _<_}
 use mathlib.Core.List.{List, [], _∷_, _++_, append-assoc, append-nil}
-use mathlib.Core.Bool.{Bool, true, false}
-use mathlib.Core.Path.{_≡_, refl, ap, sym, _∙_}
+use mathlib.Core.Bool.{Bool}
+use mathlib.Core.Path.{_≡_, ap, sym, _∙_}
 use native.Mathlib.Omega.{arith}
 use lib.ListN.{length, take, drop, set, length-append, length-set}
 use lib.Seq.{set-split, take-at, length-take-le}
 use borrow.Author.Tests.{eq-eqb, ne-eqb}
-use Rattle.meaning.specs.Writing.{Envelope, Plan, wholePlan, Limit, fine, exceeds}
+use Rattle.meaning.specs.Writing.{Envelope, Plan, wholePlan, Limit, fine}
 use Rattle.writer.specs.Moves.{editionOf}
 use Rattle.writer.specs.Bodies.{cellsAt, openNumber}
-use Rattle.writer.specs.Whole.{Verdict, bad, needs, verdict, sized, limitOf, checkedOf, envelopesOf, insides, insidesOf, Begins, CheckedAs}
+use Rattle.writer.specs.Whole.{bad, needs, verdict, sized, limitOf, checkedOf, envelopesOf, insides, insidesOf, Begins, CheckedAs}
 use Rattle.writer.specs.declared.measure.Checked.{Checked}
 use Rattle.writer.specs.declared.measure.Tally.{Tally}
 use Rattle.writer.proofs.Wholes.{whole-edge, small-count}

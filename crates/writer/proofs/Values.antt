@@ -160,9 +160,6 @@ empty-is : (v : List ℕ) → isEmpty v ≡ eqb (length v) 0
 empty-is [] = refl
 empty-is (b ∷ v) = sym (ne-eqb (suc (length v)) 0 (λ q. omega arith))
 
-pub as-form : {n k : ℕ} {f : Form} → n ≡ k → formOf k ≡ f → formOf n ≡ f
-as-form q e = ap formOf q ∙ e
-
 -- the forms that are left when these are not it
 pub rest-form : (n : ℕ) (P : Form → Type 0) → P itself → P opens → P quiet → (n ≡ 1 → ⊥) → (n ≡ 2 → ⊥) → (n ≡ 5 → ⊥) → (n ≡ 6 → ⊥) → (n ≡ 7 → ⊥) → (n ≡ 8 → ⊥) → (n ≡ 9 → ⊥) → (n ≡ 10 → ⊥) → (n ≡ 11 → ⊥) → P (formOf n)
 unfolding formOf

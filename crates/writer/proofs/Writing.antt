@@ -1,19 +1,19 @@
 -- The pass that writes, envelope by envelope: what the check saw holds at every envelope, and the bytes so far are the front of all.
 use Prim.Native.Nat.{ℕ, _+_, _-_, _≤_, _<_}
 use mathlib.Core.List.{List, [], _∷_, _++_, append-assoc, append-nil}
-use mathlib.Core.Bool.{Bool, true, false}
+use mathlib.Core.Bool.{Bool, true}
 use mathlib.Core.Path.{_≡_, refl, ap, sym, _∙_, subst}
 use native.Mathlib.Omega.{arith}
 use lib.Dec.{eqb}
 use lib.ListN.{length, take, drop, getD, length-append, length-drop}
 use lib.Seq.{take-at, drop-at, drop-drop, getD-drop}
 use borrow.Author.Tests.{eq-eqb, ne-eqb}
-use Rattle.meaning.specs.Writing.{Cell, Envelope, envelopeAt, Plan, wholePlan, envelopeSize, wrap, headerOf, fine}
+use Rattle.meaning.specs.Writing.{Cell, Envelope, Plan, wholePlan, envelopeSize, wrap, headerOf, fine}
 use Rattle.meaning.specs.Memory.{laidOver}
 use Rattle.laws.specs.Envelopes.{wrap-length}
 use Rattle.writer.specs.Moves.{editionOf}
 use Rattle.writer.specs.Bodies.{cellsAt, halt, body, openNumber}
-use Rattle.writer.specs.Whole.{edge, needs, verdict, envelopesOf, bytesOfPlan, insides, insidesOf, Begins, Writable, EnvelopeWritten}
+use Rattle.writer.specs.Whole.{needs, verdict, bytesOfPlan, insides, insidesOf, Begins, Writable, EnvelopeWritten}
 use Rattle.writer.specs.declared.body.Bodied.{Bodied}
 use Rattle.writer.proofs.Laying.{capped-most}
 use Rattle.writer.proofs.Wholes.{whole-edge, small-count}

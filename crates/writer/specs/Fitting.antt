@@ -1,6 +1,5 @@
 -- Where the writer stands, by numbers, and what it promises of a row's fit and of a closing.
 use Prim.Native.Nat.{ℕ, _+_, _-_, _≤_, _<_}
-use lib.ListN.{length}
 use Rattle.meaning.specs.Kinds.{agentName}
 use Rattle.meaning.specs.Reading.{levelMost}
 use Rattle.meaning.specs.Writing.{valid}

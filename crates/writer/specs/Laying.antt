@@ -11,10 +11,7 @@ use Rattle.meaning.specs.Reading.{Row}
 abbrev pub rowWith : ℕ → ℕ → List ℕ → Row
 rowWith kind level v = record { kind = kind; level = level; view = v }
 
--- a count that stops at the limit
-abbrev pub most : ℕ
-most = 1048576
-
+-- a count that stops at the limit of an envelope
 abbrev pub capped : ℕ → ℕ
 capped n = pick (ltb n 1048576) n 1048576
 

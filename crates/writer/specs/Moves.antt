@@ -1,6 +1,6 @@
 -- The table of moves as the code holds it: the place of each room's first move, and a number for each move, with its parts as hex digits.
 -- By computation it is `meaning`'s table.
-use Prim.Native.Nat.{ℕ, zero, suc, _+_, _/_, _%_, _≤_, _<_}
+use Prim.Native.Nat.{ℕ, zero, suc, _/_, _%_, _≤_, _<_}
 use mathlib.Core.List.{List, [], _∷_, map}
 use mathlib.Core.Bool.{Bool, true, false, _||_}
 use mathlib.Core.Path.{_≡_, refl}
@@ -8,7 +8,7 @@ use lib.Dec.{eqb}
 use lib.ListN.{getD}
 use Rattle.meaning.specs.Basics.{pick}
 use Rattle.meaning.specs.Bytes.{absolute, relative, oneByte, twoBytes, fourBytes}
-use Rattle.meaning.specs.Editions.{Edition, B, D, Room, receivedBegins, headRepresentation, headDate, parameters, ownText, parameterRepresentation, behaviourValue, encryptedTexts, receivedDate, afterDate, afterFrom, afterId, afterVia, receivedExtra, agentList, oneAgent, afterName, addressTexts, afterAddresses, afterResolvers, agentExtra, closed, Next, outer, inner, innerOne, stay, deeper, listEnds, agentEnds, Form, text, date, number, block, itself, opens, quiet, isQuiet, Move, moves, shared, own}
+use Rattle.meaning.specs.Editions.{Edition, B, D, Room, closed, Next, outer, inner, innerOne, stay, deeper, listEnds, agentEnds, Form, text, date, number, block, itself, opens, quiet, isQuiet, Move, moves, shared, own}
 use Rattle.meaning.specs.Reading.{Found, none, hit}
 use Rattle.laws.specs.From.{from}
 use Rattle.laws.specs.Tables.{rooms}

@@ -3,7 +3,8 @@ use mathlib.Core.Path.{sym}
 use native.Mathlib.Omega.{arith}
 use borrow.Author.Needs.{needs}
 use lib.Seq.{length-take-le}
-use Rattle.lister.proofs.Turns.{piece-inside, piece-turned}
+use Rattle.listing.specs.Promised.{piece-inside}
+use Rattle.lister.proofs.Turns.{piece-turned}
 use Rattle.lister.proofs.print_piece.Statement.{statement}
 use Rattle.lister.proofs.print_piece.Tie as tie
 

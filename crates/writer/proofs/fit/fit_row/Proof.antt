@@ -1,7 +1,6 @@
 -- `fit::fit_row`: the bytes so far, and the row's fit from where the code stands; each pass makes it lighter.
 use Prim.Native.Nat.{_<_, _≤_}
 use Rattle.laws.specs.Fits.{heavy}
-use Rattle.meaning.specs.Headers.{start}
 use Rattle.meaning.specs.Writing.{fitRow, led}
 use Rattle.writer.proofs.Laying.{laid-layable, laid-length}
 use Rattle.writer.proofs.Rows.{lighter-at, onto-byte, onto-fit, onto-start, onto-unfit, own-level, own-valid, row-lighter, row-none, row-own, row-passes, row-quiet}
