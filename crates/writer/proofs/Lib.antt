@@ -6,6 +6,10 @@ pub mod Openings
 pub mod Rows
 pub mod Tallies
 pub mod Bodies
+pub mod Aheads
+pub mod Among
+pub mod Stands
+pub mod Onward
 pub mod Wholes
 pub mod Envelopes
 pub mod Checking

@@ -2,5 +2,10 @@ pub mod Moves
 pub mod Laying
 pub mod Fitting
 pub mod Bodies
+pub mod Codes
+pub mod Rooms
+pub mod Stages
+pub mod Turns
+pub mod Parameters
 pub mod Whole
 pub mod Promise

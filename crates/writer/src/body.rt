@@ -37,7 +37,7 @@ fn word(rows: &[u32], k: usize) -> usize
     rows[k] as usize
 }
 
-fn row_at(rows: &[u32], i: usize) -> Numbers
+pub fn row_at(rows: &[u32], i: usize) -> Numbers
     requires { ⌜ i < length (now rows) / 4 ⌝ }
     ensures { λ r. ⌜ Words (now (rows .entry)) i r ⌝ }
 {

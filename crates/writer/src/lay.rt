@@ -27,7 +27,7 @@ pub fn put(output: &mut [u8], at: usize, b: u8) -> usize
 }
 
 // Bytes: those that have room, and the count of all.
-fn copy(bytes: &[u8], output: &mut [u8], at: usize) -> usize
+pub fn copy(bytes: &[u8], output: &mut [u8], at: usize) -> usize
     requires { ⌜ Layable (now output) at ⌝ }
     ensures { λ r. ⌜ Laid (now (output .entry)) at (now (bytes .entry)) (now (output .exit)) r ⌝ }
 {

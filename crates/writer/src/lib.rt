@@ -1,10 +1,20 @@
 // The writer: "takes edition, rows, a pool of bytes that they view, and output".
+mod agents;
+mod ahead;
+mod any;
 mod body;
+mod dates;
 mod envelope;
+mod extras;
 mod fit;
+mod kinds;
 mod lay;
 mod measure;
+mod parameters;
+mod received;
+mod representation;
 mod table;
+mod texts;
 mod value;
 
 use crate::envelope::put_all;

@@ -29,7 +29,7 @@ pub fn valid_for(form: usize, code: usize, bytes: &[u8]) -> bool
 }
 
 // "Text: bytes 20 to FF": the reader's own run comes to the end of the view.
-fn text_ok(bytes: &[u8]) -> bool
+pub fn text_ok(bytes: &[u8]) -> bool
     ensures { λ r. ⌜ r ≡ textOk (now (bytes .entry)) ⌝ }
 {
     let end = bytes.len();
@@ -37,7 +37,7 @@ fn text_ok(bytes: &[u8]) -> bool
 }
 
 // The reader's own stage takes all of the view.
-fn number_ok(bytes: &[u8]) -> bool
+pub fn number_ok(bytes: &[u8]) -> bool
     ensures { λ r. ⌜ r ≡ numberOk 0 true (now (bytes .entry)) ⌝ }
 {
     let end = bytes.len();
@@ -55,7 +55,7 @@ fn number_ok(bytes: &[u8]) -> bool
 }
 
 // "Length 9 or 10 picks the date code": most often it is the other one's, and no byte has to be looked at.
-fn date_ok(bytes: &[u8], absolute: bool, designated: bool) -> bool
+pub fn date_ok(bytes: &[u8], absolute: bool, designated: bool) -> bool
     ensures { λ r. ⌜ r ≡ dateOk (dateChecks (reaching absolute) designated) [] (now (bytes .entry)) ⌝ }
 {
     let end = bytes.len();

@@ -1,0 +1,115 @@
+-- Stages one behind the other, and the steps that they are made of: a row by its own move, a closing, an optional part left out.
+use Prim.Native.Nat.{ℕ, suc, _+_, _/_, _≤_, _<_}
+use mathlib.Core.List.{List, [], _∷_, _++_, append-assoc}
+use mathlib.Core.Bool.{Bool, true, false, _&&_, not}
+use mathlib.Core.Path.{_≡_, refl, ap, sym, _∙_, subst}
+use native.Mathlib.Omega.{arith}
+use lib.Dec.{eqb}
+use lib.ListN.{length}
+use Rattle.meaning.specs.Basics.{pick}
+use Rattle.meaning.specs.Editions.{Edition, State, Next, Move, moves, go}
+use Rattle.meaning.specs.Reading.{tooDeep, Row, Found, none, hit, find}
+use Rattle.meaning.specs.Writing.{unfit, fits, lead, atLevel, standsFor, writeValue, Cell, cell, broken}
+use Rattle.writer.specs.Moves.{editionOf}
+use Rattle.writer.specs.Laying.{Laid, Layable}
+use Rattle.writer.specs.Bodies.{Body, halt, body, onBody, rowBody, bodyOf, cellsAt, BodyOnto}
+use Rattle.writer.specs.Rooms.{rowsOf, ownAmong, NotAmong, AllLead, Closes}
+use Rattle.writer.specs.Stages.{bodyAt, RowTaken, TakenIs, Onward, StageIs, afterNeeded}
+use Rattle.writer.specs.declared.ahead.Taken.{Taken}
+use Rattle.writer.specs.declared.ahead.Taken.the-variants.{To, Other}
+use Rattle.writer.specs.declared.extras.Stage.{Stage}
+use Rattle.writer.specs.declared.extras.Stage.the-variants.{Go, Stuck}
+use Rattle.writer.proofs.Laying.{laid-then, laid-layable}
+use Rattle.writer.proofs.Bodies.{body-row, body-starts}
+use Rattle.writer.proofs.Among.{find-rows, hit-leads, level-hit}
+use Rattle.writer.proofs.Stands.{fits-own, body-closes, body-lost}
+
+on-on : (bs cs : List ℕ) (b : Body) → onBody bs (onBody cs b) ≡ onBody (bs ++ cs) b
+on-on bs cs (halt j) = refl
+on-on bs cs (body ds j xs) = ap (λ (y : List ℕ). body y j xs) (sym (append-assoc bs cs ds))
+
+pub onward-none : (inD : Bool) (pool rows : List ℕ) {i : ℕ} (st : State) {m : List ℕ} {at : ℕ} → i ≤ length rows / 4 → Layable m at → Onward inD pool rows i st i st m at m at
+onward-none inD pool rows {i} st h l = record { onto = body-starts (bodyAt inD pool rows i st) l; later = omega arith; inside = h }
+
+pub onward-layable : {inD : Bool} {pool rows : List ℕ} {i : ℕ} {st : State} {k : ℕ} {st₁ : State} {m : List ℕ} {at : ℕ} {m₁ : List ℕ} {p : ℕ} → Onward inD pool rows i st k st₁ m at m₁ p → Layable m at → Layable m₁ p
+onward-layable a l = laid-layable (a .onto .laid) l
+
+module _ {inD : Bool} {pool rows : List ℕ} {i : ℕ} {st : State} {k : ℕ} {st₁ : State} {m : List ℕ} {at : ℕ} {m₁ : List ℕ} {p₁ : ℕ} (small : length m ≤ 1048576) (a : Onward inD pool rows i st k st₁ m at m₁ p₁) where
+  pub onward-then : {n : ℕ} {st₂ : State} {m₂ : List ℕ} {p₂ : ℕ} → Onward inD pool rows k st₁ n st₂ m₁ p₁ m₂ p₂ → Onward inD pool rows i st n st₂ m at m₂ p₂
+  onward-then {n} {st₂} b =
+      record {
+        onto = record {
+          bytes = a .onto .bytes ++ b .onto .bytes;
+          is = a .onto .is ∙ ap (onBody (a .onto .bytes)) (b .onto .is) ∙ on-on (a .onto .bytes) (b .onto .bytes) (bodyAt inD pool rows n st₂);
+          laid = laid-then (a .onto .laid) small (b .onto .laid);
+        };
+        later = omega (arith, a .later, b .later);
+        inside = b .inside;
+      }
+
+  pub onward-stuck : {j : ℕ} → bodyAt inD pool rows k st₁ ≡ halt j → bodyAt inD pool rows i st ≡ halt j
+  onward-stuck b = a .onto .is ∙ ap (onBody (a .onto .bytes)) b
+
+  pub stage-then : (st₂ : State) (m₂ : List ℕ) (r : Stage) → StageIs inD pool rows k st₁ st₂ m₁ p₁ r m₂ → StageIs inD pool rows i st st₂ m at r m₂
+  stage-then st₂ m₂ (Go n p) b = onward-then b
+  stage-then st₂ m₂ (Stuck j) b = onward-stuck b
+
+-- A row by its own move
+
+module _ (inD : Bool) (pool rows : List ℕ) {i : ℕ} (st : State) {l : List Move} {before : List ℕ} {at : ℕ} {after : List ℕ} {p : ℕ} (t : RowTaken l (st .level) pool rows i before at after p) where
+  -- a move that the room has too
+  pub own-on : ownAmong (moves (editionOf inD) (st .room)) (st .level) (t .row) ≡ hit (t .move) → tooDeep (t .move) st ≡ false → Onward inD pool rows i st (i + 1) (go (t .move .next) st) before at after p
+  own-on q d =
+      record {
+        onto = record {
+          bytes = lead (t .move) ++ writeValue (t .move .form) (t .row .view);
+          is =
+              body-row (editionOf inD) i st (t .ahead .cells) (t .inner)
+              ∙ ap (rowBody i (bodyOf (editionOf inD) (cellsAt pool rows (i + 1)) (i + 1)))
+              (fits-own (editionOf inD) st (t .row) q ∙ ap (λ (b : Bool). pick b unfit (fits (go (t .move .next) st) (lead (t .move) ++ writeValue (t .move .form) (t .row .view)))) d);
+          laid = t .laid;
+        };
+        later = omega arith;
+        inside = omega (arith, t .ahead .within);
+      }
+
+  -- the same, where the moves tried are all that the room has
+  pub taken-on : (n : Next) → rowsOf (moves (editionOf inD) (st .room)) ≡ l → AllLead l n st → Onward inD pool rows i st (i + 1) (go n st) before at after p
+  taken-on n q a =
+      let own : find (standsFor (t .row)) (moves (editionOf inD) (st .room)) ≡ find (standsFor (t .row)) l = find-rows (t .row) (moves (editionOf inD) (st .room)) ∙ ap (find (standsFor (t .row))) q in
+      let leads = hit-leads (standsFor (t .row)) l st a (level-hit (eqb (t .row .level) (st .level)) _ (t .stands)) in
+      subst (λ (x : Next). Onward inD pool rows i st (i + 1) (go x st) before at after p) (leads .0)
+      (own-on (ap (atLevel (eqb (t .row .level) (st .level))) own ∙ t .stands) (leads .1))
+
+  -- "Level 9 is 15"
+  pub taken-deep : rowsOf (moves (editionOf inD) (st .room)) ≡ l → tooDeep (t .move) st ≡ true → bodyAt inD pool rows i st ≡ halt i
+  taken-deep q d =
+      let own : find (standsFor (t .row)) (moves (editionOf inD) (st .room)) ≡ find (standsFor (t .row)) l = find-rows (t .row) (moves (editionOf inD) (st .room)) ∙ ap (find (standsFor (t .row))) q in
+      body-row (editionOf inD) i st (t .ahead .cells) (t .inner)
+      ∙ ap (rowBody i (bodyOf (editionOf inD) (cellsAt pool rows (i + 1)) (i + 1)))
+      (fits-own (editionOf inD) st (t .row) (ap (atLevel (eqb (t .row .level) (st .level))) own ∙ t .stands) ∙ ap (λ (b : Bool). pick b unfit (fits (go (t .move .next) st) (lead (t .move) ++ writeValue (t .move .form) (t .row .view)))) d)
+
+-- A row that stands elsewhere
+
+pub not-in-room : (e : Edition) (st : State) (l : List Move) (cs : List Cell) → rowsOf (moves e (st .room)) ≡ l → NotAmong l (st .level) cs → NotAmong (moves e (st .room)) (st .level) cs
+not-in-room e st l [] q x = tt
+not-in-room e st l (broken ∷ cs) q x = tt
+not-in-room e st l (cell row ∷ cs) q x = ap (atLevel (eqb (row .level) (st .level))) (find-rows row (moves e (st .room)) ∙ ap (find (standsFor row)) q) ∙ x
+
+module _ (inD : Bool) (pool rows : List ℕ) {i : ℕ} (st : State) {l : List Move} (q : rowsOf (moves (editionOf inD) (st .room)) ≡ l) (x : NotAmong l (st .level) (cellsAt pool rows i)) where
+  pub close-on : {m : Move} {before : List ℕ} {at : ℕ} {after : List ℕ} {p : ℕ} → Closes (editionOf inD) st (hit m) → i ≤ length rows / 4 → Laid before at (m .code ∷ []) after p → Onward inD pool rows i st i (go (m .next) st) before at after p
+  close-on {m} c h d =
+      record {
+        onto = record { bytes = m .code ∷ []; is = body-closes (editionOf inD) st c (cellsAt pool rows i) i (not-in-room (editionOf inD) st l (cellsAt pool rows i) q x); laid = d };
+        later = omega arith;
+        inside = h;
+      }
+
+  pub lost-on : Closes (editionOf inD) st none → bodyAt inD pool rows i st ≡ halt i
+  lost-on c = body-lost (editionOf inD) st c (cellsAt pool rows i) i (not-in-room (editionOf inD) st l (cellsAt pool rows i) q x)
+
+-- what has to stand here
+pub needed-on : (inD : Bool) (pool rows : List ℕ) (i : ℕ) (st : State) (l : List Move) (n : Next) (before : List ℕ) (at : ℕ) (t : Taken) (after : List ℕ) → rowsOf (moves (editionOf inD) (st .room)) ≡ l → AllLead l n st → Closes (editionOf inD) st none
+    → TakenIs l (st .level) pool rows i before at t after → StageIs inD pool rows i st (go n st) before at (afterNeeded i t) after
+needed-on inD pool rows i st l n before at (To p) after q a c t = taken-on inD pool rows st t n q a
+needed-on inD pool rows i st l n before at Other after q a c t = lost-on inD pool rows st q (t .1) c

@@ -1,0 +1,45 @@
+-- Agents and parameters: what their stages promise.
+use Prim.Native.Nat.{ℕ, _+_, _*_, _-_, _/_, _≤_, _<_}
+use mathlib.Core.List.{List, [], _∷_}
+use mathlib.Core.Bool.{Bool, true, false, _&&_}
+use mathlib.Core.Path.{_≡_}
+use lib.Dec.{eqb}
+use lib.ListN.{length}
+use Rattle.meaning.specs.Basics.{pick}
+use Rattle.meaning.specs.Kinds.{agentName}
+use Rattle.meaning.specs.Editions.{State, state, parameters, agentList, oneAgent, afterName, stay, text, Move, closing, on_▸_▸_▸_}
+use Rattle.meaning.specs.Writing.{Cell, cell, broken, wayTo}
+use Rattle.writer.specs.Laying.{Layable}
+use Rattle.writer.specs.Bodies.{halt, cellsAt}
+use Rattle.writer.specs.Rooms.{NotAmong}
+use Rattle.writer.specs.Stages.{bodyAt, Onward}
+use Rattle.writer.specs.declared.agents.Turn.{Turn}
+use Rattle.writer.specs.declared.agents.Turn.the-variants.{On, Done, Stuck}
+
+-- "Extra: code 04 in B, 05 in D"
+abbrev pub extraCode : Bool → ℕ
+extraCode true = 5
+extraCode false = 4
+
+abbrev pub agentNames : List Move
+agentNames = on 0x02 ▸ agentName ▸ text ▸ stay afterName ∷ []
+
+-- where an agent begins: the one of `from` stands in no list
+abbrev pub agentsAt : ℕ → Bool → State
+agentsAt level single = state (pick (single && eqb level 1) oneAgent agentList) level single
+
+-- a turn takes a row, or goes up a level
+abbrev pub rowsAndLevels : List ℕ → ℕ → ℕ → ℕ
+rowsAndLevels rows i level = 2 * (length rows / 4 - i) + level
+
+pub record TurnRequires (rows : List ℕ) (i level : ℕ) (part : List ℕ) (at : ℕ) : Type 0 where
+  pub inside : i ≤ length rows / 4
+  pub least : 1 ≤ level
+  pub most : level ≤ 9
+  pub layable : Layable part at
+
+abbrev pub TurnIs : Bool → Bool → List ℕ → List ℕ → ℕ → State → ℕ → List ℕ → ℕ → Turn → List ℕ → Type 0
+TurnIs inD single pool rows i st left before at (On k level p) after =
+    Onward inD pool rows i st k (agentsAt level single) before at after p × (1 ≤ level) × (level ≤ 9) × (rowsAndLevels rows k level ≤ left)
+TurnIs inD single pool rows i st left before at (Done k p) after = Onward inD pool rows i st k (state parameters 0 false) before at after p
+TurnIs inD single pool rows i st left before at (Stuck j) after = bodyAt inD pool rows i st ≡ halt j

@@ -1,0 +1,51 @@
+// An any-value, whose kind and length pick its code.
+use crate::ahead::Taken;
+use crate::ahead::look_for;
+use crate::ahead::text;
+use crate::kinds;
+use crate::lay::copy;
+use crate::lay::put;
+use crate::lay::put_four;
+use crate::lay::put_two;
+ghost use mathlib.Core.Path.{_≡_};
+ghost use Prim.Native.Nat.{_<_};
+ghost use lib.ListN.{length};
+ghost use Rattle.meaning.specs.Editions.{Next, anyValues};
+ghost use Rattle.writer.specs.Laying.{Layable, Laid};
+ghost use Rattle.writer.specs.Codes.{blockOf};
+ghost use Rattle.writer.specs.Stages.{TakeRequires, TakenIs};
+
+// "16, 17, 19 with a length of 1, 2, 4 bytes .. and that many bytes": the shortest that it has room in.
+fn block(bytes: &[u8], output: &mut [u8], at: usize) -> usize
+    requires { ⌜ (length (now bytes) < 4294967296) × Layable (now output) at ⌝ }
+    ensures { λ r. ⌜ Laid (now (output .entry)) at (blockOf (now (bytes .entry))) (now (output .exit)) r ⌝ }
+{
+    let many = bytes.len();
+    if many < 256 {
+        let p = put(output, at, 0x16);
+        let q = put(output, p, many as u8);
+        return copy(bytes, output, q);
+    }
+    if many < 65536 {
+        let p = put(output, at, 0x17);
+        let q = put_two(many, output, p);
+        return copy(bytes, output, q);
+    }
+    let p = put(output, at, 0x19);
+    let q = put_four(many, output, p);
+    copy(bytes, output, q)
+}
+
+// "Any-value: 14 and a text, or .. that many bytes".
+pub fn any(rows: &[u32], pool: &[u8], i: usize, level: usize, output: &mut [u8], at: usize) -> Taken
+    requires { ⌜ TakeRequires (now rows) i 20 20 (now output) at ⌝ }
+    ensures { λ r. ⌜ ((n : Next) → TakenIs (anyValues n) level (now (pool .entry)) (now (rows .entry)) i (now (output .entry)) at r (now (output .exit))) ⌝ }
+{
+    let r = look_for(rows, pool, i, kinds::ANY_BYTES, level);
+    if r.kind == 0 {
+        return text(rows, pool, i, kinds::ANY_TEXT, level, 0x14, output, at);
+    }
+    let start = r.start;
+    let end = r.end;
+    Taken::To(block(&pool[start..end], output, at))
+}

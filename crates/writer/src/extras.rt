@@ -1,0 +1,65 @@
+// "Extra: code 04 in B, 05 in D; key text; any-value."
+use crate::ahead::Taken;
+use crate::ahead::text;
+use crate::any::any;
+use crate::kinds;
+use crate::lay::put;
+ghost use mathlib.Core.Path.{_≡_};
+ghost use mathlib.Core.Bool.{Bool};
+ghost use Prim.Native.Nat.{_≤_};
+ghost use Rattle.meaning.specs.Editions.{State};
+ghost use Rattle.writer.specs.Moves.{editionOf};
+ghost use Rattle.writer.specs.Rooms.{ExtrasIn};
+ghost use Rattle.writer.specs.Stages.{TakeRequires, afterNeeded, StageIs};
+
+// The row ahead and the place behind what was laid; or the row that fits nowhere.
+pub enum Stage {
+    Go { row: usize, at: usize },
+    Stuck(usize),
+}
+
+// What has to stand here.
+pub fn needed(t: Taken, i: usize) -> Stage
+    requires { ⌜ i ≤ 4611686018427387903 ⌝ }
+    ensures { λ r. ⌜ r ≡ afterNeeded i t ⌝ }
+{
+    let Taken::To(p) = t else {
+        return Stage::Stuck(i);
+    };
+    let next = i + 1;
+    Stage::Go { row: next, at: p }
+}
+
+// Extras, as many as there are, and the 01 behind them.
+pub fn extras(
+    rows: &[u32],
+    pool: &[u8],
+    from: usize,
+    level: usize,
+    code: usize,
+    output: &mut [u8],
+    at: usize,
+) -> Stage
+    requires { ⌜ TakeRequires (now rows) from 19 code (now output) at ⌝ }
+    ensures { λ r. ⌜ ((inD : Bool) (st st₁ : State) → ExtrasIn (editionOf inD) st level code st₁ →
+        StageIs inD (now (pool .entry)) (now (rows .entry)) from st st₁ (now (output .entry)) at r (now (output .exit))) ⌝ }
+{
+    let mut i = from;
+    let mut p = at;
+    loop {
+        let t = text(rows, pool, i, kinds::EXTRA_KEY, level, code, output, p);
+        let Taken::To(q) = t else {
+            return Stage::Go {
+                row: i,
+                at: put(output, p, 1),
+            };
+        };
+        i += 1;
+        let v = any(rows, pool, i, level, output, q);
+        let Taken::To(m) = v else {
+            return Stage::Stuck(i);
+        };
+        i += 1;
+        p = m;
+    }
+}
