@@ -11,7 +11,11 @@ use Rattle.meaning.specs.Basics.{pick}
 use Rattle.meaning.specs.Writing.{Cell, cell, broken}
 use Rattle.writer.specs.Laying.{rowWith}
 use Rattle.writer.specs.Bodies.{cellsAt, Words}
-use Rattle.writer.specs.Stages.{nothingAhead, NoRow, RowAhead, AheadIs, viewed, rowAhead, NotOf, SoughtIs}
+use Rattle.meaning.specs.Editions.{Move}
+use Rattle.writer.specs.Rooms.{NotAmong}
+use Rattle.writer.specs.Stages.{nothingAhead, NoRow, RowAhead, AheadIs, viewed, rowAhead, NotOf, SoughtIs, RowTaken, TakenIs}
+use Rattle.writer.specs.declared.ahead.Taken.{Taken}
+use Rattle.writer.specs.declared.ahead.Taken.the-variants.{To, Other}
 use Rattle.writer.specs.declared.ahead.Ahead.{Ahead}
 use Rattle.writer.specs.declared.body.Numbers.{Numbers}
 use Rattle.writer.proofs.Bodies.{cells-last, cell-in, cell-out}
@@ -62,3 +66,12 @@ module _ {pool rows : List ℕ} {i : ℕ} {r : Ahead} (kind level : ℕ) (a : Ah
       at : RowAhead pool rows i (rowAhead pool r) ⊎ ((r .kind ≡ 0) × NoRow (cellsAt pool rows i)) → ((r .kind ≡ kind) × RowAhead pool rows i (rowWith kind level (viewed pool r))) ⊎ ((r .kind ≡ 0) × NotOf kind level (cellsAt pool rows i))
       at (inl y) = inl (k, record { within = y .within; cells = y .cells ∙ ap (λ (n : ℕ). cell (rowWith n (r .level) (viewed pool r)) ∷ cellsAt pool rows (i + 1)) k ∙ ap (λ (n : ℕ). cell (rowWith kind n (viewed pool r)) ∷ cellsAt pool rows (i + 1)) l })
       at (inr y) = inr (y .0, no-row (cellsAt pool rows i) (y .1))
+
+-- What was taken, by the answer
+
+module _ (l : List Move) (level : ℕ) (pool rows : List ℕ) (i : ℕ) (before : List ℕ) (at : ℕ) (after : List ℕ) {r : Taken} where
+  pub taken-to : {p : ℕ} → r ≡ To p → TakenIs l level pool rows i before at r after → RowTaken l level pool rows i before at after p
+  taken-to q t = subst (λ (x : Taken). TakenIs l level pool rows i before at x after) q t
+
+  pub taken-other : r ≡ Other → TakenIs l level pool rows i before at r after → (after ≡ before) × NotAmong l level (cellsAt pool rows i)
+  taken-other q t = subst (λ (x : Taken). TakenIs l level pool rows i before at x after) q t

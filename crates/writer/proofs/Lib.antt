@@ -10,6 +10,8 @@ pub mod Aheads
 pub mod Among
 pub mod Stands
 pub mod Onward
+pub mod Lists
+pub mod Optional
 pub mod Wholes
 pub mod Envelopes
 pub mod Checking

@@ -19,7 +19,7 @@ module _ (e : Edition) (st : State) (row : Row) where
   abbrev ownMove : Found
   ownMove = ownAmong (moves e (st .room)) (st .level) row
 
-  abbrev passMove : Found
+  abbrev pub passMove : Found
   passMove = orElse (find (isPass (wayTo (row .kind))) (moves e (st .room))) (find (isPass closing) (moves e (st .room)))
 
   by-way : {w : Way} → ways ownMove passMove ≡ w → fitRow e st row ≡ fitBy st row (fitRow e) w

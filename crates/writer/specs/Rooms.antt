@@ -43,14 +43,13 @@ pub record Closes (e : Edition) (st : State) (o : Found) : Type 0 where
   pub by : find (isPass closing) (moves e (st .room)) ≡ o
 
 -- a list of texts: items, and a closing that leads on
-pub record TextsIn (e : Edition) (st : State) (kind level : ℕ) (st₁ : State) : Type 0 where
-  pub level-is : st .level ≡ level
+pub record TextsIn (e : Edition) (room : Room) (kind level : ℕ) (single : Bool) (st₁ : State) : Type 0 where
   pub item : Next
-  pub rows : rowsOf (moves e (st .room)) ≡ on noCode ▸ kind ▸ text ▸ item ∷ []
-  pub again : go item st ≡ st
+  pub rows : rowsOf (moves e room) ≡ on noCode ▸ kind ▸ text ▸ item ∷ []
+  pub again : go item (state room level single) ≡ state room level single
   pub next : Next
-  pub closes : Closes e st (hit (pass closing ▸ next))
-  pub leads : go next st ≡ st₁
+  pub closes : Closes e (state room level single) (hit (pass closing ▸ next))
+  pub leads : go next (state room level single) ≡ st₁
   pub shallow : eqb kind agentName ≡ false
 
 -- a text that may be left out: the room behind it has all moves of the room before it but the text's
@@ -61,12 +60,11 @@ pub record OptionalIn (e : Edition) (room room₁ : Room) (kind code : ℕ) : Ty
   pub shallow : eqb kind agentName ≡ false
 
 -- extras: a key behind its code, an any-value in a room of its own, and a closing that leads on
-pub record ExtrasIn (e : Edition) (st : State) (level code : ℕ) (st₁ : State) : Type 0 where
-  pub level-is : st .level ≡ level
+pub record ExtrasIn (e : Edition) (room : Room) (level : ℕ) (single : Bool) (code : ℕ) (st₁ : State) : Type 0 where
   pub value : Room
-  pub rows : rowsOf (moves e (st .room)) ≡ on code ▸ extraKey ▸ text ▸ stay value ∷ []
-  pub values : moves e value ≡ anyValues (stay (st .room))
+  pub rows : rowsOf (moves e room) ≡ on code ▸ extraKey ▸ text ▸ stay value ∷ []
+  pub values : rowsOf (moves e value) ≡ anyValues (stay room)
+  pub lost : Closes e (state value level single) none
   pub next : Next
-  pub closes : Closes e st (hit (pass closing ▸ next))
-  pub lost : Closes e (state value (st .level) (st .single)) none
-  pub leads : go next st ≡ st₁
+  pub closes : Closes e (state room level single) (hit (pass closing ▸ next))
+  pub leads : go next (state room level single) ≡ st₁

@@ -7,7 +7,7 @@ use crate::lay::put;
 ghost use mathlib.Core.Path.{_≡_};
 ghost use mathlib.Core.Bool.{Bool};
 ghost use Prim.Native.Nat.{_≤_};
-ghost use Rattle.meaning.specs.Editions.{State};
+ghost use Rattle.meaning.specs.Editions.{Room, State, state};
 ghost use Rattle.writer.specs.Moves.{editionOf};
 ghost use Rattle.writer.specs.Rooms.{ExtrasIn};
 ghost use Rattle.writer.specs.Stages.{TakeRequires, afterNeeded, StageIs};
@@ -41,8 +41,8 @@ pub fn extras(
     at: usize,
 ) -> Stage
     requires { ⌜ TakeRequires (now rows) from 19 code (now output) at ⌝ }
-    ensures { λ r. ⌜ ((inD : Bool) (st st₁ : State) → ExtrasIn (editionOf inD) st level code st₁ →
-        StageIs inD (now (pool .entry)) (now (rows .entry)) from st st₁ (now (output .entry)) at r (now (output .exit))) ⌝ }
+    ensures { λ r. ⌜ ((inD : Bool) (room : Room) (single : Bool) (st₁ : State) → ExtrasIn (editionOf inD) room level single code st₁ →
+        StageIs inD (now (pool .entry)) (now (rows .entry)) from (state room level single) st₁ (now (output .entry)) at r (now (output .exit))) ⌝ }
 {
     let mut i = from;
     let mut p = at;

@@ -29,8 +29,8 @@ pub fn texts(
     at: usize,
 ) -> Step
     requires { ⌜ TakeRequires (now rows) from kind 256 (now output) at ⌝ }
-    ensures { λ r. ⌜ ((inD : Bool) (st st₁ : State) → TextsIn (editionOf inD) st kind level st₁ →
-        Onward inD (now (pool .entry)) (now (rows .entry)) from st (r .row) st₁ (now (output .entry)) at (now (output .exit)) (r .at)) ⌝ }
+    ensures { λ r. ⌜ ((inD : Bool) (room : Room) (single : Bool) (st₁ : State) → TextsIn (editionOf inD) room kind level single st₁ →
+        Onward inD (now (pool .entry)) (now (rows .entry)) from (state room level single) (r .row) st₁ (now (output .entry)) at (now (output .exit)) (r .at)) ⌝ }
 {
     let mut i = from;
     let mut p = at;

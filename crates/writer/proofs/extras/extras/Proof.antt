@@ -1,80 +1,91 @@
+-- `extras::extras`: the extras from the first to where the code stands, for every room that has them.
+use Prim.Native.Nat.{_-_, _/_, _≤_}
+use Rattle.meaning.specs.Editions.{Room, State, state, stay, listEnds}
+use Rattle.writer.proofs.Aheads.{taken-other, taken-to}
+use Rattle.writer.proofs.Laying.{laid-layable, laid-length}
+use Rattle.writer.proofs.Lists.{extras-end, key-on, laid-from, layable-from, value-lost, value-on}
+use Rattle.writer.proofs.Onward.{onward-none, onward-stuck, onward-then}
+use Rattle.writer.specs.Laying.{Layable}
+use Rattle.writer.specs.Moves.{editionOf}
+use Rattle.writer.specs.Rooms.{ExtrasIn}
+use Rattle.writer.specs.Stages.{Onward}
+use borrow.Author.Needs.{needs}
+use lib.ListN.{length}
+use mathlib.Core.Bool.{Bool}
+use mathlib.Core.Path.{_≡_, refl, _∙_}
+use native.Mathlib.Omega.{arith}
 use Rattle.writer.proofs.extras.extras.Statement.{statement}
 use Rattle.writer.proofs.extras.extras.Tie as tie
-use Rattle.writer.proofs.extras.extras.Reads as reads
-use Rattle.writer.proofs.extras.extras.Lts as lts
-use Rattle.writer.proofs.ahead.text.Reads as text-reads
-use Rattle.writer.proofs.any.any.Reads as any-reads
-use Rattle.writer.proofs.lay.put.Reads as put-reads
 
 abbrev Inv-loop : tie.InvT-loop
-Inv-loop rows pool from level code output₀ at i₀ p₀ output i p = ?
+Inv-loop rows pool from level code output₀ at i₀ p₀ output i p =
+    (i ≤ length rows / 4) × Layable output p × (length output ≡ length output₀)
+    × ((inD : Bool) (room : Room) (single : Bool) (st₁ : State) → ExtrasIn (editionOf inD) room level single code st₁ → Onward inD pool rows from (state room level single) i (state room level single) output₀ at output p)
 
 abbrev μ-loop : tie.MeasureT-loop
-μ-loop rows pool from level code output₀ at i₀ p₀ output i p = ?
+μ-loop rows pool from level code output₀ at i₀ p₀ output i p = length rows / 4 - i
 
--- src/extras.rt:49:5
 loop-holds : tie.Need-loop-holds Inv-loop μ-loop
-loop-holds c = ?
+loop-holds c = (c .before .before .before .pre .inside, c .before .before .before .pre .layable, refl, λ inD room single st₁ t. onward-none inD _ _ (state room _ single) (c .before .before .before .pre .inside) (c .before .before .before .pre .layable))
 
--- src/extras.rt:50:13
 text-requires : tie.Need-text-requires Inv-loop μ-loop
-text-requires c κs = ?
+text-requires c κs = record { inside = c .before .loop .inv .0; inner = omega arith; coded = c .before .before .before .before .before .pre .coded; layable = c .before .loop .inv .1 }
 
--- src/extras.rt:51:23
 enum-known-t : tie.Need-enum-known-t Inv-loop μ-loop
-enum-known-t c = ?
+enum-known-t c = search needs
 
--- src/extras.rt:54:25
 enum-told : tie.Need-enum-told Inv-loop μ-loop
-enum-told c = ?
+enum-told c = search needs
 
--- src/extras.rt:54:21
 put-requires : tie.Need-put-requires Inv-loop μ-loop
-put-requires c κs = ?
+put-requires c κs = layable-from (taken-other _ _ _ _ _ _ _ _ (c .before .enum-told .given .1) (c .before .before .before .before .before .text .ensures listEnds) .0) (c .before .before .before .before .before .before .before .loop .inv .1)
 
--- src/extras.rt:52:13
 same-length : tie.Need-same-length Inv-loop μ-loop
-same-length c = ?
+same-length c = search needs
 
--- src/extras.rt:52:13
 returns : tie.Need-returns Inv-loop μ-loop
-returns c = ?
+returns c inD room single st₁ t =
+    let l = c .before .before .before .before .before .before .before .before .before .before .loop in
+    let other = taken-other _ _ _ _ _ _ _ _ (c .before .before .before .before .enum-told .given .1) (c .before .before .before .before .before .before .before .before .text .ensures (stay (t .value))) in
+    onward-then (c .before .before .before .before .before .before .before .before .before .before .before .before .before .before .pre .layable .small) (l .inv .3 inD room single st₁ t) (extras-end inD _ _ t (other .1) (l .inv .0) (laid-from (other .0) (c .before .before .put .ensures)))
 
--- src/extras.rt:57:9
 add-i : tie.Need-add-i Inv-loop μ-loop
-add-i c = ?
+add-i c = search needs
 
--- src/extras.rt:58:13
 any-requires : tie.Need-any-requires Inv-loop μ-loop
-any-requires c κs = ?
+any-requires c κs =
+    let taken = taken-to _ _ _ _ _ _ _ _ (c .before .before .t .given .1) (c .before .before .before .before .before .before .text .ensures listEnds) in
+    record { inside = omega (arith, taken .ahead .within); inner = omega arith; coded = omega arith; layable = laid-layable (taken .laid) (c .before .before .before .before .before .before .before .before .loop .inv .1) }
 
--- src/extras.rt:59:23
 enum-known-v : tie.Need-enum-known-v Inv-loop μ-loop
-enum-known-v c = ?
+enum-known-v c = search needs
 
--- src/extras.rt:60:13
 enum-told-2 : tie.Need-enum-told-2 Inv-loop μ-loop
-enum-told-2 c = ?
+enum-told-2 c = search needs
 
--- src/extras.rt:60:13
 same-length-2 : tie.Need-same-length-2 Inv-loop μ-loop
-same-length-2 c = ?
+same-length-2 c = search needs
 
--- src/extras.rt:60:13
 returns-2 : tie.Need-returns-2 Inv-loop μ-loop
-returns-2 c = ?
+returns-2 c inD room single st₁ t =
+    let small = c .before .before .before .before .before .before .before .before .before .before .before .before .before .before .before .before .before .pre .layable .small in
+    let key = key-on inD _ _ t (taken-to _ _ _ _ _ _ _ _ (c .before .before .before .before .before .before .before .t .given .1) (c .before .before .before .before .before .before .before .before .before .before .before .text .ensures (stay (t .value)))) in
+    let other = taken-other _ _ _ _ _ _ _ _ (c .enum-told2 .given .1) (c .before .before .before .before .any .ensures (stay room)) in
+    onward-stuck small (onward-then small (c .before .before .before .before .before .before .before .before .before .before .before .before .before .loop .inv .3 inD room single st₁ t) key) (value-lost inD _ _ t (other .1))
 
--- src/extras.rt:62:9
 add-i-2 : tie.Need-add-i-2 Inv-loop μ-loop
-add-i-2 c = ?
+add-i-2 c = search needs
 
--- src/extras.rt:49:5
 loop-less : tie.Need-loop-less Inv-loop μ-loop
-loop-less c = ?
+loop-less c = omega (arith, taken-to _ _ _ _ _ _ _ _ (c .before .before .before .before .before .before .before .before .t .given .1) (c .before .before .before .before .before .before .before .before .before .before .before .before .text .ensures listEnds) .ahead .within)
 
--- src/extras.rt:49:5
 loop-again : tie.Need-loop-again Inv-loop μ-loop
-loop-again c = ?
+loop-again c =
+    let l = c .before .before .before .before .before .before .before .before .before .before .before .before .before .before .loop in
+    let small = c .before .before .before .before .before .before .before .before .before .before .before .before .before .before .before .before .before .before .pre .layable .small in
+    let key = taken-to _ _ _ _ _ _ _ _ (c .before .before .before .before .before .before .before .before .t .given .1) (c .before .before .before .before .before .before .before .before .before .before .before .before .text .ensures listEnds) in
+    let value = taken-to _ _ _ _ _ _ _ _ (c .before .v .given .1) (c .before .before .before .before .before .any .ensures listEnds) in
+    (omega (arith, value .ahead .within), laid-layable (value .laid) (laid-layable (key .laid) (l .inv .1)), laid-length (value .laid) ∙ laid-length (key .laid) ∙ l .inv .2, λ inD room single st₁ t. onward-then small (l .inv .3 inD room single st₁ t) (onward-then (l .inv .1 .small) (key-on inD _ _ t (taken-to _ _ _ _ _ _ _ _ (c .before .before .before .before .before .before .before .before .t .given .1) (c .before .before .before .before .before .before .before .before .before .before .before .before .text .ensures (stay (t .value))))) (value-on inD _ _ t (taken-to _ _ _ _ _ _ _ _ (c .before .v .given .1) (c .before .before .before .before .before .any .ensures (stay room))))))
 
 pub extras-spec : {M : Type 1} → statement M
 extras-spec =

@@ -1,51 +1,43 @@
+-- `texts::optional`: the text is there, or the room behind it does as well.
+use Rattle.meaning.specs.Editions.{stay}
+use Rattle.writer.proofs.Aheads.{taken-other, taken-to}
+use Rattle.writer.proofs.Lists.{shallow-kind, unmoved}
+use Rattle.writer.proofs.Optional.{part-off, part-on}
 use borrow.Author.Needs.{needs}
+use mathlib.Core.Path.{refl}
 use Rattle.writer.proofs.texts.optional.Statement.{statement}
 use Rattle.writer.proofs.texts.optional.Tie as tie
-use Rattle.writer.proofs.texts.optional.Reads as reads
-use Rattle.writer.proofs.texts.optional.Lts as lts
-use Rattle.writer.proofs.ahead.text.Reads as text-reads
 
--- src/texts.rt:65:9
 text-requires : tie.Need-text-requires
 text-requires c κs = search needs
 
--- src/texts.rt:66:19
 enum-known-t : tie.Need-enum-known-t
 enum-known-t c = search needs
 
--- src/texts.rt:67:9
 enum-told : tie.Need-enum-told
 enum-told c = search needs
 
--- src/texts.rt:67:9
 same-length : tie.Need-same-length
 same-length c = search needs
 
--- src/texts.rt:67:9
 returns : tie.Need-returns
-returns c = ?
+returns c inD room room₁ single o =
+    let entry = c .before .before .before .before .before .before .before .before .before in
+    let other = taken-other _ _ _ _ _ _ _ _ (c .enum-told .given .1) (c .before .before .before .before .text .ensures (stay room₁)) in
+    unmoved (other .0) (part-off inD _ _ room room₁ (o .is) (entry .args .level) single refl (o .within) (o .within₁) (entry .pre .inside) (entry .pre .layable) (other .1))
 
--- src/texts.rt:69:16
 add-next : tie.Need-add-next
 add-next c = search needs
 
--- src/texts.rt:51:1
 same-length-2 : tie.Need-same-length-2
 same-length-2 c = search needs
 
--- src/texts.rt:51:1
 returns-2 : tie.Need-returns-2
-returns-2 c = ?
+returns-2 c inD room room₁ single o =
+    let a = c .before .before .before .before .before .before .before .before .before .before .args in
+    part-on inD _ _ room room₁ (o .is) (a .level) single (taken-to _ _ _ _ _ _ _ _ (c .before .t .given .1) (c .before .before .before .before .before .text .ensures (stay room₁))) (shallow-kind (a .kind) (a .level) (o .shallow))
 
 pub optional-spec : {M : Type 1} → statement M
 optional-spec =
     tie.close
-    (tie.spec
-    text-requires
-    enum-known-t
-    enum-told
-    same-length
-    returns
-    add-next
-    same-length-2
-    returns-2)
+    (tie.spec text-requires enum-known-t enum-told same-length returns add-next same-length-2 returns-2)

@@ -1,55 +1,65 @@
+-- `texts::texts`: the list from its first item to where the code stands, for every room that has such a list.
+use Prim.Native.Nat.{_-_, _/_, _≤_}
+use Rattle.meaning.specs.Editions.{Room, State, state, listEnds}
+use Rattle.writer.proofs.Aheads.{taken-other, taken-to}
+use Rattle.writer.proofs.Laying.{laid-layable, laid-length}
+use Rattle.writer.proofs.Lists.{item-on, laid-from, layable-from, texts-end}
+use Rattle.writer.proofs.Onward.{onward-none, onward-then}
+use Rattle.writer.specs.Laying.{Layable}
+use Rattle.writer.specs.Moves.{editionOf}
+use Rattle.writer.specs.Rooms.{TextsIn}
+use Rattle.writer.specs.Stages.{Onward}
+use borrow.Author.Needs.{needs}
+use lib.ListN.{length}
+use mathlib.Core.Bool.{Bool}
+use mathlib.Core.Path.{_≡_, refl, _∙_}
+use native.Mathlib.Omega.{arith}
 use Rattle.writer.proofs.texts.texts.Statement.{statement}
 use Rattle.writer.proofs.texts.texts.Tie as tie
-use Rattle.writer.proofs.texts.texts.Reads as reads
-use Rattle.writer.proofs.texts.texts.Lts as lts
-use Rattle.writer.proofs.ahead.text.Reads as text-reads
-use Rattle.writer.proofs.lay.put.Reads as put-reads
 
 abbrev Inv-loop : tie.InvT-loop
-Inv-loop rows pool from kind level output₀ at i₀ p₀ output i p = ?
+Inv-loop rows pool from kind level output₀ at i₀ p₀ output i p =
+    (i ≤ length rows / 4) × Layable output p × (length output ≡ length output₀)
+    × ((inD : Bool) (room : Room) (single : Bool) (st₁ : State) → TextsIn (editionOf inD) room kind level single st₁ → Onward inD pool rows from (state room level single) i (state room level single) output₀ at output p)
 
 abbrev μ-loop : tie.MeasureT-loop
-μ-loop rows pool from kind level output₀ at i₀ p₀ output i p = ?
+μ-loop rows pool from kind level output₀ at i₀ p₀ output i p = length rows / 4 - i
 
--- src/texts.rt:37:5
 loop-holds : tie.Need-loop-holds Inv-loop μ-loop
-loop-holds c = ?
+loop-holds c = (c .before .before .before .pre .inside, c .before .before .before .pre .layable, refl, λ inD room single st₁ t. onward-none inD _ _ (state room _ single) (c .before .before .before .pre .inside) (c .before .before .before .pre .layable))
 
--- src/texts.rt:38:13
 text-requires : tie.Need-text-requires Inv-loop μ-loop
-text-requires c κs = ?
+text-requires c κs = record { inside = c .before .loop .inv .0; inner = c .before .before .before .before .before .pre .inner; coded = omega arith; layable = c .before .loop .inv .1 }
 
--- src/texts.rt:39:23
 enum-known-t : tie.Need-enum-known-t Inv-loop μ-loop
-enum-known-t c = ?
+enum-known-t c = search needs
 
--- src/texts.rt:42:25
 enum-told : tie.Need-enum-told Inv-loop μ-loop
-enum-told c = ?
+enum-told c = search needs
 
--- src/texts.rt:42:21
 put-requires : tie.Need-put-requires Inv-loop μ-loop
-put-requires c κs = ?
+put-requires c κs = layable-from (taken-other _ _ _ _ _ _ _ _ (c .before .enum-told .given .1) (c .before .before .before .before .before .text .ensures listEnds) .0) (c .before .before .before .before .before .before .before .loop .inv .1)
 
--- src/texts.rt:40:13
 same-length : tie.Need-same-length Inv-loop μ-loop
-same-length c = ?
+same-length c = search needs
 
--- src/texts.rt:40:13
 returns : tie.Need-returns Inv-loop μ-loop
-returns c = ?
+returns c inD room single st₁ t =
+    let l = c .before .before .before .before .before .before .before .before .before .before .loop in
+    let other = taken-other _ _ _ _ _ _ _ _ (c .before .before .before .before .enum-told .given .1) (c .before .before .before .before .before .before .before .before .text .ensures (t .item)) in
+    onward-then (c .before .before .before .before .before .before .before .before .before .before .before .before .before .before .pre .layable .small) (l .inv .3 inD room single st₁ t) (texts-end inD _ _ t (other .1) (l .inv .0) (laid-from (other .0) (c .before .before .put .ensures)))
 
--- src/texts.rt:45:9
 add-i : tie.Need-add-i Inv-loop μ-loop
-add-i c = ?
+add-i c = search needs
 
--- src/texts.rt:37:5
 loop-less : tie.Need-loop-less Inv-loop μ-loop
-loop-less c = ?
+loop-less c = omega (arith, taken-to _ _ _ _ _ _ _ _ (c .before .t .given .1) (c .before .before .before .before .before .text .ensures listEnds) .ahead .within)
 
--- src/texts.rt:37:5
 loop-again : tie.Need-loop-again Inv-loop μ-loop
-loop-again c = ?
+loop-again c =
+    let l = c .before .before .before .before .before .before .before .loop in
+    let taken = taken-to _ _ _ _ _ _ _ _ (c .before .t .given .1) (c .before .before .before .before .before .text .ensures listEnds) in
+    (omega (arith, taken .ahead .within), laid-layable (taken .laid) (l .inv .1), laid-length (taken .laid) ∙ l .inv .2, λ inD room single st₁ t. onward-then (c .before .before .before .before .before .before .before .before .before .before .before .pre .layable .small) (l .inv .3 inD room single st₁ t) (item-on inD _ _ t (taken-to _ _ _ _ _ _ _ _ (c .before .t .given .1) (c .before .before .before .before .before .text .ensures (t .item)))))
 
 pub texts-spec : {M : Type 1} → statement M
 texts-spec =
