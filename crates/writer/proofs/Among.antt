@@ -77,6 +77,15 @@ pub level-hit : (b : Bool) (o : Found) {m : Move} → atLevel b o ≡ hit m → 
 level-hit true o q = q
 level-hit false o q = absurd (not-hit q)
 
+-- the one move that there is to find
+pub sole-move : (m : Move) (level : ℕ) (row : Row) {x : Move} → ownAmong (m ∷ []) level row ≡ hit x → m ≡ x
+unfolding find
+sole-move m level row {x} q = at (standsFor row m) (level-hit (eqb (row .level) level) (find (standsFor row) (m ∷ [])) q)
+  where
+    at : (b : Bool) → pick b (hit m) none ≡ hit x → m ≡ x
+    at true z = hit-is z
+    at false z = absurd (not-hit z)
+
 -- One move: a row of its kind and level with bytes that it takes, and no other
 
 module _ (m : Move) (level : ℕ) (q : isQuiet (m .form) ≡ false) where

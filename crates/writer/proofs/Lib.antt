@@ -12,6 +12,7 @@ pub mod Stands
 pub mod Onward
 pub mod Lists
 pub mod Optional
+pub mod Turning
 pub mod Wholes
 pub mod Envelopes
 pub mod Checking

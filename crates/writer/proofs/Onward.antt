@@ -54,6 +54,14 @@ module _ {inD : Bool} {pool rows : List ℕ} {i : ℕ} {st : State} {k : ℕ} {s
   stage-then st₂ m₂ (Go n p) b = onward-then b
   stage-then st₂ m₂ (Stuck j) b = onward-stuck b
 
+-- the same by the answer
+module _ (inD : Bool) (pool rows : List ℕ) (i : ℕ) (st st₁ : State) (before : List ℕ) (at : ℕ) (after : List ℕ) {r : Stage} where
+  pub stage-go : {k p : ℕ} → r ≡ Go k p → StageIs inD pool rows i st st₁ before at r after → Onward inD pool rows i st k st₁ before at after p
+  stage-go q s = subst (λ (x : Stage). StageIs inD pool rows i st st₁ before at x after) q s
+
+  pub stage-stuck : {j : ℕ} → r ≡ Stuck j → StageIs inD pool rows i st st₁ before at r after → bodyAt inD pool rows i st ≡ halt j
+  stage-stuck q s = subst (λ (x : Stage). StageIs inD pool rows i st st₁ before at x after) q s
+
 -- A row by its own move
 
 module _ (inD : Bool) (pool rows : List ℕ) {i : ℕ} (st : State) {l : List Move} {before : List ℕ} {at : ℕ} {after : List ℕ} {p : ℕ} (t : RowTaken l (st .level) pool rows i before at after p) where

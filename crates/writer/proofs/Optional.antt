@@ -16,7 +16,7 @@ use Rattle.writer.specs.Laying.{Layable}
 use Rattle.writer.specs.Bodies.{sealBody, rowBody, cellBody, bodyOf, cellsAt}
 use Rattle.writer.specs.Rooms.{ownAmong, NotAmong}
 use Rattle.writer.specs.Stages.{bodyAt, RowTaken, Onward}
-use Rattle.writer.proofs.Among.{hit-is, level-hit, not-hit}
+use Rattle.writer.proofs.Among.{level-hit, not-hit, sole-move}
 use Rattle.writer.proofs.Bodies.{body-starts}
 use Rattle.writer.proofs.Onward.{own-on}
 use Rattle.writer.proofs.Stands.{passMove}
@@ -87,15 +87,11 @@ module _ (inD : Bool) (pool rows : List ℕ) {i : ℕ} (r r₁ : Room) {m : Move
   unfolding find
   part-on {after} {p} t d =
       let own = level-hit (eqb (t .row .level) level) (find (standsFor (t .row)) (m ∷ [])) (t .stands) in
-      let same = only (standsFor (t .row) m) own in
+      let same = sole-move m level (t .row) (t .stands) in
       let there : ownAmong (moves (editionOf inD) r) level (t .row) ≡ hit (t .move) = at-level (eqb (t .row .level) level) _ _ (t .stands) (ap (find (standsFor (t .row))) is ∙ first (standsFor (t .row) m) (find (standsFor (t .row)) (moves (editionOf inD) r₁)) own) in
       subst (λ (x : Move). Onward inD pool rows i (state r level single) (i + 1) (go (x .next) (state r level single)) before at after p) (sym same)
       (own-on inD pool rows (state r level single) t there (ap (λ (x : Move). tooDeep x (state r level single)) (sym same) ∙ d))
     where
-      only : (b : Bool) {x : Move} → pick b (hit m) none ≡ hit x → m ≡ x
-      only true z = hit-is z
-      only false z = absurd (not-hit z)
-
       first : (b : Bool) {x : Move} (f : Found) → pick b (hit m) none ≡ hit x → pick b (hit m) f ≡ hit x
       first true f z = z
       first false f z = absurd (not-hit z)
