@@ -13,6 +13,7 @@ pub mod Onward
 pub mod Lists
 pub mod Optional
 pub mod Turning
+pub mod Receiving
 pub mod Wholes
 pub mod Envelopes
 pub mod Checking

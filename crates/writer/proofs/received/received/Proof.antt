@@ -1,0 +1,95 @@
+-- `received::received`: by, date, and what is behind them.
+use Rattle.meaning.specs.Editions.{state, parameters, inner, stay, receivedDate, afterDate}
+use Rattle.writer.proofs.Aheads.{taken-other, taken-to}
+use Rattle.writer.proofs.Laying.{laid-layable}
+use Rattle.writer.proofs.Onward.{onward-stuck, onward-then, stage-then}
+use Rattle.writer.proofs.Receiving.{by-missing, by-on, date-missing, date-on}
+use Prim.Native.Nat.{_+_, _/_, _<_}
+use lib.ListN.{length}
+use borrow.Author.Needs.{needs}
+use mathlib.Core.Bool.{false}
+use native.Mathlib.Omega.{arith}
+use Rattle.writer.proofs.received.received.Statement.{statement}
+use Rattle.writer.proofs.received.received.Tie as tie
+
+text-requires : tie.Need-text-requires
+text-requires c κs = search needs
+
+enum-known-t : tie.Need-enum-known-t
+enum-known-t c = search needs
+
+enum-told : tie.Need-enum-told
+enum-told c = search needs
+
+same-length : tie.Need-same-length
+same-length c = search needs
+
+returns : tie.Need-returns
+returns c = by-missing (c .before .before .before .before .before .before .before .before .before .args .in-d) _ _ (taken-other _ _ _ _ _ _ _ _ (c .enum-told .given .1) (c .before .before .before .before .text .ensures (inner receivedDate)) .1)
+
+add-named : tie.Need-add-named
+add-named c = search needs
+
+date-requires : tie.Need-date-requires
+date-requires c κs =
+    let by = taken-to _ _ _ _ _ _ _ _ (c .before .before .t .given .1) (c .before .before .before .before .before .before .text .ensures (inner receivedDate)) in
+    record { inside = omega (arith, by .ahead .within); inner = omega arith; coded = omega arith; layable = laid-layable (by .laid) (c .before .before .before .before .before .before .before .before .before .before .before .pre .layable) }
+
+enum-known-d : tie.Need-enum-known-d
+enum-known-d c = search needs
+
+enum-told-2 : tie.Need-enum-told-2
+enum-told-2 c = search needs
+
+same-length-2 : tie.Need-same-length-2
+same-length-2 c = search needs
+
+returns-2 : tie.Need-returns-2
+returns-2 c =
+    let d = c .before .before .before .before .before .before .before .before .before .before .before .before .before .before .before .before .args .in-d in
+    let by = taken-to _ _ _ _ _ _ _ _ (c .before .before .before .before .before .before .before .t .given .1) (c .before .before .before .before .before .before .before .before .before .before .before .text .ensures (inner receivedDate)) in
+    let other = taken-other _ _ _ _ _ _ _ _ (c .enum-told2 .given .1) (c .before .before .before .before .date .ensures (stay afterDate)) in
+    onward-stuck (c .before .before .before .before .before .before .before .before .before .before .before .before .before .before .before .before .pre .layable .small) (by-on d _ _ by) (date-missing d _ _ (other .1))
+
+add-dated : tie.Need-add-dated
+add-dated c =
+    let a = c .before .before .before .before .before .before .before .before .before .before .before .before .before .before .before .before .before .args in
+    let dated : a .i + 1 < length (a .rows .now) / 4 = taken-to _ _ _ _ _ _ _ _ (c .before .d .given .1) (c .before .before .before .before .before .date .ensures (stay afterDate)) .ahead .within in
+    search (needs, dated)
+
+behind-date-requires : tie.Need-behind-date-requires
+behind-date-requires c κs =
+    let by = taken-to _ _ _ _ _ _ _ _ (c .before .before .before .before .before .before .before .before .before .t .given .1) (c .before .before .before .before .before .before .before .before .before .before .before .before .before .text .ensures (inner receivedDate)) in
+    let dated = taken-to _ _ _ _ _ _ _ _ (c .before .before .d .given .1) (c .before .before .before .before .before .before .date .ensures (stay afterDate)) in
+    record { inside = omega (arith, dated .ahead .within); inner = omega arith; coded = omega arith; layable = laid-layable (dated .laid) (laid-layable (by .laid) (c .before .before .before .before .before .before .before .before .before .before .before .before .before .before .before .before .before .before .pre .layable)) }
+
+same-length-3 : tie.Need-same-length-3
+same-length-3 c = search needs
+
+returns-3 : tie.Need-returns-3
+returns-3 c =
+    let d = c .before .before .before .before .before .before .before .before .before .before .before .before .before .before .before .before .before .before .before .before .before .args .in-d in
+    let small = c .before .before .before .before .before .before .before .before .before .before .before .before .before .before .before .before .before .before .before .before .before .pre .layable .small in
+    let by = taken-to _ _ _ _ _ _ _ _ (c .before .before .before .before .before .before .before .before .before .before .before .before .t .given .1) (c .before .before .before .before .before .before .before .before .before .before .before .before .before .before .before .before .text .ensures (inner receivedDate)) in
+    let dated = taken-to _ _ _ _ _ _ _ _ (c .before .before .before .before .before .d .given .1) (c .before .before .before .before .before .before .before .before .before .date .ensures (stay afterDate)) in
+    stage-then small (onward-then small (by-on d _ _ by) (date-on d _ _ dated)) (state parameters 0 false) _ (c .before .before .behind-date .result) (c .before .before .behind-date .ensures)
+
+pub received-spec : {M : Type 1} → statement M
+received-spec =
+    tie.close
+    (tie.spec
+    text-requires
+    enum-known-t
+    enum-told
+    same-length
+    returns
+    add-named
+    date-requires
+    enum-known-d
+    enum-told-2
+    same-length-2
+    returns-2
+    add-dated
+    behind-date-requires
+    same-length-3
+    returns-3)
