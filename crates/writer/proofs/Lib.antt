@@ -14,6 +14,7 @@ pub mod Lists
 pub mod Optional
 pub mod Turning
 pub mod Receiving
+pub mod Choosing
 pub mod Wholes
 pub mod Envelopes
 pub mod Checking

@@ -14,7 +14,7 @@ use Rattle.writer.specs.Moves.{editionOf}
 use Rattle.writer.specs.Laying.{Laid, Layable}
 use Rattle.writer.specs.Bodies.{Body, halt, body, onBody, rowBody, bodyOf, cellsAt, BodyOnto}
 use Rattle.writer.specs.Rooms.{rowsOf, ownAmong, NotAmong, AllLead, Closes}
-use Rattle.writer.specs.Stages.{bodyAt, RowTaken, TakenIs, Onward, StageIs, afterNeeded}
+use Rattle.writer.specs.Stages.{bodyAt, RowTaken, TakenIs, Onward, StageIs, Beyond, afterNeeded}
 use Rattle.writer.specs.declared.ahead.Taken.{Taken}
 use Rattle.writer.specs.declared.ahead.Taken.the-variants.{To, Other}
 use Rattle.writer.specs.declared.extras.Stage.{Stage}
@@ -53,6 +53,10 @@ module _ {inD : Bool} {pool rows : List ℕ} {i : ℕ} {st : State} {k : ℕ} {s
   pub stage-then : (st₂ : State) (m₂ : List ℕ) (r : Stage) → StageIs inD pool rows k st₁ st₂ m₁ p₁ r m₂ → StageIs inD pool rows i st st₂ m at r m₂
   stage-then st₂ m₂ (Go n p) b = onward-then b
   stage-then st₂ m₂ (Stuck j) b = onward-stuck b
+
+pub beyond : (inD : Bool) (pool rows : List ℕ) (k : ℕ) (st st₁ : State) (m : List ℕ) (at : ℕ) (r : Stage) (m₁ : List ℕ) {i : ℕ} → i < k → StageIs inD pool rows k st st₁ m at r m₁ → Beyond i r
+beyond inD pool rows k st st₁ m at (Go n p) m₁ h s = omega (arith, s .later)
+beyond inD pool rows k st st₁ m at (Stuck j) m₁ h s = tt
 
 -- the same by the answer
 module _ (inD : Bool) (pool rows : List ℕ) (i : ℕ) (st st₁ : State) (before : List ℕ) (at : ℕ) (after : List ℕ) {r : Stage} where
@@ -121,3 +125,7 @@ pub needed-on : (inD : Bool) (pool rows : List ℕ) (i : ℕ) (st : State) (l : 
     → TakenIs l (st .level) pool rows i before at t after → StageIs inD pool rows i st (go n st) before at (afterNeeded i t) after
 needed-on inD pool rows i st l n before at (To p) after q a c t = taken-on inD pool rows st t n q a
 needed-on inD pool rows i st l n before at Other after q a c t = lost-on inD pool rows st q (t .1) c
+
+pub needed-as : (inD : Bool) (pool rows : List ℕ) (i : ℕ) (st : State) (l : List Move) (n : Next) (before : List ℕ) (at : ℕ) (t : Taken) (after : List ℕ) {r : Stage} → rowsOf (moves (editionOf inD) (st .room)) ≡ l → AllLead l n st → Closes (editionOf inD) st none
+    → TakenIs l (st .level) pool rows i before at t after → r ≡ afterNeeded i t → StageIs inD pool rows i st (go n st) before at r after
+needed-as inD pool rows i st l n before at t after q a c x e = subst (λ (r : Stage). StageIs inD pool rows i st (go n st) before at r after) (sym e) (needed-on inD pool rows i st l n before at t after q a c x)

@@ -95,6 +95,11 @@ abbrev pub StageIs : Bool → List ℕ → List ℕ → ℕ → State → State 
 StageIs inD pool rows i st st₁ before at (Go k p) after = Onward inD pool rows i st k st₁ before at after p
 StageIs inD pool rows i st st₁ before at (Stuck j) after = bodyAt inD pool rows i st ≡ halt j
 
+-- and rows were taken
+abbrev pub Beyond : ℕ → Stage → Type 0
+Beyond i (Go k p) = i < k
+Beyond i (Stuck j) = Unit {0}
+
 -- what has to stand in row i
 abbrev pub afterNeeded : ℕ → Taken → Stage
 afterNeeded i (To p) = Go (i + 1) p

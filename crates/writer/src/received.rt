@@ -10,7 +10,7 @@ use crate::texts::optional;
 ghost use mathlib.Core.Path.{_≡_};
 ghost use mathlib.Core.Bool.{false};
 ghost use Rattle.meaning.specs.Editions.{state, receivedBegins, afterDate, parameters};
-ghost use Rattle.writer.specs.Stages.{TakeRequires, StageIs};
+ghost use Rattle.writer.specs.Stages.{TakeRequires, StageIs, Beyond};
 
 fn behind_date(
     rows: &[u32],
@@ -46,7 +46,7 @@ pub fn received(
     at: usize,
 ) -> Stage
     requires { ⌜ TakeRequires (now rows) i 8 256 (now output) at ⌝ }
-    ensures { λ r. ⌜ StageIs in_d (now (pool .entry)) (now (rows .entry)) i (state receivedBegins 0 false) (state parameters 0 false) (now (output .entry)) at r (now (output .exit)) ⌝ }
+    ensures { λ r. ⌜ (StageIs in_d (now (pool .entry)) (now (rows .entry)) i (state receivedBegins 0 false) (state parameters 0 false) (now (output .entry)) at r (now (output .exit))) × Beyond i r ⌝ }
 {
     let t = text(rows, pool, i, kinds::RECEIVED_BY, 0, 256, output, at);
     let Taken::To(p) = t else {

@@ -2,7 +2,7 @@
 use Rattle.meaning.specs.Editions.{state, parameters, inner, stay, receivedDate, afterDate}
 use Rattle.writer.proofs.Aheads.{taken-other, taken-to}
 use Rattle.writer.proofs.Laying.{laid-layable}
-use Rattle.writer.proofs.Onward.{onward-stuck, onward-then, stage-then}
+use Rattle.writer.proofs.Onward.{beyond, onward-stuck, onward-then, stage-then}
 use Rattle.writer.proofs.Receiving.{by-missing, by-on, date-missing, date-on}
 use Prim.Native.Nat.{_+_, _/_, _<_}
 use lib.ListN.{length}
@@ -25,7 +25,7 @@ same-length : tie.Need-same-length
 same-length c = search needs
 
 returns : tie.Need-returns
-returns c = by-missing (c .before .before .before .before .before .before .before .before .before .args .in-d) _ _ (taken-other _ _ _ _ _ _ _ _ (c .enum-told .given .1) (c .before .before .before .before .text .ensures (inner receivedDate)) .1)
+returns c = (by-missing (c .before .before .before .before .before .before .before .before .before .args .in-d) _ _ (taken-other _ _ _ _ _ _ _ _ (c .enum-told .given .1) (c .before .before .before .before .text .ensures (inner receivedDate)) .1), tt)
 
 add-named : tie.Need-add-named
 add-named c = search needs
@@ -49,7 +49,7 @@ returns-2 c =
     let d = c .before .before .before .before .before .before .before .before .before .before .before .before .before .before .before .before .args .in-d in
     let by = taken-to _ _ _ _ _ _ _ _ (c .before .before .before .before .before .before .before .t .given .1) (c .before .before .before .before .before .before .before .before .before .before .before .text .ensures (inner receivedDate)) in
     let other = taken-other _ _ _ _ _ _ _ _ (c .enum-told2 .given .1) (c .before .before .before .before .date .ensures (stay afterDate)) in
-    onward-stuck (c .before .before .before .before .before .before .before .before .before .before .before .before .before .before .before .before .pre .layable .small) (by-on d _ _ by) (date-missing d _ _ (other .1))
+    (onward-stuck (c .before .before .before .before .before .before .before .before .before .before .before .before .before .before .before .before .pre .layable .small) (by-on d _ _ by) (date-missing d _ _ (other .1)), tt)
 
 add-dated : tie.Need-add-dated
 add-dated c =
@@ -72,7 +72,7 @@ returns-3 c =
     let small = c .before .before .before .before .before .before .before .before .before .before .before .before .before .before .before .before .before .before .before .before .before .pre .layable .small in
     let by = taken-to _ _ _ _ _ _ _ _ (c .before .before .before .before .before .before .before .before .before .before .before .before .t .given .1) (c .before .before .before .before .before .before .before .before .before .before .before .before .before .before .before .before .text .ensures (inner receivedDate)) in
     let dated = taken-to _ _ _ _ _ _ _ _ (c .before .before .before .before .before .d .given .1) (c .before .before .before .before .before .before .before .before .before .date .ensures (stay afterDate)) in
-    stage-then small (onward-then small (by-on d _ _ by) (date-on d _ _ dated)) (state parameters 0 false) _ (c .before .before .behind-date .result) (c .before .before .behind-date .ensures)
+    (stage-then small (onward-then small (by-on d _ _ by) (date-on d _ _ dated)) (state parameters 0 false) _ (c .before .before .behind-date .result) (c .before .before .behind-date .ensures), beyond _ _ _ _ _ _ _ _ (c .before .before .behind-date .result) _ (omega arith) (c .before .before .behind-date .ensures))
 
 pub received-spec : {M : Type 1} → statement M
 received-spec =

@@ -1,0 +1,161 @@
+-- A parameter by the kind of its first row: the only move of that kind among the parameters, a pass before it, or the closing.
+use Prim.Native.Nat.{ℕ, _+_, _/_, _≤_, _<_}
+use mathlib.Core.List.{List, [], _∷_, _++_}
+use mathlib.Core.Bool.{Bool, true, false, _&&_, not}
+use mathlib.Core.Logic.{_⊎_, inl, inr}
+use mathlib.Core.Path.{_≡_, refl, ap, sym, _∙_, subst}
+use native.Mathlib.Omega.{arith}
+use lib.Dec.{eqb, ltb}
+use lib.ListN.{length}
+use borrow.Author.Tests.{eqb-true}
+use Rattle.meaning.specs.Basics.{pick}
+use Rattle.meaning.specs.Kinds.{agentName}
+use Rattle.meaning.specs.Editions.{State, state, parameters, closed, isQuiet, closing, Move, moves, go}
+use Rattle.meaning.specs.Reading.{levelMost, Row, Found, none, hit, find, tooDeep}
+use Rattle.meaning.specs.Writing.{atLevel, standsFor, wayTo, isPass, Cell, cell, broken, opensOf}
+use Rattle.writer.specs.Moves.{editionOf}
+use Rattle.writer.specs.Laying.{Laid}
+use Rattle.writer.specs.Bodies.{halt, cellsAt, opensNumber}
+use Rattle.writer.specs.Rooms.{ofKind, ownAmong, NotAmong}
+use Rattle.writer.specs.Stages.{bodyAt, viewed, rowAhead, NoRow, RowAhead, AheadIs, RowTaken, TakenIs, Onward, StageIs, Beyond}
+use Rattle.writer.specs.Parameters.{atParameters, afterOne, afterStage, InParameters, ParameterIs, WayAhead, ClosingAhead, FoundIs}
+use Rattle.writer.specs.declared.ahead.Ahead.{Ahead}
+use Rattle.writer.specs.declared.ahead.Taken.{Taken}
+use Rattle.writer.specs.declared.ahead.Taken.the-variants.{To, Other}
+use Rattle.writer.specs.declared.extras.Stage.{Stage}
+use Rattle.writer.specs.declared.extras.Stage.the-variants as stage
+use Rattle.writer.specs.declared.parameters.Parameter.{Parameter}
+use Rattle.writer.specs.declared.parameters.Parameter.the-variants.{Go, Last, Stuck}
+use Rattle.writer.proofs.Among.{find-kind, level-hit, not-hit, sole-move, same-kind, takes}
+use Rattle.writer.proofs.Openings.{opens-past}
+use Rattle.writer.proofs.Onward.{onward-then, onward-stuck, own-on, stage-then}
+use Rattle.writer.proofs.Stands.{parameters-close, parameters-pass}
+
+-- A row by the only move of its kind
+
+both : (a b : Bool) → (a && b) ≡ true → (a ≡ true) × (b ≡ true)
+both true b q = (refl, q)
+both false b q = absurd (no q)
+  where
+    no : false ≡ true → ⊥
+    no z = let y : _≡_ {A = ℕ} 0 1 = cc z in omega arith
+
+module _ (inD : Bool) (m : Move) (is : InParameters inD m) (row : Row) where
+  stands-there : {x : Move} → ownAmong (m ∷ []) 0 row ≡ hit x → ownAmong (moves (editionOf inD) parameters) 0 row ≡ hit x
+  unfolding find
+  stands-there {x} q = at (eqb (row .level) 0) q
+    where
+      of : (b : Bool) → standsFor row m ≡ b → pick b (hit m) none ≡ hit x → find (standsFor row) (moves (editionOf inD) parameters) ≡ hit x
+      of true s z =
+          let p = both (not (isQuiet (m .form)) && eqb (m .kind) (row .kind)) (takes (row .view) m) s in
+          let k : m .kind ≡ row .kind = eqb-true (m .kind) (row .kind) (both (not (isQuiet (m .form))) (eqb (m .kind) (row .kind)) (p .0) .1) in
+          find-kind row (moves (editionOf inD) parameters) ∙ ap (λ (n : ℕ). find (takes (row .view)) (ofKind n (moves (editionOf inD) parameters))) (sym k)
+          ∙ ap (find (takes (row .view))) is ∙ ap (λ (b : Bool). pick b (hit m) none) (p .1) ∙ z
+      of false s z = absurd (not-hit z)
+
+      at : (b : Bool) → atLevel b (find (standsFor row) (m ∷ [])) ≡ hit x → atLevel b (find (standsFor row) (moves (editionOf inD) parameters)) ≡ hit x
+      at true z = of (standsFor row m) refl z
+      at false z = z
+
+pub parameter-row : (inD : Bool) (pool rows : List ℕ) {i : ℕ} (m : Move) {before : List ℕ} {at : ℕ} {after : List ℕ} {p : ℕ} → InParameters inD m → eqb (m .kind) agentName ≡ false → RowTaken (m ∷ []) 0 pool rows i before at after p → Onward inD pool rows i atParameters (i + 1) (go (m .next) atParameters) before at after p
+parameter-row inD pool rows {i} m {before} {at} {after} {p} q d t =
+    let same = sole-move m 0 (t .row) (t .stands) in
+    subst (λ (x : Move). Onward inD pool rows i atParameters (i + 1) (go (x .next) atParameters) before at after p) (sym same)
+    (own-on inD pool rows atParameters t (stands-there inD m q (t .row) (t .stands)) (ap (λ (x : Move). tooDeep x atParameters) (sym same) ∙ ap (λ (b : Bool). b && ltb levelMost 0) d))
+
+-- What follows it
+
+module _ (inD : Bool) (l : List Move) {pool rows : List ℕ} {i : ℕ} {st : State} {m : List ℕ} {at : ℕ} {m₁ : List ℕ} {p₁ : ℕ} (small : length m ≤ 1048576) (a : Onward inD pool rows i atParameters (i + 1) st m at m₁ p₁) where
+  followed : (s : Stage) (m₂ : List ℕ) → StageIs inD pool rows (i + 1) st atParameters m₁ p₁ s m₂ → ParameterIs inD l pool rows i m at (afterStage s) m₂
+  followed (stage.Go k p) m₂ x = (onward-then small a x, omega (arith, x .later))
+  followed (stage.Stuck j) m₂ x = onward-stuck small a x
+
+  pub after-first : (s : Stage) (m₂ : List ℕ) {r : Parameter} → StageIs inD pool rows (i + 1) st atParameters m₁ p₁ s m₂ → r ≡ afterStage s → ParameterIs inD l pool rows i m at r m₂
+  after-first s m₂ x q = subst (λ (y : Parameter). ParameterIs inD l pool rows i m at y m₂) (sym q) (followed s m₂ x)
+
+pub after-single : (inD : Bool) (pool rows : List ℕ) (i : ℕ) (m : Move) (before : List ℕ) (at : ℕ) (t : Taken) (after : List ℕ) {r : Parameter} → InParameters inD m → eqb (m .kind) agentName ≡ false → go (m .next) atParameters ≡ atParameters → TakenIs (m ∷ []) 0 pool rows i before at t after → r ≡ afterOne i t → ParameterIs inD (m ∷ []) pool rows i before at r after
+after-single inD pool rows i m before at t after q d g x e = subst (λ (y : Parameter). ParameterIs inD (m ∷ []) pool rows i before at y after) (sym e) (by t x)
+  where
+    by : (t : Taken) → TakenIs (m ∷ []) 0 pool rows i before at t after → ParameterIs inD (m ∷ []) pool rows i before at (afterOne i t) after
+    by (To p) y = (subst (λ (s : State). Onward inD pool rows i atParameters (i + 1) s before at after p) g (parameter-row inD pool rows m q d y), omega arith)
+    by Other y = y
+
+-- The row ahead, by its kind
+
+module _ (inD : Bool) (pool rows : List ℕ) (i : ℕ) {r : Ahead} (a : AheadIs pool rows i r) (l : List Move) (is : ofKind (r .kind) (moves (editionOf inD) parameters) ≡ ofKind (r .kind) l) where
+  none-there : NotAmong l 0 (cellsAt pool rows i) → NotAmong (moves (editionOf inD) parameters) 0 (cellsAt pool rows i)
+  none-there x = at (a .is)
+    where
+      no-row : (cs : List Cell) → NoRow cs → NotAmong (moves (editionOf inD) parameters) 0 cs
+      no-row [] y = tt
+      no-row (broken ∷ cs) y = tt
+      no-row (cell row ∷ cs) y = absurd y
+
+      at : RowAhead pool rows i (rowAhead pool r) ⊎ ((r .kind ≡ 0) × NoRow (cellsAt pool rows i)) → NotAmong (moves (editionOf inD) parameters) 0 (cellsAt pool rows i)
+      at (inl y) = subst (NotAmong (moves (editionOf inD) parameters) 0) (sym (y .cells)) (ap (atLevel (eqb (r .level) 0)) (same-kind (rowAhead pool r) (moves (editionOf inD) parameters) l is) ∙ subst (NotAmong l 0) (y .cells) x)
+      at (inr y) = no-row (cellsAt pool rows i) (y .1)
+
+  closing-ahead : wayTo (r .kind) ≡ closing → ClosingAhead (cellsAt pool rows i)
+  closing-ahead w = at (a .is)
+    where
+      no-row : (cs : List Cell) → NoRow cs → ClosingAhead cs
+      no-row [] y = tt
+      no-row (broken ∷ cs) y = tt
+      no-row (cell row ∷ cs) y = absurd y
+
+      at : RowAhead pool rows i (rowAhead pool r) ⊎ ((r .kind ≡ 0) × NoRow (cellsAt pool rows i)) → ClosingAhead (cellsAt pool rows i)
+      at (inl y) = subst ClosingAhead (sym (y .cells)) w
+      at (inr y) = no-row (cellsAt pool rows i) (y .1)
+
+  pub found-as : (before : List ℕ) (at : ℕ) (p : Parameter) (after : List ℕ) → wayTo (r .kind) ≡ closing → ParameterIs inD l pool rows i before at p after → FoundIs inD pool rows i before at p after
+  found-as before at (Go k p) after w x = x
+  found-as before at Last after w x = (x .0, none-there (x .1), closing-ahead w)
+  found-as before at (Stuck j) after w x = x
+
+-- a row before which the parameter's code stands
+pub way-ahead : (inD : Bool) (pool rows : List ℕ) (i c : ℕ) {r : Ahead} → AheadIs pool rows i r → 3 ≤ r .kind → ofKind (r .kind) (moves (editionOf inD) parameters) ≡ [] → wayTo (r .kind) ≡ c → WayAhead inD c (cellsAt pool rows i)
+unfolding find
+way-ahead inD pool rows i c {r} a h is w = at (a .is)
+  where
+    level : (b : Bool) → atLevel b none ≡ none
+    level true = refl
+    level false = refl
+
+    at : RowAhead pool rows i (rowAhead pool r) ⊎ ((r .kind ≡ 0) × NoRow (cellsAt pool rows i)) → WayAhead inD c (cellsAt pool rows i)
+    at (inl y) = subst (WayAhead inD c) (sym (y .cells)) (w, sym (opens-past (r .kind) (r .level) (viewed pool r) (omega arith)), ap (atLevel (eqb (r .level) 0)) (same-kind (rowAhead pool r) (moves (editionOf inD) parameters) [] is) ∙ level (eqb (r .level) 0))
+    at (inr y) = absurd (omega (arith, y .0))
+
+pub pass-on : (inD : Bool) (pool rows : List ℕ) (i c : ℕ) {m : Move} {before : List ℕ} {at : ℕ} {after : List ℕ} {p : ℕ} → find (isPass c) (moves (editionOf inD) parameters) ≡ hit m → i ≤ length rows / 4 → WayAhead inD c (cellsAt pool rows i) → Laid before at (m .code ∷ []) after p → Onward inD pool rows i atParameters i (go (m .next) atParameters) before at after p
+pass-on inD pool rows i c {m} q h w l =
+    record {
+      onto = record { bytes = m .code ∷ []; is = parameters-pass inD c (cellsAt pool rows i) i q w; laid = l };
+      later = omega arith;
+      inside = h;
+    }
+
+pub found-stage : (inD : Bool) (pool rows : List ℕ) (i : ℕ) (before : List ℕ) (at : ℕ) (s : Stage) (after : List ℕ) {r : Parameter} → StageIs inD pool rows i atParameters atParameters before at s after → Beyond i s → r ≡ afterStage s → FoundIs inD pool rows i before at r after
+found-stage inD pool rows i before at s after x b q = subst (λ (y : Parameter). FoundIs inD pool rows i before at y after) (sym q) (by s x b)
+  where
+    by : (s : Stage) → StageIs inD pool rows i atParameters atParameters before at s after → Beyond i s → FoundIs inD pool rows i before at (afterStage s) after
+    by (stage.Go k p) y z = (y, z)
+    by (stage.Stuck j) y z = y
+
+-- The end of the parameters
+
+pub parameters-end : (inD : Bool) (pool rows : List ℕ) (i : ℕ) {before : List ℕ} {at : ℕ} {after : List ℕ} {p : ℕ} → NotAmong (moves (editionOf inD) parameters) 0 (cellsAt pool rows i) → ClosingAhead (cellsAt pool rows i) → i ≤ length rows / 4 → Laid before at (1 ∷ []) after p → Onward inD pool rows i atParameters i (state closed 0 false) before at after p
+parameters-end inD pool rows i x w h l =
+    record {
+      onto = record { bytes = 1 ∷ []; is = parameters-close (editionOf inD) (cellsAt pool rows i) i w x; laid = l };
+      later = omega arith;
+      inside = h;
+    }
+
+module _ (inD : Bool) (pool rows : List ℕ) (i : ℕ) (before : List ℕ) (at : ℕ) (after : List ℕ) {r : Parameter} (f : FoundIs inD pool rows i before at r after) where
+  pub found-go : {k p : ℕ} → r ≡ Go k p → Onward inD pool rows i atParameters k atParameters before at after p × (i < k)
+  found-go q = subst (λ (x : Parameter). FoundIs inD pool rows i before at x after) q f
+
+  pub found-last : r ≡ Last → (after ≡ before) × NotAmong (moves (editionOf inD) parameters) 0 (cellsAt pool rows i) × ClosingAhead (cellsAt pool rows i)
+  found-last q = subst (λ (x : Parameter). FoundIs inD pool rows i before at x after) q f
+
+  pub found-stuck : {j : ℕ} → r ≡ Stuck j → bodyAt inD pool rows i atParameters ≡ halt j
+  found-stuck q = subst (λ (x : Parameter). FoundIs inD pool rows i before at x after) q f
