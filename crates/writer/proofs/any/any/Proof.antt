@@ -1,51 +1,49 @@
+-- `any::any`: a block is ahead, and its length picks its move; or none is, and what is said of the text holds among all moves.
+use Rattle.meaning.specs.Editions.{anyValues, text, on_▸_▸_▸_}
+use Rattle.meaning.specs.Kinds.{anyBytes, anyText}
+use Rattle.writer.proofs.Among.{sought-away, sought-row}
+use Rattle.writer.proofs.Forms.{block-taken, taken-more, view-short}
 use borrow.Author.Needs.{needs}
+use borrow.Author.Tests.{ne-eqb}
+use mathlib.Core.List.{[], _∷_}
+use mathlib.Core.Path.{refl, sym}
+use native.Mathlib.Omega.{arith}
 use Rattle.writer.proofs.any.any.Statement.{statement}
 use Rattle.writer.proofs.any.any.Tie as tie
-use Rattle.writer.proofs.any.any.Reads as reads
-use Rattle.writer.proofs.any.any.Lts as lts
-use Rattle.writer.proofs.ahead.look_for.Reads as look-for-reads
-use Rattle.writer.proofs.ahead.text.Reads as text-reads
-use Rattle.writer.proofs.any.block.Reads as block-reads
 
--- src/any.rt:44:9
 look-for-requires : tie.Need-look-for-requires
 look-for-requires c κs = search needs
 
--- src/any.rt:46:9
 text-requires : tie.Need-text-requires
 text-requires c κs = search needs
 
--- src/any.rt:46:9
 same-length : tie.Need-same-length
 same-length c = search needs
 
--- src/any.rt:46:9
 returns : tie.Need-returns
-returns c = ?
+returns c n =
+    let a = c .before .before .before .before .before .before .before .before .before .before .args in
+    taken-more anyBytes (a .level) (on 0x14 ▸ anyText ▸ text ▸ n ∷ []) (anyValues n) (λ j h. rw (ne-eqb anyBytes j (λ q. h (sym q))) refl) (a .pool .now) (a .rows .now) (a .i) (sought-away (c .before .before .before .before .before .before .look-for .ensures) (omega arith) (c .before .before .before .before .if1 .taken)) _ _ _ (c .before .before .text .result) (c .before .before .text .ensures n)
 
--- src/any.rt:50:21
 sub-block : tie.Need-sub-block
 sub-block c = search needs
 
--- src/any.rt:50:21
 part-block-start : tie.Need-part-block-start
 part-block-start c = search needs
 
--- src/any.rt:50:21
 part-block-end : tie.Need-part-block-end
 part-block-end c = search needs
 
--- src/any.rt:50:15
 block-requires : tie.Need-block-requires
-block-requires c κs = search needs
+block-requires c κs = (view-short (c .before .before .before .before .look-for .ensures), c .before .before .before .before .before .before .before .before .pre .layable)
 
--- src/any.rt:40:1
 same-length-2 : tie.Need-same-length-2
 same-length-2 c = search needs
 
--- src/any.rt:40:1
 returns-2 : tie.Need-returns-2
-returns-2 c = ?
+returns-2 c n =
+    let sought = c .before .before .before .before .before .before .before .look-for .ensures in
+    block-taken _ n (c .before .before .before .before .before .before .before .before .before .before .before .args .level) (sought-row sought (c .before .before .before .before .before .if1 .left)) (view-short sought) (c .before .before .block .ensures)
 
 pub any-spec : {M : Type 1} → statement M
 any-spec =

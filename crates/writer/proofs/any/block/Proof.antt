@@ -1,76 +1,67 @@
+-- `any::block`: the code, the length in as many bytes as it needs, and the bytes.
+use Rattle.writer.proofs.Laying.{laid-as, laid-layable, laid-then}
+use Rattle.writer.proofs.Forms.{block-four, block-one, block-two}
 use borrow.Author.Needs.{needs}
+use mathlib.Core.Path.{sym}
 use Rattle.writer.proofs.any.block.Statement.{statement}
 use Rattle.writer.proofs.any.block.Tie as tie
-use Rattle.writer.proofs.any.block.Reads as reads
-use Rattle.writer.proofs.any.block.Lts as lts
-use Rattle.writer.proofs.lay.copy.Reads as copy-reads
-use Rattle.writer.proofs.lay.put.Reads as put-reads
-use Rattle.writer.proofs.lay.put_four.Reads as put-four-reads
-use Rattle.writer.proofs.lay.put_two.Reads as put-two-reads
 
--- src/any.rt:25:13
 put-requires : tie.Need-put-requires
 put-requires c κs = search needs
 
--- src/any.rt:26:32
 cast-put : tie.Need-cast-put
 cast-put c = search needs
 
--- src/any.rt:26:13
 put-requires-2 : tie.Need-put-requires-2
-put-requires-2 c κs = ?
+put-requires-2 c κs = laid-layable (c .before .before .before .put .ensures) (c .before .before .before .before .before .before .before .before .pre .1)
 
--- src/any.rt:27:9
 copy-requires : tie.Need-copy-requires
-copy-requires c κs = ?
+copy-requires c κs = laid-layable (c .before .before .before .put2 .ensures) (laid-layable (c .before .before .before .before .before .before .before .put .ensures) (c .before .before .before .before .before .before .before .before .before .before .before .before .pre .1))
 
--- src/any.rt:27:9
 same-length : tie.Need-same-length
 same-length c = search needs
 
--- src/any.rt:27:9
 returns : tie.Need-returns
-returns c = ?
+returns c =
+    let entry = c .before .before .before .before .before .before .before .before .before .before .before .before .before .before .before in
+    let coded = laid-layable (c .before .before .before .before .before .before .before .before .before .before .put .ensures) (entry .pre .1) in
+    laid-as (laid-then (c .before .before .before .before .before .before .before .before .before .before .put .ensures) (entry .pre .1 .small) (laid-then (c .before .before .before .before .before .before .put2 .ensures) (coded .small) (c .before .before .copy .ensures))) _ (sym (block-one (entry .args .bytes .now) (c .before .before .before .before .before .before .before .before .before .before .before .before .if1 .taken)))
 
--- src/any.rt:30:13
 put-requires-3 : tie.Need-put-requires-3
 put-requires-3 c κs = search needs
 
--- src/any.rt:31:13
 put-two-requires : tie.Need-put-two-requires
-put-two-requires c κs = ?
+put-two-requires c κs = (c .before .before .before .before .before .if2 .taken, laid-layable (c .before .before .before .put3 .ensures) (c .before .before .before .before .before .before .before .before .before .pre .1))
 
--- src/any.rt:32:9
 copy-requires-2 : tie.Need-copy-requires-2
-copy-requires-2 c κs = ?
+copy-requires-2 c κs = laid-layable (c .before .before .before .put-two .ensures) (laid-layable (c .before .before .before .before .before .before .before .put3 .ensures) (c .before .before .before .before .before .before .before .before .before .before .before .before .before .pre .1))
 
--- src/any.rt:32:9
 same-length-2 : tie.Need-same-length-2
 same-length-2 c = search needs
 
--- src/any.rt:32:9
 returns-2 : tie.Need-returns-2
-returns-2 c = ?
+returns-2 c =
+    let entry = c .before .before .before .before .before .before .before .before .before .before .before .before .before .before .before .before in
+    let coded = laid-layable (c .before .before .before .before .before .before .before .before .before .before .put3 .ensures) (entry .pre .1) in
+    laid-as (laid-then (c .before .before .before .before .before .before .before .before .before .before .put3 .ensures) (entry .pre .1 .small) (laid-then (c .before .before .before .before .before .before .put-two .ensures) (coded .small) (c .before .before .copy2 .ensures))) _ (sym (block-two (entry .args .bytes .now) (c .before .before .before .before .before .before .before .before .before .before .before .before .before .if1 .left) (c .before .before .before .before .before .before .before .before .before .before .before .before .if2 .taken)))
 
--- src/any.rt:34:9
 put-requires-4 : tie.Need-put-requires-4
 put-requires-4 c κs = search needs
 
--- src/any.rt:35:9
 put-four-requires : tie.Need-put-four-requires
-put-four-requires c κs = ?
+put-four-requires c κs = (c .before .before .before .before .before .before .before .before .before .pre .0, laid-layable (c .before .before .before .put4 .ensures) (c .before .before .before .before .before .before .before .before .before .pre .1))
 
--- src/any.rt:36:5
 copy-requires-3 : tie.Need-copy-requires-3
-copy-requires-3 c κs = ?
+copy-requires-3 c κs = laid-layable (c .before .before .before .put-four .ensures) (laid-layable (c .before .before .before .before .before .before .before .put4 .ensures) (c .before .before .before .before .before .before .before .before .before .before .before .before .before .pre .1))
 
--- src/any.rt:19:1
 same-length-3 : tie.Need-same-length-3
 same-length-3 c = search needs
 
--- src/any.rt:19:1
 returns-3 : tie.Need-returns-3
-returns-3 c = ?
+returns-3 c =
+    let entry = c .before .before .before .before .before .before .before .before .before .before .before .before .before .before .before .before in
+    let coded = laid-layable (c .before .before .before .before .before .before .before .before .before .before .put4 .ensures) (entry .pre .1) in
+    laid-as (laid-then (c .before .before .before .before .before .before .before .before .before .before .put4 .ensures) (entry .pre .1 .small) (laid-then (c .before .before .before .before .before .before .put-four .ensures) (coded .small) (c .before .before .copy3 .ensures))) _ (sym (block-four (entry .args .bytes .now) (c .before .before .before .before .before .before .before .before .before .before .before .before .if2 .left)))
 
 pub block-spec : {M : Type 1} → statement M
 block-spec =
