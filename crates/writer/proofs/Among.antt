@@ -2,7 +2,7 @@
 use Prim.Native.Nat.{ℕ, _+_, _≤_}
 use mathlib.Core.List.{List, [], _∷_, _++_}
 use mathlib.Core.Bool.{Bool, true, false, _&&_, not}
-use mathlib.Core.Logic.{_⊎_, inl, inr}
+use mathlib.Core.Logic.{⊎-elim}
 use mathlib.Core.Path.{_≡_, refl, ap, sym, _∙_, subst}
 use native.Mathlib.Omega.{arith}
 use lib.Dec.{eqb}
@@ -112,18 +112,10 @@ row-none l level a q = subst (NotAmong l level) (sym (a .cells)) q
 
 module _ {pool rows : List ℕ} {i kind level : ℕ} {r : Ahead} (s : SoughtIs pool rows i kind level r) where
   pub sought-row : (r .kind ≡ 0 → ⊥) → RowAhead pool rows i (rowWith kind level (viewed pool r))
-  sought-row h = at (s .is)
-    where
-      at : ((r .kind ≡ kind) × RowAhead pool rows i (rowWith kind level (viewed pool r))) ⊎ ((r .kind ≡ 0) × NotOf kind level (cellsAt pool rows i)) → RowAhead pool rows i (rowWith kind level (viewed pool r))
-      at (inl x) = x .1
-      at (inr x) = absurd (h (x .0))
+  sought-row h = ⊎-elim (λ x. x .1) (λ x. absurd (h (x .0))) (s .is)
 
   pub sought-away : 3 ≤ kind → r .kind ≡ 0 → NotOf kind level (cellsAt pool rows i)
-  sought-away h z = at (s .is)
-    where
-      at : ((r .kind ≡ kind) × RowAhead pool rows i (rowWith kind level (viewed pool r))) ⊎ ((r .kind ≡ 0) × NotOf kind level (cellsAt pool rows i)) → NotOf kind level (cellsAt pool rows i)
-      at (inl x) = absurd (omega (arith, x .0))
-      at (inr x) = x .1
+  sought-away h z = ⊎-elim (λ x. absurd (omega (arith, x .0))) (λ x. x .1) (s .is)
 
 -- for one move
 module _ {pool rows : List ℕ} {i : ℕ} (m : Move) (level : ℕ) {r : Ahead} (q : isQuiet (m .form) ≡ false) (s : SoughtIs pool rows i (m .kind) level r) where

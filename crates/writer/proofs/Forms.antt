@@ -2,11 +2,11 @@
 use Prim.Native.Nat.{ℕ, _+_, _-_, _≤_, _<_}
 use mathlib.Core.List.{List, [], _∷_, _++_}
 use mathlib.Core.Bool.{Bool, true, false, _&&_, _||_}
-use mathlib.Core.Logic.{_⊎_, inl, inr}
+use mathlib.Core.Logic.{⊎-elim}
 use mathlib.Core.Path.{_≡_, refl, ap, sym, _∙_, subst}
 use native.Mathlib.Omega.{arith}
 use lib.Dec.{T, eqb, leb, ltb, leb→le}
-use lib.ListN.{length, getD, take, drop}
+use lib.ListN.{length, getD, drop}
 use lib.Seq.{getD-take, getD-drop}
 use borrow.Author.Tests.{eq-eqb, ne-eqb, eqb-true, eqb-false, lt-ltb, le-ltb, ltb-true, ltb-false, le-leb, lt-leb, leb-true}
 use Rattle.meaning.specs.Basics.{pick, isEmpty}
@@ -14,14 +14,14 @@ use Rattle.meaning.specs.Bytes.{Reach, absolute, relative, dateOk, dateChecks, 
 use Rattle.meaning.specs.Kinds.{standardRepresentation, anyBytes}
 use Rattle.meaning.specs.Editions.{Next, date, block, itself, Move, representations, anyValues, on_▸_▸_▸_}
 use Rattle.meaning.specs.Reading.{Row, Found, none, hit, find}
-use Rattle.meaning.specs.Writing.{isOnly, valid, atLevel, standsFor, lead, writeValue, Cell, cell, broken}
+use Rattle.meaning.specs.Writing.{valid, atLevel, standsFor, lead, writeValue, Cell, cell, broken}
 use Rattle.laws.specs.Logic.{right-of}
 use Rattle.laws.specs.From.{from, from-length}
 use Rattle.values.specs.Dates.{reaching, datesOf}
 use Rattle.writer.specs.Moves.{editionOf}
 use Rattle.writer.specs.Laying.{rowWith, one, Laid}
 use Rattle.writer.specs.Bodies.{cellsAt}
-use Rattle.writer.specs.Codes.{codeInB, codeInD, dateCode, blockOf}
+use Rattle.writer.specs.Codes.{dateCode, blockOf}
 use Rattle.writer.specs.Rooms.{ofKind, ownAmong, NotAmong}
 use Rattle.writer.specs.Stages.{NoRow, RowAhead, AheadIs, viewed, rowAhead, NotOf, SoughtIs, RowTaken, TakenIs}
 use Rattle.writer.specs.declared.ahead.Ahead.{Ahead}
@@ -71,7 +71,7 @@ module _ (l : List Move) (level kind lvl : ℕ) (v : List ℕ) (q : lvl ≡ leve
   unpicked z = row-none l level a (own-is none z)
 
 pub ahead-none : (l : List Move) (level : ℕ) {pool rows : List ℕ} {i : ℕ} {r : Ahead} → AheadIs pool rows i r → (r .level ≡ level → find (takes (viewed pool r)) (ofKind (r .kind) l) ≡ none) → NotAmong l level (cellsAt pool rows i)
-ahead-none l level {pool} {rows} {i} {r} a f = at (a .is)
+ahead-none l level {pool} {rows} {i} {r} a f = ⊎-elim (λ x. by (eqb (r .level) level) refl x) (λ x. no-row (cellsAt pool rows i) (x .1)) (a .is)
   where
     no-row : (cs : List Cell) → NoRow cs → NotAmong l level cs
     no-row [] x = tt
@@ -81,10 +81,6 @@ ahead-none l level {pool} {rows} {i} {r} a f = at (a .is)
     by : (b : Bool) → eqb (r .level) level ≡ b → RowAhead pool rows i (rowAhead pool r) → NotAmong l level (cellsAt pool rows i)
     by true q x = let z = eqb-true (r .level) level q in unpicked l level (r .kind) (r .level) (viewed pool r) z x (f z)
     by false q x = row-none l level x (ap (λ (b : Bool). atLevel b (find (standsFor (rowAhead pool r)) l)) q)
-
-    at : RowAhead pool rows i (rowAhead pool r) ⊎ ((r .kind ≡ 0) × NoRow (cellsAt pool rows i)) → NotAmong l level (cellsAt pool rows i)
-    at (inl x) = by (eqb (r .level) level) refl x
-    at (inr x) = no-row (cellsAt pool rows i) (x .1)
 
 -- Moves of a kind that is not ahead change nothing
 
@@ -122,36 +118,41 @@ module _ (v : List ℕ) where
   unfolding find valid blockOk writeValue
   block-taken n level {pool} {rows} {i} {before} {at} {after} {p} a h l = by (ltb (length v) 256) refl (ltb (length v) 65536) refl
     where
+      by-move : (m : Move) → find (takes v) (ofKind anyBytes (anyValues n)) ≡ hit m → blockOf v ≡ lead m ++ writeValue (m .form) v → RowTaken (anyValues n) level pool rows i before at after p
+      by-move m f b = picked (anyValues n) level anyBytes level v refl a m (omega arith) f (laid-as l _ b)
+
       by : (x : Bool) → ltb (length v) 256 ≡ x → (y : Bool) → ltb (length v) 65536 ≡ y → RowTaken (anyValues n) level pool rows i before at after p
-      by true q y r =
-          picked (anyValues n) level anyBytes level v refl a (on 0x16 ▸ anyBytes ▸ block oneByte ▸ n) (omega arith) (rw (le-leb 0 (length v) (omega arith), q) refl) (laid-as l _ (block-one (ltb-true (length v) 256 q)))
+      by true q y r = by-move (on 0x16 ▸ anyBytes ▸ block oneByte ▸ n) (rw (le-leb 0 (length v) (omega arith), q) refl) (block-one (ltb-true (length v) 256 q))
       by false q true r =
           let k = ltb-false (length v) 256 q in
-          picked (anyValues n) level anyBytes level v refl a (on 0x17 ▸ anyBytes ▸ block twoBytes ▸ n) (omega arith) (rw (le-leb 0 (length v) (omega arith), q, le-leb 256 (length v) k, r) refl) (laid-as l _ (block-two k (ltb-true (length v) 65536 r)))
+          by-move (on 0x17 ▸ anyBytes ▸ block twoBytes ▸ n) (rw (le-leb 0 (length v) (omega arith), q, le-leb 256 (length v) k, r) refl) (block-two k (ltb-true (length v) 65536 r))
       by false q false r =
           let k = ltb-false (length v) 65536 r in
-          picked (anyValues n) level anyBytes level v refl a (on 0x19 ▸ anyBytes ▸ block fourBytes ▸ n) (omega arith) (rw (le-leb 0 (length v) (omega arith), q, le-leb 256 (length v) (omega arith), r, le-leb 65536 (length v) k, lt-ltb (length v) 4294967296 h) refl) (laid-as l _ (block-four k))
+          by-move (on 0x19 ▸ anyBytes ▸ block fourBytes ▸ n) (rw (le-leb 0 (length v) (omega arith), q, le-leb 256 (length v) (omega arith), r, le-leb 65536 (length v) k, lt-ltb (length v) 4294967296 h) refl) (block-four k)
 
 -- A standard representation is its byte
 
 abbrev standard : Next → ℕ → Move
 standard n b = on b ▸ standardRepresentation ▸ itself ▸ n
 
-by-byte : (n : Next) (b : ℕ) → pick (eqb b 0x10) (hit (standard n 0x10)) (pick (eqb b 0x11) (hit (standard n 0x11)) (pick (eqb b 0x12) (hit (standard n 0x12)) none)) ≡ pick (leb 0x10 b && leb b 0x12) (hit (standard n b)) none
+abbrev CodeOf : Next → ℕ → Found → Type 0
+CodeOf n b o = o ≡ pick (leb 0x10 b && leb b 0x12) (hit (standard n b)) none
+
+by-byte : (n : Next) (b : ℕ) → CodeOf n b (pick (eqb b 0x10) (hit (standard n 0x10)) (pick (eqb b 0x11) (hit (standard n 0x11)) (pick (eqb b 0x12) (hit (standard n 0x12)) none)))
 by-byte n b = at (eqb b 0x10) refl (eqb b 0x11) refl (eqb b 0x12) refl
   where
     outside : (b ≡ 0x10 → ⊥) → (b ≡ 0x11 → ⊥) → (b ≡ 0x12 → ⊥) → (t : Bool) → leb 0x10 b ≡ t → (t && leb b 0x12) ≡ false
     outside x y z true q = let h = leb-true 0x10 b q in lt-leb b 0x12 (omega arith)
     outside x y z false q = refl
 
-    at : (x : Bool) → eqb b 0x10 ≡ x → (y : Bool) → eqb b 0x11 ≡ y → (z : Bool) → eqb b 0x12 ≡ z → pick x (hit (standard n 0x10)) (pick y (hit (standard n 0x11)) (pick z (hit (standard n 0x12)) none)) ≡ pick (leb 0x10 b && leb b 0x12) (hit (standard n b)) none
-    at true q y r z s = subst (λ (k : ℕ). hit (standard n 0x10) ≡ pick (leb 0x10 k && leb k 0x12) (hit (standard n k)) none) (sym (eqb-true b 0x10 q)) refl
-    at false q true r z s = subst (λ (k : ℕ). hit (standard n 0x11) ≡ pick (leb 0x10 k && leb k 0x12) (hit (standard n k)) none) (sym (eqb-true b 0x11 r)) refl
-    at false q false r true s = subst (λ (k : ℕ). hit (standard n 0x12) ≡ pick (leb 0x10 k && leb k 0x12) (hit (standard n k)) none) (sym (eqb-true b 0x12 s)) refl
+    at : (x : Bool) → eqb b 0x10 ≡ x → (y : Bool) → eqb b 0x11 ≡ y → (z : Bool) → eqb b 0x12 ≡ z → CodeOf n b (pick x (hit (standard n 0x10)) (pick y (hit (standard n 0x11)) (pick z (hit (standard n 0x12)) none)))
+    at true q y r z s = subst (λ (k : ℕ). CodeOf n k (hit (standard n 0x10))) (sym (eqb-true b 0x10 q)) refl
+    at false q true r z s = subst (λ (k : ℕ). CodeOf n k (hit (standard n 0x11))) (sym (eqb-true b 0x11 r)) refl
+    at false q false r true s = subst (λ (k : ℕ). CodeOf n k (hit (standard n 0x12))) (sym (eqb-true b 0x12 s)) refl
     at false q false r false s = sym (ap (λ (t : Bool). pick t (hit (standard n b)) none) (outside (eqb-false b 0x10 q) (eqb-false b 0x11 r) (eqb-false b 0x12 s) (leb 0x10 b) refl))
 
 module _ (n : Next) (v : List ℕ) where
-  pub standard-found : {b : ℕ} → length v ≡ 1 → b ≡ getD v 0 0 → find (takes v) (ofKind standardRepresentation (representations n)) ≡ pick (leb 0x10 b && leb b 0x12) (hit (standard n b)) none
+  standard-found : {b : ℕ} → length v ≡ 1 → b ≡ getD v 0 0 → CodeOf n b (find (takes v) (ofKind standardRepresentation (representations n)))
   unfolding find valid
   standard-found {b} k q = rw (sym (only-byte 0x10 v k q), sym (only-byte 0x11 v k q), sym (only-byte 0x12 v k q)) (by-byte n b)
 
@@ -160,7 +161,7 @@ module _ (n : Next) (v : List ℕ) where
   standard-none h = rw (sym (only-other 0x10 v h), sym (only-other 0x11 v h), sym (only-other 0x12 v h)) refl
 
 module _ (n : Next) {pool rows : List ℕ} {i : ℕ} {r : Ahead} (s : SoughtIs pool rows i standardRepresentation 0 r) (h : r .kind ≡ 0 → ⊥) (k : r .end - r .start ≡ 1) where
-  found-byte : find (takes (viewed pool r)) (ofKind standardRepresentation (representations n)) ≡ pick (leb 0x10 (getD pool (r .start) 0) && leb (getD pool (r .start) 0) 0x12) (hit (standard n (getD pool (r .start) 0))) none
+  found-byte : CodeOf n (getD pool (r .start) 0) (find (takes (viewed pool r)) (ofKind standardRepresentation (representations n)))
   found-byte = standard-found n (viewed pool r) (view-length s ∙ k) (view-byte s (omega arith))
 
   pub standard-taken : {before : List ℕ} {at : ℕ} {after : List ℕ} {p : ℕ} → (leb 0x10 (getD pool (r .start) 0) && leb (getD pool (r .start) 0) 0x12) ≡ true → Laid before at (one (getD pool (r .start) 0)) after p → RowTaken (representations n) 0 pool rows i before at after p
@@ -225,37 +226,33 @@ module _ (v : List ℕ) where
       pick (eqb code 0) none (pick (dateOk (dateChecks (reaching (eqb kind 5)) d) [] v) (hit (on code ▸ kind ▸ date (reaching (eqb kind 5)) d ▸ n)) none)
 
   module _ (n : Next) where
-    date-found : (inD : Bool) (kind : ℕ) (d : Bool) → eqb (length v) 10 ≡ d → find (takes v) (ofKind kind (datesOf (editionOf inD) n)) ≡ dated (dateCode inD kind d) kind d n
+    abbrev Dated : Bool → Bool → ℕ → Type 0
+    Dated inD d kind = find (takes v) (ofKind kind (datesOf (editionOf inD) n)) ≡ dated (dateCode inD kind d) kind d n
+
+    of-date : (inD d : Bool) → eqb (length v) 10 ≡ d → Dated inD d 5 × Dated inD d 6 × Dated inD d 7
     unfolding find valid
+    of-date true true q = (by-length absolute _ _ true q, by-length relative _ _ true q, by-length relative _ _ true q)
+    of-date true false q = (by-length absolute _ _ false q, by-length relative _ _ false q, by-length relative _ _ false q)
+    of-date false true q = (by-length absolute _ _ true q, refl, refl)
+    of-date false false q = (by-length absolute _ _ false q, refl, refl)
+
+    no-date : (inD : Bool) (kind : ℕ) → (kind ≡ 5 → ⊥) → (kind ≡ 6 → ⊥) → (kind ≡ 7 → ⊥) → find (takes v) (ofKind kind (datesOf (editionOf inD) n)) ≡ none
+    unfolding find
+    no-date true kind x y z = rw (ne-eqb 5 kind (λ q. x (sym q)), ne-eqb 6 kind (λ q. y (sym q)), ne-eqb 7 kind (λ q. z (sym q))) refl
+    no-date false kind x y z = rw (ne-eqb 5 kind (λ q. x (sym q))) refl
+
+    date-found : (inD : Bool) (kind : ℕ) (d : Bool) → eqb (length v) 10 ≡ d → Dated inD d kind
     date-found inD kind d q = at (eqb kind 5) refl (eqb kind 6) refl (eqb kind 7) refl
       where
-        absolute-found : (inD d : Bool) → eqb (length v) 10 ≡ d → find (takes v) (ofKind 5 (datesOf (editionOf inD) n)) ≡ dated (dateCode inD 5 d) 5 d n
-        absolute-found true true q = by-length absolute _ _ true q
-        absolute-found true false q = by-length absolute _ _ false q
-        absolute-found false true q = by-length absolute _ _ true q
-        absolute-found false false q = by-length absolute _ _ false q
-
-        forward-found : (inD d : Bool) → eqb (length v) 10 ≡ d → find (takes v) (ofKind 6 (datesOf (editionOf inD) n)) ≡ dated (dateCode inD 6 d) 6 d n
-        forward-found true true q = by-length relative _ _ true q
-        forward-found true false q = by-length relative _ _ false q
-        forward-found false d q = refl
-
-        backward-found : (inD d : Bool) → eqb (length v) 10 ≡ d → find (takes v) (ofKind 7 (datesOf (editionOf inD) n)) ≡ dated (dateCode inD 7 d) 7 d n
-        backward-found true true q = by-length relative _ _ true q
-        backward-found true false q = by-length relative _ _ false q
-        backward-found false d q = refl
-
-        others : (inD : Bool) → (kind ≡ 5 → ⊥) → (kind ≡ 6 → ⊥) → (kind ≡ 7 → ⊥) → find (takes v) (ofKind kind (datesOf (editionOf inD) n)) ≡ none
-        others true x y z = rw (ne-eqb 5 kind (λ q. x (sym q)), ne-eqb 6 kind (λ q. y (sym q)), ne-eqb 7 kind (λ q. z (sym q))) refl
-        others false x y z = rw (ne-eqb 5 kind (λ q. x (sym q))) refl
-
-        at : (x : Bool) → eqb kind 5 ≡ x → (y : Bool) → eqb kind 6 ≡ y → (z : Bool) → eqb kind 7 ≡ z → find (takes v) (ofKind kind (datesOf (editionOf inD) n)) ≡ dated (dateCode inD kind d) kind d n
-        at true e y f z g = subst (λ (k : ℕ). find (takes v) (ofKind k (datesOf (editionOf inD) n)) ≡ dated (dateCode inD k d) k d n) (sym (eqb-true kind 5 e)) (absolute-found inD d q)
-        at false e true f z g = subst (λ (k : ℕ). find (takes v) (ofKind k (datesOf (editionOf inD) n)) ≡ dated (dateCode inD k d) k d n) (sym (eqb-true kind 6 f)) (forward-found inD d q)
-        at false e false f true g = subst (λ (k : ℕ). find (takes v) (ofKind k (datesOf (editionOf inD) n)) ≡ dated (dateCode inD k d) k d n) (sym (eqb-true kind 7 g)) (backward-found inD d q)
+        at : (x : Bool) → eqb kind 5 ≡ x → (y : Bool) → eqb kind 6 ≡ y → (z : Bool) → eqb kind 7 ≡ z → Dated inD d kind
+        at true e y f z g = subst (Dated inD d) (sym (eqb-true kind 5 e)) (of-date inD d q .0)
+        at false e true f z g = subst (Dated inD d) (sym (eqb-true kind 6 f)) (of-date inD d q .1)
+        at false e false f true g = subst (Dated inD d) (sym (eqb-true kind 7 g)) (of-date inD d q .2)
         at false e false f false g =
-            let x = eqb-false kind 5 e in let y = eqb-false kind 6 f in let z = eqb-false kind 7 g in
-            others inD x y z ∙ sym (ap (λ (c : ℕ). dated c kind d n) (code-none inD kind d x y z))
+            let x = eqb-false kind 5 e in
+            let y = eqb-false kind 6 f in
+            let z = eqb-false kind 7 g in
+            no-date inD kind x y z ∙ sym (ap (λ (c : ℕ). dated c kind d n) (code-none inD kind d x y z))
 
     module _ (inD : Bool) (kind : ℕ) where
       pub date-unknown : dateCode inD kind (eqb (length v) 10) ≡ 0 → find (takes v) (ofKind kind (datesOf (editionOf inD) n)) ≡ none

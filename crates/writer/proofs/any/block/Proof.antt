@@ -1,5 +1,5 @@
 -- `any::block`: the code, the length in as many bytes as it needs, and the bytes.
-use Rattle.writer.proofs.Laying.{laid-as, laid-layable, laid-then}
+use Rattle.writer.proofs.Laying.{laid-as, laid-layable, laid-three}
 use Rattle.writer.proofs.Forms.{block-four, block-one, block-two}
 use borrow.Author.Needs.{needs}
 use mathlib.Core.Path.{sym}
@@ -24,8 +24,7 @@ same-length c = search needs
 returns : tie.Need-returns
 returns c =
     let entry = c .before .before .before .before .before .before .before .before .before .before .before .before .before .before .before in
-    let coded = laid-layable (c .before .before .before .before .before .before .before .before .before .before .put .ensures) (entry .pre .1) in
-    laid-as (laid-then (c .before .before .before .before .before .before .before .before .before .before .put .ensures) (entry .pre .1 .small) (laid-then (c .before .before .before .before .before .before .put2 .ensures) (coded .small) (c .before .before .copy .ensures))) _ (sym (block-one (entry .args .bytes .now) (c .before .before .before .before .before .before .before .before .before .before .before .before .if1 .taken)))
+    laid-as (laid-three (entry .pre .1) (c .before .before .before .before .before .before .before .before .before .before .put .ensures) (c .before .before .before .before .before .before .put2 .ensures) (c .before .before .copy .ensures)) _ (sym (block-one (entry .args .bytes .now) (c .before .before .before .before .before .before .before .before .before .before .before .before .if1 .taken)))
 
 put-requires-3 : tie.Need-put-requires-3
 put-requires-3 c κs = search needs
@@ -42,8 +41,7 @@ same-length-2 c = search needs
 returns-2 : tie.Need-returns-2
 returns-2 c =
     let entry = c .before .before .before .before .before .before .before .before .before .before .before .before .before .before .before .before in
-    let coded = laid-layable (c .before .before .before .before .before .before .before .before .before .before .put3 .ensures) (entry .pre .1) in
-    laid-as (laid-then (c .before .before .before .before .before .before .before .before .before .before .put3 .ensures) (entry .pre .1 .small) (laid-then (c .before .before .before .before .before .before .put-two .ensures) (coded .small) (c .before .before .copy2 .ensures))) _ (sym (block-two (entry .args .bytes .now) (c .before .before .before .before .before .before .before .before .before .before .before .before .before .if1 .left) (c .before .before .before .before .before .before .before .before .before .before .before .before .if2 .taken)))
+    laid-as (laid-three (entry .pre .1) (c .before .before .before .before .before .before .before .before .before .before .put3 .ensures) (c .before .before .before .before .before .before .put-two .ensures) (c .before .before .copy2 .ensures)) _ (sym (block-two (entry .args .bytes .now) (c .before .before .before .before .before .before .before .before .before .before .before .before .before .if1 .left) (c .before .before .before .before .before .before .before .before .before .before .before .before .if2 .taken)))
 
 put-requires-4 : tie.Need-put-requires-4
 put-requires-4 c κs = search needs
@@ -60,8 +58,7 @@ same-length-3 c = search needs
 returns-3 : tie.Need-returns-3
 returns-3 c =
     let entry = c .before .before .before .before .before .before .before .before .before .before .before .before .before .before .before .before in
-    let coded = laid-layable (c .before .before .before .before .before .before .before .before .before .before .put4 .ensures) (entry .pre .1) in
-    laid-as (laid-then (c .before .before .before .before .before .before .before .before .before .before .put4 .ensures) (entry .pre .1 .small) (laid-then (c .before .before .before .before .before .before .put-four .ensures) (coded .small) (c .before .before .copy3 .ensures))) _ (sym (block-four (entry .args .bytes .now) (c .before .before .before .before .before .before .before .before .before .before .before .before .if2 .left)))
+    laid-as (laid-three (entry .pre .1) (c .before .before .before .before .before .before .before .before .before .before .put4 .ensures) (c .before .before .before .before .before .before .put-four .ensures) (c .before .before .copy3 .ensures)) _ (sym (block-four (entry .args .bytes .now) (c .before .before .before .before .before .before .before .before .before .before .before .before .if2 .left)))
 
 pub block-spec : {M : Type 1} → statement M
 block-spec =

@@ -1,8 +1,5 @@
 -- `dates::date_code`: by edition.
-use Rattle.writer.specs.Codes.{dateCode}
 use borrow.Author.Needs.{needs}
-use mathlib.Core.Bool.{Bool}
-use mathlib.Core.Path.{_∙_, ap, sym}
 use Rattle.writer.proofs.dates.date_code.Statement.{statement}
 use Rattle.writer.proofs.dates.date_code.Tie as tie
 

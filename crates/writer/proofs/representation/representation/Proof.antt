@@ -1,7 +1,6 @@
 -- `representation::representation`: a standard one is ahead, and its byte is its code or no code; or none is, and what is said of the text holds among all moves.
-use Rattle.meaning.specs.Editions.{itself, representations, text, on_▸_▸_▸_}
+use Rattle.meaning.specs.Editions.{representations, text, on_▸_▸_▸_}
 use Rattle.meaning.specs.Kinds.{ownRepresentation, standardRepresentation}
-use Rattle.meaning.specs.Writing.{writeValue}
 use Rattle.writer.proofs.Among.{sought-away, sought-row}
 use Rattle.writer.proofs.Forms.{standard-none, standard-other, standard-taken, taken-more, unpicked, view-length}
 use borrow.Author.Needs.{needs}
@@ -44,9 +43,7 @@ same-length-2 : tie.Need-same-length-2
 same-length-2 c = search needs
 
 returns-3 : tie.Need-returns-3
-returns-3 c n =
-    let sought = c .before .before .before .before .before .before .before .before .before .before .look-for .ensures in
-    standard-taken n sought (c .before .before .before .before .before .before .before .before .if1 .left) (c .before .before .before .before .before .before .if2 .left) (c .before .before .before .before .if3 .taken) (c .before .before .put .ensures)
+returns-3 c n = standard-taken n (c .before .before .before .before .before .before .before .before .before .before .look-for .ensures) (c .before .before .before .before .before .before .before .before .if1 .left) (c .before .before .before .before .before .before .if2 .left) (c .before .before .before .before .if3 .taken) (c .before .before .put .ensures)
 
 returns-4 : tie.Need-returns-4
 returns-4 c n = (refl, standard-other n (c .before .before .before .before .before .before .look-for .ensures) (c .before .before .before .before .if1 .left) (c .before .before .if2 .left) (c .if3 .left))
