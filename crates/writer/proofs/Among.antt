@@ -2,7 +2,7 @@
 use Prim.Native.Nat.{ℕ, _+_, _≤_}
 use mathlib.Core.List.{List, [], _∷_, _++_}
 use mathlib.Core.Bool.{Bool, true, false, _&&_, not}
-use mathlib.Core.Logic.{_⊎_, inl, inr}
+use mathlib.Core.Logic.{⊎-elim}
 use mathlib.Core.Path.{_≡_, refl, ap, sym, _∙_, subst}
 use native.Mathlib.Omega.{arith}
 use lib.Dec.{eqb}
@@ -117,22 +117,23 @@ module _ (m : Move) (level : ℕ) (q : isQuiet (m .form) ≡ false) where
 pub row-none : {pool rows : List ℕ} {i : ℕ} {row : Row} (l : List Move) (level : ℕ) → RowAhead pool rows i row → ownAmong l level row ≡ none → NotAmong l level (cellsAt pool rows i)
 row-none l level a q = subst (NotAmong l level) (sym (a .cells)) q
 
--- The row sought, for one move
+-- The row sought
 
+module _ {pool rows : List ℕ} {i kind level : ℕ} {r : Ahead} (s : SoughtIs pool rows i kind level r) where
+  pub sought-row : (r .kind ≡ 0 → ⊥) → RowAhead pool rows i (rowWith kind level (viewed pool r))
+  sought-row h = ⊎-elim (λ x. x .1) (λ x. absurd (h (x .0))) (s .is)
+
+  pub sought-away : 3 ≤ kind → r .kind ≡ 0 → NotOf kind level (cellsAt pool rows i)
+  sought-away h z = ⊎-elim (λ x. absurd (omega (arith, x .0))) (λ x. x .1) (s .is)
+
+-- for one move
 module _ {pool rows : List ℕ} {i : ℕ} (m : Move) (level : ℕ) {r : Ahead} (q : isQuiet (m .form) ≡ false) (s : SoughtIs pool rows i (m .kind) level r) where
-  pub sought-row : (r .kind ≡ 0 → ⊥) → RowAhead pool rows i (rowWith (m .kind) level (viewed pool r))
-  sought-row h = at (s .is)
-    where
-      at : ((r .kind ≡ m .kind) × RowAhead pool rows i (rowWith (m .kind) level (viewed pool r))) ⊎ ((r .kind ≡ 0) × NotOf (m .kind) level (cellsAt pool rows i)) → RowAhead pool rows i (rowWith (m .kind) level (viewed pool r))
-      at (inl x) = x .1
-      at (inr x) = absurd (h (x .0))
-
   pub sought-taken : {before : List ℕ} {at : ℕ} {after : List ℕ} {p : ℕ} → 3 ≤ m .kind → (r .kind ≡ 0 → ⊥) → takes (viewed pool r) m ≡ true → Laid before at (lead m ++ writeValue (m .form) (viewed pool r)) after p → RowTaken (m ∷ []) level pool rows i before at after p
   sought-taken k h t l =
       record {
         row = rowWith (m .kind) level (viewed pool r);
         move = m;
-        ahead = sought-row h;
+        ahead = sought-row s h;
         inner = sym (opens-past (m .kind) level (viewed pool r) (omega arith));
         stands = sole-hit m level q (viewed pool r) t;
         laid = l;
@@ -140,11 +141,7 @@ module _ {pool rows : List ℕ} {i : ℕ} (m : Move) (level : ℕ) {r : Ahead} (
 
   -- nothing of the kind and level is ahead, or what is has other bytes
   pub sought-none : (r .kind ≡ 0 → ⊥) → takes (viewed pool r) m ≡ false → NotAmong (m ∷ []) level (cellsAt pool rows i)
-  sought-none h t = row-none (m ∷ []) level (sought-row h) (sole-none m level q _ (λ k l. t))
+  sought-none h t = row-none (m ∷ []) level (sought-row s h) (sole-none m level q _ (λ k l. t))
 
   pub sought-not : 3 ≤ m .kind → r .kind ≡ 0 → NotAmong (m ∷ []) level (cellsAt pool rows i)
-  sought-not h z = at (s .is)
-    where
-      at : ((r .kind ≡ m .kind) × RowAhead pool rows i (rowWith (m .kind) level (viewed pool r))) ⊎ ((r .kind ≡ 0) × NotOf (m .kind) level (cellsAt pool rows i)) → NotAmong (m ∷ []) level (cellsAt pool rows i)
-      at (inl x) = absurd (omega (arith, x .0))
-      at (inr x) = cells-none m level q (cellsAt pool rows i) (x .1)
+  sought-not h z = cells-none m level q (cellsAt pool rows i) (sought-away s h z)

@@ -87,6 +87,9 @@ module _ {m : List ℕ} {at : ℕ} {bs m₁ : List ℕ} {p₁ : ℕ} (l : Laid m
         counted = k .counted ∙ ap (λ (x : ℕ). capped (x + length cs)) (l .counted) ∙ capped-add (at + length bs) (length cs) ∙ ap capped e;
       }
 
+pub laid-three : {m : List ℕ} {at : ℕ} {bs m₁ : List ℕ} {p₁ : ℕ} {cs m₂ : List ℕ} {p₂ : ℕ} {ds m₃ : List ℕ} {p₃ : ℕ} → Layable m at → Laid m at bs m₁ p₁ → Laid m₁ p₁ cs m₂ p₂ → Laid m₂ p₂ ds m₃ p₃ → Laid m at (bs ++ (cs ++ ds)) m₃ p₃
+laid-three a l k j = laid-then l (a .small) (laid-then k (laid-layable l a .small) j)
+
 -- Bytes laid one by one
 
 pub lay-on : (v : List ℕ) (i : ℕ) (m₀ : List ℕ) (at : ℕ) {m : List ℕ} → i < length v → m ≡ sets m₀ at (take i v) → set m (at + i) (getD v i 0) ≡ sets m₀ at (take (i + 1) v)

@@ -8,6 +8,7 @@ pub mod Tallies
 pub mod Bodies
 pub mod Aheads
 pub mod Among
+pub mod Forms
 pub mod Stands
 pub mod Onward
 pub mod Lists

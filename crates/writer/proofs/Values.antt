@@ -156,7 +156,7 @@ only-byte c (d ∷ (e ∷ v)) k q = absurd (omega arith)
 
 -- The forms by their numbers
 
-empty-is : (v : List ℕ) → isEmpty v ≡ eqb (length v) 0
+pub empty-is : (v : List ℕ) → isEmpty v ≡ eqb (length v) 0
 empty-is [] = refl
 empty-is (b ∷ v) = sym (ne-eqb (suc (length v)) 0 (λ q. omega arith))
 
