@@ -17,7 +17,7 @@ use Rattle.writer.specs.Moves.{editionOf}
 use Rattle.writer.specs.Laying.{Laid}
 use Rattle.writer.specs.Bodies.{halt, cellsAt, opensNumber}
 use Rattle.writer.specs.Rooms.{ofKind, ownAmong, NotAmong}
-use Rattle.writer.specs.Stages.{bodyAt, viewed, rowAhead, NoRow, RowAhead, AheadIs, RowTaken, TakenIs, Onward, StageIs, Beyond}
+use Rattle.writer.specs.Stages.{bodyAt, viewed, rowAhead, NoRow, RowAhead, AheadIs, RowTaken, TakenIs, Onward, StageIs, Beyond, afterNeeded}
 use Rattle.writer.specs.Parameters.{atParameters, afterOne, afterStage, InParameters, ParameterIs, WayAhead, ClosingAhead, FoundIs}
 use Rattle.writer.specs.declared.ahead.Ahead.{Ahead}
 use Rattle.writer.specs.declared.ahead.Taken.{Taken}
@@ -29,6 +29,7 @@ use Rattle.writer.specs.declared.parameters.Parameter.the-variants.{Go, 
 use Rattle.writer.proofs.Among.{find-kind, level-hit, not-hit, sole-move, same-kind, takes}
 use Rattle.writer.proofs.Openings.{opens-past}
 use Rattle.writer.proofs.Onward.{onward-then, onward-stuck, own-on, stage-then}
+use Rattle.writer.proofs.Receiving.{nothing-among}
 use Rattle.writer.proofs.Stands.{parameters-close, parameters-pass}
 
 -- A row by the only move of its kind
@@ -107,22 +108,36 @@ module _ (inD : Bool) (pool rows : List ℕ) (i : ℕ) {r : Ahead} (a : AheadIs 
       at (inl y) = subst ClosingAhead (sym (y .cells)) w
       at (inr y) = no-row (cellsAt pool rows i) (y .1)
 
-  pub found-as : (before : List ℕ) (at : ℕ) (p : Parameter) (after : List ℕ) → wayTo (r .kind) ≡ closing → ParameterIs inD l pool rows i before at p after → FoundIs inD pool rows i before at p after
+  found-as : (before : List ℕ) (at : ℕ) (p : Parameter) (after : List ℕ) → wayTo (r .kind) ≡ closing → ParameterIs inD l pool rows i before at p after → FoundIs inD pool rows i before at p after
   found-as before at (Go k p) after w x = x
   found-as before at Last after w x = (x .0, none-there (x .1), closing-ahead w)
   found-as before at (Stuck j) after w x = x
 
+module _ (inD : Bool) (pool rows : List ℕ) (i k : ℕ) {r : Ahead} (a : AheadIs pool rows i r) (q : r .kind ≡ k) (w : wayTo k ≡ closing) (before : List ℕ) (at : ℕ) where
+  pub found-kind : (l : List Move) → ofKind k (moves (editionOf inD) parameters) ≡ ofKind k l → (p : Parameter) (after : List ℕ) → ParameterIs inD l pool rows i before at p after → FoundIs inD pool rows i before at p after
+  found-kind l is p after x =
+      found-as inD pool rows i a l (ap (λ (n : ℕ). ofKind n (moves (editionOf inD) parameters)) q ∙ is ∙ sym (ap (λ (n : ℕ). ofKind n l) q)) before at p after (ap wayTo q ∙ w) x
+
+  pub found-none : {after : List ℕ} → after ≡ before → ofKind k (moves (editionOf inD) parameters) ≡ [] → FoundIs inD pool rows i before at Last after
+  found-none {after} e is = found-kind [] is Last after (e, nothing-among 0 (cellsAt pool rows i))
+
+-- an edition known by a test
+pub found-in : {inD inD₁ : Bool} (pool rows : List ℕ) (i : ℕ) (before : List ℕ) (at : ℕ) → inD ≡ inD₁ → (p : Parameter) (after : List ℕ) → FoundIs inD₁ pool rows i before at p after → FoundIs inD pool rows i before at p after
+found-in pool rows i before at q p after x = subst (λ (b : Bool). FoundIs b pool rows i before at p after) (sym q) x
+
 -- a row before which the parameter's code stands
-pub way-ahead : (inD : Bool) (pool rows : List ℕ) (i c : ℕ) {r : Ahead} → AheadIs pool rows i r → 3 ≤ r .kind → ofKind (r .kind) (moves (editionOf inD) parameters) ≡ [] → wayTo (r .kind) ≡ c → WayAhead inD c (cellsAt pool rows i)
+pub way-ahead : (inD : Bool) (pool rows : List ℕ) (i k : ℕ) {r : Ahead} → AheadIs pool rows i r → r .kind ≡ k → 3 ≤ k → ofKind k (moves (editionOf inD) parameters) ≡ [] → WayAhead inD (wayTo k) (cellsAt pool rows i)
 unfolding find
-way-ahead inD pool rows i c {r} a h is w = at (a .is)
+way-ahead inD pool rows i k {r} a q h is = at (a .is)
   where
     level : (b : Bool) → atLevel b none ≡ none
     level true = refl
     level false = refl
 
-    at : RowAhead pool rows i (rowAhead pool r) ⊎ ((r .kind ≡ 0) × NoRow (cellsAt pool rows i)) → WayAhead inD c (cellsAt pool rows i)
-    at (inl y) = subst (WayAhead inD c) (sym (y .cells)) (w, sym (opens-past (r .kind) (r .level) (viewed pool r) (omega arith)), ap (atLevel (eqb (r .level) 0)) (same-kind (rowAhead pool r) (moves (editionOf inD) parameters) [] is) ∙ level (eqb (r .level) 0))
+    at : RowAhead pool rows i (rowAhead pool r) ⊎ ((r .kind ≡ 0) × NoRow (cellsAt pool rows i)) → WayAhead inD (wayTo k) (cellsAt pool rows i)
+    at (inl y) =
+        let none-of : ofKind (r .kind) (moves (editionOf inD) parameters) ≡ [] = ap (λ (n : ℕ). ofKind n (moves (editionOf inD) parameters)) q ∙ is in
+        subst (WayAhead inD (wayTo k)) (sym (y .cells)) (ap wayTo q, sym (opens-past (r .kind) (r .level) (viewed pool r) (omega arith)), ap (atLevel (eqb (r .level) 0)) (same-kind (rowAhead pool r) (moves (editionOf inD) parameters) [] none-of) ∙ level (eqb (r .level) 0))
     at (inr y) = absurd (omega (arith, y .0))
 
 pub pass-on : (inD : Bool) (pool rows : List ℕ) (i c : ℕ) {m : Move} {before : List ℕ} {at : ℕ} {after : List ℕ} {p : ℕ} → find (isPass c) (moves (editionOf inD) parameters) ≡ hit m → i ≤ length rows / 4 → WayAhead inD c (cellsAt pool rows i) → Laid before at (m .code ∷ []) after p → Onward inD pool rows i atParameters i (go (m .next) atParameters) before at after p
@@ -159,3 +174,13 @@ module _ (inD : Bool) (pool rows : List ℕ) (i : ℕ) (before : List ℕ) (at :
 
   pub found-stuck : {j : ℕ} → r ≡ Stuck j → bodyAt inD pool rows i atParameters ≡ halt j
   found-stuck q = subst (λ (x : Parameter). FoundIs inD pool rows i before at x after) q f
+
+pub leading : {inD : Bool} {pool rows : List ℕ} {i : ℕ} {st : State} {k : ℕ} {st₁ st₂ : State} {before : List ℕ} {at : ℕ} {after : List ℕ} {p : ℕ} → st₁ ≡ st₂ → Onward inD pool rows i st k st₁ before at after p → Onward inD pool rows i st k st₂ before at after p
+leading {inD} {pool} {rows} {i} {st} {k} {before = before} {at = at} {after = after} {p = p} q a = subst (λ (s : State). Onward inD pool rows i st k s before at after p) q a
+
+pub beyond-one : (i : ℕ) (t : Taken) {s : Stage} → s ≡ afterNeeded i t → Beyond i s
+beyond-one i t q = subst (Beyond i) (sym q) (by t)
+  where
+    by : (t : Taken) → Beyond i (afterNeeded i t)
+    by (To p) = omega arith
+    by Other = tt

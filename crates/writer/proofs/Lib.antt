@@ -16,6 +16,7 @@ pub mod Optional
 pub mod Turning
 pub mod Receiving
 pub mod Choosing
+pub mod Behind
 pub mod Wholes
 pub mod Envelopes
 pub mod Checking

@@ -50,7 +50,7 @@ via-closes : Closes (editionOf false) (state afterVia 1 false) (hit (pass closin
 unfolding moves shared own find
 via-closes = record { within = refl; represents = refl; receives = refl; by = refl }
 
-nothing-among : (level : ℕ) (cs : List Cell) → NotAmong [] level cs
+pub nothing-among : (level : ℕ) (cs : List Cell) → NotAmong [] level cs
 unfolding find
 nothing-among level [] = tt
 nothing-among level (broken ∷ cs) = tt

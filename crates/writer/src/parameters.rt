@@ -146,7 +146,14 @@ fn received_in(
 }
 
 // A parameter, by the kind of its first row.
-fn by_kind(rows: &[u32], pool: &[u8], i: usize, in_d: bool, output: &mut [u8], at: usize) -> Parameter
+fn by_kind(
+    rows: &[u32],
+    pool: &[u8],
+    i: usize,
+    in_d: bool,
+    output: &mut [u8],
+    at: usize,
+) -> Parameter
     requires { ⌜ TakeRequires (now rows) i 3 0 (now output) at ⌝ }
     ensures { λ r. ⌜ FoundIs in_d (now (pool .entry)) (now (rows .entry)) i (now (output .entry)) at r (now (output .exit)) ⌝ }
 {
