@@ -11,6 +11,7 @@ pub mod Among
 pub mod Stands
 pub mod Onward
 pub mod Wholes
+pub mod Insides
 pub mod Envelopes
 pub mod Checking
 pub mod Passing

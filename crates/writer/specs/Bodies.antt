@@ -1,7 +1,7 @@
 -- Rows of lent memory by their numbers, and the inside of one envelope as the code goes over it.
 use Prim.Native.Nat.{ℕ, zero, suc, _+_, _-_, _*_, _/_, _%_, _≤_}
 use mathlib.Core.List.{List, [], _∷_, _++_}
-use mathlib.Core.Bool.{true, false}
+use mathlib.Core.Bool.{Bool, true, false, not}
 use mathlib.Core.Path.{_≡_}
 use lib.Dec.{eqb}
 use lib.ListN.{length, getD}
@@ -63,6 +63,12 @@ abbrev pub openNumber : List Cell → ℕ
 openNumber [] = 0
 openNumber (broken ∷ cells) = 0
 openNumber (cell row ∷ cells) = opensNumber (opensOf row)
+
+-- an envelope ends before these cells: the next one's row is the first, or there is none
+abbrev pub endsBefore : List Cell → Bool
+endsBefore [] = true
+endsBefore (broken ∷ cells) = false
+endsBefore (cell row ∷ cells) = not (eqb (opensNumber (opensOf row)) 0)
 
 abbrev pub BodyIs : Body → List ℕ → List ℕ → List ℕ → ℕ → Bodied → List ℕ → Type 0
 BodyIs (halt j) pool rows before at (Stuck i) after = i ≡ j

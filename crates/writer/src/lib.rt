@@ -20,7 +20,6 @@ mod value;
 use crate::envelope::put_all;
 use crate::measure::Checked;
 use crate::measure::check;
-use crate::table::TABLE;
 use values::OUTPUT_SHORT;
 ghost use mathlib.Core.Path.{_≡_};
 ghost use lib.ListN.{length};
@@ -66,16 +65,15 @@ fn refusal(answer: u32, place: usize) -> Answer
 fn write_in(in_d: bool, rows: &[u32], pool: &[u8], output: &mut [u8]) -> Answer
     ensures { λ r. ⌜ WrittenAs (writeRows (editionOf in_d) (length (now (output .entry))) (cellsOf (now (pool .entry)) (now (rows .entry)))) (now (rows .entry)) (now (output .entry)) r (now (output .exit)) ⌝ }
 {
-    let table = TABLE;
     let mut lengths = [0usize; 16];
-    let c = check(in_d, &table[..], rows, pool, &mut lengths[..]);
+    let c = check(in_d, rows, pool, &mut lengths[..]);
     match c {
         Checked::Bad { answer, place } => refusal(answer, place),
         Checked::Needs(many) => {
             if output.len() < many {
                 return refusal(OUTPUT_SHORT, many);
             }
-            put_all(in_d, &table[..], rows, pool, &lengths[..], output);
+            put_all(in_d, rows, pool, &lengths[..], output);
             Answer {
                 answer: 0,
                 place: many,
