@@ -1,6 +1,6 @@
 -- The inside of an envelope by its stages: what stands at its front, and its end behind the closing 01, where nothing fits any more.
 use Prim.Native.Nat.{ℕ, suc, _+_, _/_, _%_, _≤_, _<_}
-use mathlib.Core.List.{List, [], _∷_, _++_}
+use mathlib.Core.List.{List, [], _∷_, _++_, append-nil}
 use mathlib.Core.Bool.{Bool, true, false, not}
 use mathlib.Core.Path.{_≡_, refl, ap, sym, _∙_, subst}
 use lib.Dec.{eqb}
@@ -12,18 +12,16 @@ use Rattle.meaning.specs.Headers.{start}
 use Rattle.meaning.specs.Writing.{Cell, cell, broken, Opens, envelopeRow, innerRow, opensOf, fitRow}
 use Rattle.laws.specs.Fits.{close-once}
 use Rattle.writer.specs.Moves.{editionOf}
-use Rattle.writer.specs.Laying.{Layable}
-use Rattle.writer.specs.Bodies.{rowCell, Body, halt, body, sealBody, rowBody, cellBody, bodyOf, cellsAt, opensNumber, openNumber, endsBefore, BodyIs}
+use Rattle.writer.specs.Bodies.{rowCell, Body, halt, body, onBody, sealBody, rowBody, cellBody, bodyOf, cellsAt, opensNumber, openNumber, endsBefore, BodyIs}
 use Rattle.writer.specs.Rooms.{rowsOf, AllLead, Closes}
 use Rattle.writer.specs.Stages.{bodyAt, TakenIs, Onward, StageIs, afterNeeded}
 use Rattle.writer.specs.Parameters.{atParameters}
 use Rattle.writer.specs.declared.ahead.Taken.{Taken}
 use Rattle.writer.specs.declared.extras.Stage.{Stage}
 use Rattle.writer.specs.declared.body.Bodied.the-variants.{Stuck, Ended}
-use Rattle.writer.proofs.Laying.{laid-none}
-use Rattle.writer.proofs.Bodies.{cells-next, cells-last, body-halts, body-seals}
+use Rattle.writer.proofs.Bodies.{cells-next, cells-last}
 use Rattle.writer.proofs.Wholes.{none-fits}
-use Rattle.writer.proofs.Onward.{needed-on, onward-layable}
+use Rattle.writer.proofs.Onward.{needed-on}
 
 pub stage-as : (inD : Bool) (pool rows : List ℕ) (i : ℕ) (st st₁ : State) (before : List ℕ) (at : ℕ) (after : List ℕ) {s r : Stage} → s ≡ r → StageIs inD pool rows i st st₁ before at s after → StageIs inD pool rows i st st₁ before at r after
 stage-as inD pool rows i st st₁ before at after e x = subst (λ (y : Stage). StageIs inD pool rows i st st₁ before at y after) e x
@@ -92,14 +90,15 @@ closed-body e (cell row ∷ cs) i = at (opensOf row)
 pub body-stuck : {o : Body} (pool rows m : List ℕ) (at : ℕ) (m₁ : List ℕ) {j : ℕ} → o ≡ halt j → BodyIs o pool rows m at (Stuck j) m₁
 body-stuck pool rows m at m₁ {j} q = subst (λ (x : Body). BodyIs x pool rows m at (Stuck j) m₁) (sym q) refl
 
-module _ {inD : Bool} {pool rows : List ℕ} {i : ℕ} {st : State} {k : ℕ} {m : List ℕ} {at : ℕ} {m₁ : List ℕ} {p : ℕ} (l : Layable m at) (a : Onward inD pool rows i st k (state closed 0 false) m at m₁ p) {b : Bool} (e : b ≡ endsBefore (cellsAt pool rows k)) where
-  behind : bodyAt inD pool rows k (state closed 0 false) ≡ pick b (body [] k (cellsAt pool rows k)) (halt k)
-  behind = closed-body (editionOf inD) (cellsAt pool rows k) k ∙ ap (λ (x : Bool). pick x (body [] k (cellsAt pool rows k)) (halt k)) (sym e)
+module _ {inD : Bool} {pool rows : List ℕ} {i : ℕ} {st : State} {k : ℕ} {m : List ℕ} {at : ℕ} {m₁ : List ℕ} {p : ℕ} (a : Onward inD pool rows i st k (state closed 0 false) m at m₁ p) {b : Bool} (e : b ≡ endsBefore (cellsAt pool rows k)) where
+  abbrev bytes : List ℕ
+  bytes = a .onto .bytes
+
+  whole : {c : Bool} → b ≡ c → bodyAt inD pool rows i st ≡ onBody bytes (pick c (body [] k (cellsAt pool rows k)) (halt k))
+  whole q = a .onto .is ∙ ap (onBody bytes) (closed-body (editionOf inD) (cellsAt pool rows k) k ∙ ap (λ (x : Bool). pick x (body [] k (cellsAt pool rows k)) (halt k)) (sym e ∙ q))
 
   pub body-ends : b ≡ true → BodyIs (bodyAt inD pool rows i st) pool rows m at (Ended k p) m₁
-  body-ends q =
-      body-seals (a .onto) pool rows (Ended k p) m₁ (l .small) (behind ∙ ap (λ (x : Bool). pick x (body [] k (cellsAt pool rows k)) (halt k)) q)
-      (refl, a .inside, refl, laid-none m₁ p (onward-layable a l))
+  body-ends q = subst (λ (x : Body). BodyIs x pool rows m at (Ended k p) m₁) (sym (whole q ∙ ap (λ (x : List ℕ). body x k (cellsAt pool rows k)) (append-nil bytes))) (refl, a .inside, refl, a .onto .laid)
 
-  pub body-goes-on : b ≡ false → BodyIs (bodyAt inD pool rows i st) pool rows m at (Stuck k) m₁
-  body-goes-on q = body-halts (a .onto) k pool rows m₁ (behind ∙ ap (λ (x : Bool). pick x (body [] k (cellsAt pool rows k)) (halt k)) q)
+  pub body-lost : b ≡ false → BodyIs (bodyAt inD pool rows i st) pool rows m at (Stuck k) m₁
+  body-lost q = body-stuck pool rows m at m₁ (whole q)

@@ -6,14 +6,12 @@ mod body;
 mod dates;
 mod envelope;
 mod extras;
-mod fit;
 mod kinds;
 mod lay;
 mod measure;
 mod parameters;
 mod received;
 mod representation;
-mod table;
 mod texts;
 mod value;
 

@@ -1,10 +1,9 @@
 -- `body::body`: behind the stages nothing fits; the envelope ends there or the row ahead stands nowhere.
-use Rattle.writer.proofs.Insides.{body-ends, body-goes-on, body-stuck, stage-as}
+use Rattle.writer.proofs.Insides.{body-ends, body-lost, body-stuck, stage-as}
 use Rattle.meaning.specs.Editions.{closed, state}
 use Rattle.meaning.specs.Headers.{start}
 use borrow.Author.Needs.{needs}
 use mathlib.Core.Bool.{false}
-use native.Mathlib.Omega.{arith}
 use Rattle.writer.proofs.body.body.Statement.{statement}
 use Rattle.writer.proofs.body.body.Tie as tie
 
@@ -27,7 +26,7 @@ returns : tie.Need-returns
 returns c =
     let a = c .before .before .before .before .before .before .before .before .before .before .before .before .args in
     let all = stage-as (a .in-d) (a .pool .now) (a .rows .now) (a .from) (start (a .base)) (state closed 0 false) (a .output .now) 0 _ (c .before .before .before .s2 .given .1) (c .before .before .before .before .before .before .before .stages .ensures) in
-    body-ends (record { counted = omega arith; small = c .before .before .before .before .before .before .before .before .before .before .before .before .pre .1 }) all (c .before .ends-at .ensures) (c .if1 .taken)
+    body-ends all (c .before .ends-at .ensures) (c .if1 .taken)
 
 same-length-2 : tie.Need-same-length-2
 same-length-2 c = search needs
@@ -44,7 +43,7 @@ returns-3 : tie.Need-returns-3
 returns-3 c =
     let a = c .before .before .before .before .before .before .before .before .before .before .before .before .args in
     let all = stage-as (a .in-d) (a .pool .now) (a .rows .now) (a .from) (start (a .base)) (state closed 0 false) (a .output .now) 0 _ (c .before .before .before .s2 .given .1) (c .before .before .before .before .before .before .before .stages .ensures) in
-    body-goes-on (record { counted = omega arith; small = c .before .before .before .before .before .before .before .before .before .before .before .before .pre .1 }) all (c .before .ends-at .ensures) (c .if1 .left)
+    body-lost all (c .before .ends-at .ensures) (c .if1 .left)
 
 pub body-spec : {M : Type 1} → statement M
 body-spec =
