@@ -9,7 +9,7 @@ use lib.ListN.{length}
 use borrow.Author.Tests.{ltb-true, ltb-false, eq-eqb, ne-eqb}
 use Rattle.meaning.specs.Headers.{start}
 use Rattle.meaning.specs.Writing.{Cell, Plan, stuck, newPlan, Limit}
-use Rattle.writer.specs.Moves.{editionOf}
+use Rattle.writer.specs.Edition.{editionOf}
 use Rattle.writer.specs.Laying.{capped}
 use Rattle.writer.specs.Bodies.{cellsAt, Body, halt, body, bodyOf, openNumber}
 use Rattle.writer.specs.Whole.{edge, fromBody, Verdict, bad, needs, verdictOf, verdict, endVerdict, limitOf, checkedOf, Measured, Tallied}

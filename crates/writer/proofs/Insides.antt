@@ -11,7 +11,7 @@ use Rattle.meaning.specs.Reading.{none, find}
 use Rattle.meaning.specs.Headers.{start}
 use Rattle.meaning.specs.Writing.{Cell, cell, broken, Opens, envelopeRow, innerRow, opensOf, fitRow}
 use Rattle.laws.specs.Fits.{close-once}
-use Rattle.writer.specs.Moves.{editionOf}
+use Rattle.writer.specs.Edition.{editionOf}
 use Rattle.writer.specs.Bodies.{rowCell, Body, halt, body, onBody, sealBody, rowBody, cellBody, bodyOf, cellsAt, opensNumber, openNumber, endsBefore, BodyIs}
 use Rattle.writer.specs.Rooms.{rowsOf, AllLead, Closes}
 use Rattle.writer.specs.Stages.{bodyAt, TakenIs, Onward, StageIs, afterNeeded}

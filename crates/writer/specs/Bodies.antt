@@ -87,6 +87,5 @@ pub record Words (rows : List ℕ) (i : ℕ) (r : Numbers) : Type 0 where
   pub level-is : r .level ≡ getD rows (i * 4 + 1) 0
   pub start-is : r .start ≡ getD rows (i * 4 + 2) 0
   pub many-is : r .many ≡ getD rows (i * 4 + 3) 0
-  pub level-most : r .level ≤ 4294967295
   pub start-most : r .start ≤ 4294967295
   pub many-most : r .many ≤ 4294967295

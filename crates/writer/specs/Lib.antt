@@ -1,4 +1,4 @@
-pub mod Moves
+pub mod Edition
 pub mod Laying
 pub mod Bodies
 pub mod Codes

@@ -8,7 +8,7 @@ use Rattle.meaning.specs.Basics.{pick}
 use Rattle.meaning.specs.Editions.{Edition}
 use Rattle.meaning.specs.Headers.{start}
 use Rattle.meaning.specs.Writing.{Cell, cell, broken, Opens, envelopeRow, innerRow, opensOf, Envelope, Plan, stuck, plan, newPlan, planOf, wholePlan, envelopeSize, withinLimit, wrap, envelopeLength, headerOf, Limit, fine, exceeds, limits}
-use Rattle.writer.specs.Moves.{editionOf}
+use Rattle.writer.specs.Edition.{editionOf}
 use Rattle.writer.specs.Laying.{capped}
 use Rattle.writer.specs.Bodies.{Body, halt, body, cellsAt}
 use Rattle.writer.specs.declared.body.Bodied.{Bodied}

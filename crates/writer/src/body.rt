@@ -12,7 +12,7 @@ ghost use lib.ListN.{length, getD};
 ghost use Rattle.meaning.specs.Editions.{state, closed};
 ghost use Rattle.meaning.specs.Headers.{start};
 ghost use Rattle.meaning.specs.Writing.{opensOf};
-ghost use Rattle.writer.specs.Moves.{editionOf};
+ghost use Rattle.writer.specs.Edition.{editionOf};
 ghost use Rattle.writer.specs.Laying.{rowWith};
 ghost use Rattle.writer.specs.Bodies.{cellsAt, bodyOf, BodyIs, opensNumber, openNumber, endsBefore, Words};
 ghost use Rattle.writer.specs.Stages.{StageIs};

@@ -13,7 +13,7 @@ ghost use lib.ListN.{length};
 ghost use Rattle.meaning.specs.Headers.{start};
 ghost use Rattle.meaning.specs.Writing.{wholePlan};
 ghost use Rattle.meaning.specs.Memory.{laidOver};
-ghost use Rattle.writer.specs.Moves.{editionOf};
+ghost use Rattle.writer.specs.Edition.{editionOf};
 ghost use Rattle.writer.specs.Laying.{Laid};
 ghost use Rattle.writer.specs.Bodies.{cellsAt, bodyOf};
 ghost use Rattle.writer.specs.Whole.{headOf, bytesOfPlan, Writable, EnvelopeRequires, EnvelopeWritten};

@@ -23,7 +23,7 @@ ghost use mathlib.Core.Path.{_≡_};
 ghost use lib.ListN.{length};
 ghost use Rattle.meaning.specs.Writing.{writeRows};
 ghost use Rattle.meaning.specs.Memory.{cellsOf};
-ghost use Rattle.writer.specs.Moves.{editionOf};
+ghost use Rattle.writer.specs.Edition.{editionOf};
 ghost use Rattle.writer.specs.Promise.{WritePromise, WrittenAs, refusedAt};
 
 // "1: edition not 1 or 2; before all else"

@@ -8,7 +8,7 @@ ghost use Prim.Native.Nat.{ℕ, _+_, _-_, _*_, _/_, _≤_};
 ghost use lib.ListN.{length, set};
 ghost use Rattle.meaning.specs.Headers.{start};
 ghost use Rattle.meaning.specs.Writing.{envelopeSize, wholePlan};
-ghost use Rattle.writer.specs.Moves.{editionOf};
+ghost use Rattle.writer.specs.Edition.{editionOf};
 ghost use Rattle.writer.specs.Bodies.{cellsAt, bodyOf};
 ghost use Rattle.writer.specs.Whole.{passedAt, Measured, Tallied, limitOf, endVerdict, checkedOf, CheckedAs};
 

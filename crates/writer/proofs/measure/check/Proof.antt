@@ -5,7 +5,7 @@ use Rattle.writer.proofs.Checking.{check-base, check-extension, check-n
 use Rattle.writer.proofs.Noting.{Noting, checked-bad, noting-ends, noting-on, noting-starts}
 use Rattle.writer.proofs.Wholes.{whole-edge}
 use Rattle.writer.specs.Bodies.{cellsAt}
-use Rattle.writer.specs.Moves.{editionOf}
+use Rattle.writer.specs.Edition.{editionOf}
 use Rattle.writer.specs.Whole.{Begins, checkedOf, insidesOf, limitOf, needs as needed, verdict}
 use borrow.Author.Needs.{needs}
 use lib.ListN.{length}

@@ -2,7 +2,7 @@
 use Rattle.meaning.specs.Headers.{start}
 use Rattle.writer.proofs.Envelopes.{measured}
 use Rattle.writer.specs.Bodies.{bodyOf, cellsAt}
-use Rattle.writer.specs.Moves.{editionOf}
+use Rattle.writer.specs.Edition.{editionOf}
 use borrow.Author.Needs.{needs}
 use Rattle.writer.proofs.measure.measure.Statement.{statement}
 use Rattle.writer.proofs.measure.measure.Tie as tie
