@@ -23,6 +23,7 @@ use Rattle.writer.proofs.Bodies.{cells-next, cells-last}
 use Rattle.writer.proofs.Wholes.{none-fits}
 use Rattle.writer.proofs.Onward.{needed-on}
 
+-- a stage, by its answer
 pub stage-as : (inD : Bool) (pool rows : List ℕ) (i : ℕ) (st st₁ : State) (before : List ℕ) (at : ℕ) (after : List ℕ) {s r : Stage} → s ≡ r → StageIs inD pool rows i st st₁ before at s after → StageIs inD pool rows i st st₁ before at r after
 stage-as inD pool rows i st st₁ before at after e x = subst (λ (y : Stage). StageIs inD pool rows i st st₁ before at y after) e x
 
@@ -58,7 +59,7 @@ dated inD pool rows i before at t after x q =
     all true = refl
     all false = refl
 
--- The end
+-- The end: the next envelope's row, or no row
 
 pub ends-last : (pool rows : List ℕ) (i : ℕ) → length rows / 4 ≤ i → eqb (length rows % 4) 0 ≡ endsBefore (cellsAt pool rows i)
 ends-last pool rows i h = sym (ap endsBefore (cells-last pool rows i h) ∙ at (eqb (length rows % 4) 0))
@@ -76,6 +77,7 @@ ends-open pool rows i h q =
     at broken = refl
     at (cell row) = refl
 
+-- behind the closing 01 nothing fits
 closed-body : (e : Edition) (cs : List Cell) (i : ℕ) → bodyOf e cs i (state closed 0 false) ≡ pick (endsBefore cs) (body [] i cs) (halt i)
 unfolding bodyOf
 closed-body e [] i = ap (sealBody i []) (close-once e (state closed 0 false))
@@ -90,6 +92,7 @@ closed-body e (cell row ∷ cs) i = at (opensOf row)
 pub body-stuck : {o : Body} (pool rows m : List ℕ) (at : ℕ) (m₁ : List ℕ) {j : ℕ} → o ≡ halt j → BodyIs o pool rows m at (Stuck j) m₁
 body-stuck pool rows m at m₁ {j} q = subst (λ (x : Body). BodyIs x pool rows m at (Stuck j) m₁) (sym q) refl
 
+-- what lies before the end is the whole inside
 module _ {inD : Bool} {pool rows : List ℕ} {i : ℕ} {st : State} {k : ℕ} {m : List ℕ} {at : ℕ} {m₁ : List ℕ} {p : ℕ} (a : Onward inD pool rows i st k (state closed 0 false) m at m₁ p) {b : Bool} (e : b ≡ endsBefore (cellsAt pool rows k)) where
   abbrev bytes : List ℕ
   bytes = a .onto .bytes
@@ -100,5 +103,5 @@ module _ {inD : Bool} {pool rows : List ℕ} {i : ℕ} {st : State} {k : ℕ} {m
   pub body-ends : b ≡ true → BodyIs (bodyAt inD pool rows i st) pool rows m at (Ended k p) m₁
   body-ends q = subst (λ (x : Body). BodyIs x pool rows m at (Ended k p) m₁) (sym (whole q ∙ ap (λ (x : List ℕ). body x k (cellsAt pool rows k)) (append-nil bytes))) (refl, a .inside, refl, a .onto .laid)
 
-  pub body-lost : b ≡ false → BodyIs (bodyAt inD pool rows i st) pool rows m at (Stuck k) m₁
-  body-lost q = body-stuck pool rows m at m₁ (whole q)
+  pub body-halts : b ≡ false → BodyIs (bodyAt inD pool rows i st) pool rows m at (Stuck k) m₁
+  body-halts q = body-stuck pool rows m at m₁ (whole q)

@@ -88,7 +88,7 @@ pub fn open_at(rows: &[u32], pool: &[u8], i: usize) -> usize
 }
 
 // "Base: FE, length, representation, date"; an extension begins with a received object.
-fn head(rows: &[u32], pool: &[u8], i: usize, base: bool, in_d: bool, output: &mut [u8]) -> Stage
+fn front(rows: &[u32], pool: &[u8], i: usize, base: bool, in_d: bool, output: &mut [u8]) -> Stage
     requires { ⌜ (i ≤ length (now rows) / 4) × (length (now output) ≤ 1048576) ⌝ }
     ensures { λ r. ⌜ StageIs in_d (now (pool .entry)) (now (rows .entry)) i (start base) atParameters (now (output .entry)) 0 r (now (output .exit)) ⌝ }
 {
@@ -107,7 +107,7 @@ fn stages(rows: &[u32], pool: &[u8], i: usize, base: bool, in_d: bool, output: &
     requires { ⌜ (i ≤ length (now rows) / 4) × (length (now output) ≤ 1048576) ⌝ }
     ensures { λ r. ⌜ StageIs in_d (now (pool .entry)) (now (rows .entry)) i (start base) (state closed 0 false) (now (output .entry)) 0 r (now (output .exit)) ⌝ }
 {
-    let s = head(rows, pool, i, base, in_d, output);
+    let s = front(rows, pool, i, base, in_d, output);
     match s {
         Stage::Stuck(j) => Stage::Stuck(j),
         Stage::Go { row, at } => parameters(rows, pool, row, in_d, output, at),

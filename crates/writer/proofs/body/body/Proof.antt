@@ -1,5 +1,5 @@
 -- `body::body`: behind the stages nothing fits; the envelope ends there or the row ahead stands nowhere.
-use Rattle.writer.proofs.Insides.{body-ends, body-lost, body-stuck, stage-as}
+use Rattle.writer.proofs.Insides.{body-ends, body-halts, body-stuck, stage-as}
 use Rattle.meaning.specs.Editions.{closed, state}
 use Rattle.meaning.specs.Headers.{start}
 use borrow.Author.Needs.{needs}
@@ -43,7 +43,7 @@ returns-3 : tie.Need-returns-3
 returns-3 c =
     let a = c .before .before .before .before .before .before .before .before .before .before .before .before .args in
     let all = stage-as (a .in-d) (a .pool .now) (a .rows .now) (a .from) (start (a .base)) (state closed 0 false) (a .output .now) 0 _ (c .before .before .before .s2 .given .1) (c .before .before .before .before .before .before .before .stages .ensures) in
-    body-lost all (c .before .ends-at .ensures) (c .if1 .left)
+    body-halts all (c .before .ends-at .ensures) (c .if1 .left)
 
 pub body-spec : {M : Type 1} → statement M
 body-spec =

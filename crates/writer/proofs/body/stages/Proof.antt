@@ -10,8 +10,8 @@ use native.Mathlib.Omega.{arith}
 use Rattle.writer.proofs.body.stages.Statement.{statement}
 use Rattle.writer.proofs.body.stages.Tie as tie
 
-head-requires : tie.Need-head-requires
-head-requires c κs = search needs
+front-requires : tie.Need-front-requires
+front-requires c κs = search needs
 
 enum-known-s : tie.Need-enum-known-s
 enum-known-s c = search needs
@@ -22,7 +22,7 @@ enum-known-s-2 c = search needs
 parameters-requires : tie.Need-parameters-requires
 parameters-requires c κs =
     let a = c .before .before .before .before .before .before .before .before .before .before .before .args in
-    let front = stage-as (a .in-d) (a .pool .now) (a .rows .now) (a .i) (start (a .base)) atParameters (a .output .now) 0 _ (c .before .before .s2 .given .1) (c .before .before .before .before .before .before .head .ensures) in
+    let front = stage-as (a .in-d) (a .pool .now) (a .rows .now) (a .i) (start (a .base)) atParameters (a .output .now) 0 _ (c .before .before .s2 .given .1) (c .before .before .before .before .before .before .front .ensures) in
     record { inside = front .inside; inner = omega arith; coded = omega arith; layable = onward-layable front (record { counted = omega arith; small = c .before .before .before .before .before .before .before .before .before .before .before .pre .1 }) }
 
 same-length : tie.Need-same-length
@@ -31,7 +31,7 @@ same-length c = search needs
 returns : tie.Need-returns
 returns c =
     let a = c .before .before .before .before .before .before .before .before .before .before .args in
-    stage-as (a .in-d) (a .pool .now) (a .rows .now) (a .i) (start (a .base)) atParameters (a .output .now) 0 _ (c .before .s .given .1) (c .before .before .before .before .before .head .ensures)
+    stage-as (a .in-d) (a .pool .now) (a .rows .now) (a .i) (start (a .base)) atParameters (a .output .now) 0 _ (c .before .s .given .1) (c .before .before .before .before .before .front .ensures)
 
 same-length-2 : tie.Need-same-length-2
 same-length-2 c = search needs
@@ -39,14 +39,14 @@ same-length-2 c = search needs
 returns-2 : tie.Need-returns-2
 returns-2 c =
     let a = c .before .before .before .before .before .before .before .before .before .before .before .before .before .before .args in
-    let front = stage-as (a .in-d) (a .pool .now) (a .rows .now) (a .i) (start (a .base)) atParameters (a .output .now) 0 _ (c .before .before .before .before .before .s2 .given .1) (c .before .before .before .before .before .before .before .before .before .head .ensures) in
+    let front = stage-as (a .in-d) (a .pool .now) (a .rows .now) (a .i) (start (a .base)) atParameters (a .output .now) 0 _ (c .before .before .before .before .before .s2 .given .1) (c .before .before .before .before .before .before .before .before .before .front .ensures) in
     stage-then (c .before .before .before .before .before .before .before .before .before .before .before .before .before .before .pre .1) front (state closed 0 false) _ (c .before .before .parameters .result) (c .before .before .parameters .ensures)
 
 pub stages-spec : {M : Type 1} → statement M
 stages-spec =
     tie.close
     (tie.spec
-    head-requires
+    front-requires
     enum-known-s
     enum-known-s-2
     parameters-requires

@@ -1,4 +1,4 @@
--- `body::head`: representation and date have to stand one behind the other, or a received object.
+-- `body::front`: representation and date have to stand one behind the other, or a received object.
 use Rattle.writer.proofs.Insides.{dated, represented}
 use Rattle.writer.proofs.Onward.{onward-layable, stage-then}
 use Rattle.writer.specs.Parameters.{atParameters}
@@ -9,8 +9,8 @@ use mathlib.Core.Path.{subst, sym}
 use Rattle.meaning.specs.Editions.{headDate, outer, parameters}
 use borrow.Author.Needs.{needs}
 use native.Mathlib.Omega.{arith}
-use Rattle.writer.proofs.body.head.Statement.{statement}
-use Rattle.writer.proofs.body.head.Tie as tie
+use Rattle.writer.proofs.body.front.Statement.{statement}
+use Rattle.writer.proofs.body.front.Tie as tie
 
 representation-requires : tie.Need-representation-requires
 representation-requires c κs = search needs
@@ -66,8 +66,8 @@ returns-3 c =
     let r = c .before .before .received in
     subst (λ (b : Bool). StageIs (a .in-d) (a .pool .now) (a .rows .now) (a .i) (start b) atParameters (a .output .now) 0 (r .result) (r .last .1 .1 .1 .1 .0)) (sym (c .before .before .before .before .if1 .left)) (r .ensures)
 
-pub head-spec : {M : Type 1} → statement M
-head-spec =
+pub front-spec : {M : Type 1} → statement M
+front-spec =
     tie.close
     (tie.spec
     representation-requires
