@@ -13,7 +13,7 @@ use Rattle.meaning.specs.Writing.{Cell, broken, Envelope, Plan, stuck, plan, wh
 use Rattle.meaning.specs.Memory.{cellOf, cellsOf, reply, laidOver, write, writeAnswer, writeOutput}
 use Rattle.writer.specs.Bodies.{rowCell, cellsFor, cellsAt}
 use Rattle.writer.specs.Whole.{Verdict, bad, needs, verdictOf, verdict, checkedOf, bytesOfPlan, CheckedAs, Writable}
-use Rattle.writer.specs.Moves.{editionOf}
+use Rattle.writer.specs.Edition.{editionOf}
 use Rattle.writer.specs.Promise.{refusedAt, WrittenAs, WritePromise}
 use Rattle.writer.specs.declared.Answer.{Answer}
 use Rattle.writer.specs.declared.measure.Checked.{Checked}

@@ -9,7 +9,7 @@ use Rattle.meaning.specs.Kinds.{standardRepresentation, ownRepresentation, rece
 use Rattle.meaning.specs.Editions.{State, state, parameters, receivedBegins, ownText, parameterRepresentation, behaviourValue, encryptedTexts, Next, outer, text, number, opens, noCode, closing, Move, moves, shared, own, representations, anyValues, go, on_▸_▸_▸_, pass_▸_}
 use Rattle.meaning.specs.Reading.{none, hit, find}
 use Rattle.meaning.specs.Writing.{isPass, wayTo}
-use Rattle.writer.specs.Moves.{editionOf}
+use Rattle.writer.specs.Edition.{editionOf}
 use Rattle.writer.specs.Rooms.{rowsOf, ofKind, AllLead, Closes, TextsIn}
 use Rattle.writer.specs.Turns.{agentsAt}
 use Rattle.writer.specs.Parameters.{atParameters, agentsNext, InParameters, AgentsIn}

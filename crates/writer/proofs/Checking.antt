@@ -7,16 +7,12 @@ use native.Mathlib.Omega.{arith}
 use lib.Dec.{eqb, ltb}
 use lib.ListN.{length}
 use borrow.Author.Tests.{ltb-true, ltb-false, eq-eqb, ne-eqb}
-use Rattle.meaning.specs.Basics.{pick}
-use Rattle.meaning.specs.Editions.{State}
 use Rattle.meaning.specs.Headers.{start}
 use Rattle.meaning.specs.Writing.{Cell, Plan, stuck, newPlan, Limit}
-use Rattle.writer.specs.Moves.{editionOf, roomOf}
+use Rattle.writer.specs.Edition.{editionOf}
 use Rattle.writer.specs.Laying.{capped}
-use Rattle.writer.specs.Fitting.{standing, stateOf}
 use Rattle.writer.specs.Bodies.{cellsAt, Body, halt, body, bodyOf, openNumber}
-use Rattle.writer.specs.Whole.{edge, fromBody, Verdict, bad, needs, verdictOf, verdict, endVerdict, limitOf, checkedOf, Measured, Tallied, startAt}
-use Rattle.writer.specs.declared.fit.Standing.{Standing}
+use Rattle.writer.specs.Whole.{edge, fromBody, Verdict, bad, needs, verdictOf, verdict, endVerdict, limitOf, checkedOf, Measured, Tallied}
 use Rattle.writer.specs.declared.measure.Tally.{Tally}
 use Rattle.writer.specs.declared.body.Bodied.{Bodied}
 use Rattle.writer.specs.declared.body.Bodied.the-variants.{Stuck, Ended}
@@ -27,14 +23,6 @@ use Rattle.writer.proofs.Wholes.{edge-none, edge-open, tally-extension,
 -- the plan from row i on, where an envelope must open
 abbrev pub rest : Bool → List ℕ → List ℕ → ℕ → Plan
 rest inD pool rows i = edge (editionOf inD) false [] i (cellsAt pool rows i)
-
-start-is : (n : ℕ) → stateOf (startAt n) ≡ start (eqb n 2)
-unfolding roomOf
-start-is n = at (eqb n 2)
-  where
-    at : (b : Bool) → stateOf (pick b (standing 1 0 false) (standing 0 0 false)) ≡ start b
-    at true = refl
-    at false = refl
 
 inside-rows : (pool rows : List ℕ) (i n : ℕ) → n ≡ openNumber (cellsAt pool rows i) → (n ≡ 0 → ⊥) → i < length rows / 4
 inside-rows pool rows i n q h = at (ltb i (length rows / 4)) refl
@@ -53,13 +41,10 @@ module _ (inD : Bool) (pool rows : List ℕ) (i : ℕ) {n : ℕ} (q : n ≡ open
     row-inside = inside-rows pool rows i n q h
 
     abbrev pub here : Body
-    here = bodyOf (editionOf inD) (cellsAt pool rows (i + 1)) (i + 1) (stateOf (startAt n))
+    here = bodyOf (editionOf inD) (cellsAt pool rows (i + 1)) (i + 1) (start (eqb n 2))
 
     pub rest-opens : rest inD pool rows i ≡ newPlan i (eqb n 2) [] (fromBody (editionOf inD) (eqb n 2) here)
-    rest-opens =
-        let c = cells-next pool rows i row-inside in
-        edge-open (editionOf inD) [] i (cellsAt pool rows i) (cellsAt pool rows (i + 1)) q h (ap opened c)
-        ∙ ap (λ (st : State). newPlan i (eqb n 2) [] (fromBody (editionOf inD) (eqb n 2) (bodyOf (editionOf inD) (cellsAt pool rows (i + 1)) (i + 1) st))) (sym (start-is n))
+    rest-opens = edge-open (editionOf inD) [] i (cellsAt pool rows i) (cellsAt pool rows (i + 1)) q h (ap opened (cells-next pool rows i row-inside))
 
 -- a body that was measured, by the answer
 abbrev pub Ends : Body → List ℕ → List ℕ → ℕ → ℕ → Type 0
@@ -78,18 +63,6 @@ measured-ended b pool rows {r} {row} {many} e m = at b (subst (Measured b pool r
     at : (b : Body) → Measured b pool rows (Ended row many) → Ends b pool rows row many
     at (halt k) z = absurd z
     at (body bytes k cells) z = (bytes, rw (sym (z .0), sym (z .2)) refl, z .3, z .1)
-
--- the same where the code stands at row i
-module _ (inD : Bool) (pool rows : List ℕ) (i : ℕ) {n : ℕ} (q : n ≡ openNumber (cellsAt pool rows i)) (h : n ≡ 0 → ⊥) {s : Standing} (g : s ≡ startAt n) (r : Bodied)
-    (m : Measured (bodyOf (editionOf inD) (cellsAt pool rows (i + 1)) (i + 1) (stateOf s)) pool rows r) where
-  measured-here : Measured (here inD pool rows i q h) pool rows r
-  measured-here = subst (λ (x : Standing). Measured (bodyOf (editionOf inD) (cellsAt pool rows (i + 1)) (i + 1) (stateOf x)) pool rows r) g m
-
-  pub stuck-here : {j : ℕ} → r ≡ Stuck j → here inD pool rows i q h ≡ halt j
-  stuck-here e = measured-stuck (here inD pool rows i q h) pool rows e measured-here
-
-  pub ends-here : {row many : ℕ} → r ≡ Ended row many → Ends (here inD pool rows i q h) pool rows row many
-  ends-here e = measured-ended (here inD pool rows i q h) pool rows e measured-here
 
 pub ends-small : (bytes : List ℕ) {many : ℕ} → many ≡ capped (length bytes) → many ≤ 1048576
 ends-small bytes q = omega (arith, q, capped-most (length bytes))
@@ -128,7 +101,7 @@ module _ (inD : Bool) (pool rows : List ℕ) (i : ℕ) {n : ℕ} (q : n ≡ open
     -- the next envelope opens further on
     pub ends-later : {row many : ℕ} → Ends (here inD pool rows i q h) pool rows row many → i < row
     ends-later {row} (bytes, e, m, l) =
-        let w : i + 1 ≤ row = subst (Later (i + 1)) e (body-later (editionOf inD) (cellsAt pool rows (i + 1)) (i + 1) (stateOf (startAt n))) in
+        let w : i + 1 ≤ row = subst (Later (i + 1)) e (body-later (editionOf inD) (cellsAt pool rows (i + 1)) (i + 1) (start (eqb n 2))) in
         omega arith
 
 -- behind the base

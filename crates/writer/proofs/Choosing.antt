@@ -13,7 +13,7 @@ use Rattle.meaning.specs.Kinds.{agentName}
 use Rattle.meaning.specs.Editions.{State, state, parameters, closed, isQuiet, closing, Move, moves, go}
 use Rattle.meaning.specs.Reading.{levelMost, Row, Found, none, hit, find, tooDeep}
 use Rattle.meaning.specs.Writing.{atLevel, standsFor, wayTo, isPass, Cell, cell, broken, opensOf}
-use Rattle.writer.specs.Moves.{editionOf}
+use Rattle.writer.specs.Edition.{editionOf}
 use Rattle.writer.specs.Laying.{Laid}
 use Rattle.writer.specs.Bodies.{halt, cellsAt, opensNumber}
 use Rattle.writer.specs.Rooms.{ofKind, ownAmong, NotAmong}

@@ -4,20 +4,17 @@ use mathlib.Core.List.{List, _∷_, _++_, append-assoc, append-nil}
 use mathlib.Core.Bool.{Bool, true, false}
 use mathlib.Core.Path.{_≡_, refl, ap, sym, _∙_, subst}
 use native.Mathlib.Omega.{arith}
-use lib.Dec.{leb, eqb}
+use lib.Dec.{leb}
 use lib.ListN.{length, take, drop, length-append, length-take}
 use lib.Seq.{sets, sets-eq, take-at, drop-length, length-take-le}
 use borrow.Rule.Slice.PartMut.{putMid, postOf, post-is, mid-len, drop-put, same-len-mid}
 use borrow.Author.Tests.{le-leb, lt-leb}
 use Rattle.meaning.specs.Basics.{pick}
 use Rattle.meaning.specs.Bytes.{lengthBytes, twoBytes, fourBytes}
-use Rattle.meaning.specs.Editions.{Edition}
 use Rattle.meaning.specs.Writing.{Cell, envelopeSize, wrap}
 use Rattle.writer.specs.Laying.{one, capped, Laid}
-use Rattle.writer.specs.Fitting.{standing, stateOf, Good}
-use Rattle.writer.specs.Bodies.{Body, halt, body, bodyOf, BodyIs}
-use Rattle.writer.specs.Whole.{Measured, startAt, identifierOf, headOf, EnvelopeWritten}
-use Rattle.writer.specs.declared.fit.Standing.{Standing}
+use Rattle.writer.specs.Bodies.{Body, halt, body, BodyIs}
+use Rattle.writer.specs.Whole.{Measured, identifierOf, headOf, EnvelopeWritten}
 use Rattle.writer.specs.declared.body.Bodied.{Bodied}
 use Rattle.writer.specs.declared.body.Bodied.the-variants.{Stuck, Ended}
 use Rattle.writer.proofs.Laying.{laid-as}
@@ -47,14 +44,6 @@ head-long base many h = rw (lt-leb (3 + many) 65535 h) refl
 
 pub one-as : {b c : ℕ} {m : List ℕ} {at : ℕ} {m₁ : List ℕ} {p : ℕ} → b ≡ c → Laid m at (one b) m₁ p → Laid m at (one c) m₁ p
 one-as {b} {c} q l = laid-as l (one c) (ap one q)
-
--- the start of an envelope
-pub start-good : (o : ℕ) {s : Standing} → s ≡ startAt o → Good s
-start-good o q = subst Good (sym q) (at (eqb o 2))
-  where
-    at : (b : Bool) → Good (pick b (standing 1 0 false) (standing 0 0 false))
-    at true = record { room = omega arith; level = omega arith }
-    at false = record { room = omega arith; level = omega arith }
 
 -- The two parts put back
 
@@ -112,12 +101,6 @@ module _ (out : List ℕ) (at n end many : ℕ) (base : Bool) (e : end ≡ at + 
             ∙ ap (λ (x : List ℕ). take at out ++ ((x ++ bytes) ++ drop end out)) lhIs
             ∙ ap (λ (k : ℕ). take at out ++ ((headOf base k ++ bytes) ++ drop end out)) (sym w) ∙ ap (λ (k : ℕ). take at out ++ (wrap base bytes ++ drop k out)) e;
       }
-
--- The code's own start is the definition's
-
-module _ (e : Edition) (cells : List Cell) (from : ℕ) {s t : Standing} (q : s ≡ t) where
-  pub written-from : {pool rows : List ℕ} {base : Bool} {many : ℕ} {before : List ℕ} {at : ℕ} {after : List ℕ} {r : Bodied} → EnvelopeWritten (bodyOf e cells from (stateOf s)) pool rows base many before at after r → EnvelopeWritten (bodyOf e cells from (stateOf t)) pool rows base many before at after r
-  written-from {pool} {rows} {base} {many} {before} {at} {after} {r} w = subst (λ (x : Standing). EnvelopeWritten (bodyOf e cells from (stateOf x)) pool rows base many before at after r) q w
 
 -- Parts are no longer than asked, and an envelope is a little longer than its inside
 

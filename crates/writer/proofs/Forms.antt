@@ -18,7 +18,7 @@ use Rattle.meaning.specs.Writing.{valid, atLevel, standsFor, lead, writeValue, 
 use Rattle.laws.specs.Logic.{right-of}
 use Rattle.laws.specs.From.{from, from-length}
 use Rattle.values.specs.Dates.{reaching, datesOf}
-use Rattle.writer.specs.Moves.{editionOf}
+use Rattle.writer.specs.Edition.{editionOf}
 use Rattle.writer.specs.Laying.{rowWith, one, Laid}
 use Rattle.writer.specs.Bodies.{cellsAt}
 use Rattle.writer.specs.Codes.{dateCode, blockOf}

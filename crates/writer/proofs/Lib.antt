@@ -1,9 +1,6 @@
 pub mod Laying
-pub mod Search
 pub mod Values
-pub mod Steps
 pub mod Openings
-pub mod Rows
 pub mod Tallies
 pub mod Bodies
 pub mod Aheads
@@ -18,6 +15,7 @@ pub mod Receiving
 pub mod Choosing
 pub mod Behind
 pub mod Wholes
+pub mod Insides
 pub mod Envelopes
 pub mod Checking
 pub mod Passing

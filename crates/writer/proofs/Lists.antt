@@ -8,7 +8,7 @@ use lib.ListN.{length}
 use Rattle.meaning.specs.Kinds.{extraKey}
 use Rattle.meaning.specs.Editions.{Room, State, state, Next, stay, text, noCode, anyValues, on_▸_▸_▸_}
 use Rattle.meaning.specs.Reading.{levelMost}
-use Rattle.writer.specs.Moves.{editionOf}
+use Rattle.writer.specs.Edition.{editionOf}
 use Rattle.writer.specs.Laying.{Laid, Layable}
 use Rattle.writer.specs.Bodies.{cellsAt, halt}
 use Rattle.writer.specs.Rooms.{NotAmong, TextsIn, ExtrasIn}

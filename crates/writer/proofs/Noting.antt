@@ -8,7 +8,7 @@ use lib.ListN.{length, take, drop, set, length-append, length-set}
 use lib.Seq.{set-split, take-at, length-take-le}
 use borrow.Author.Tests.{eq-eqb, ne-eqb}
 use Rattle.meaning.specs.Writing.{Envelope, Plan, wholePlan, Limit, fine}
-use Rattle.writer.specs.Moves.{editionOf}
+use Rattle.writer.specs.Edition.{editionOf}
 use Rattle.writer.specs.Bodies.{cellsAt, openNumber}
 use Rattle.writer.specs.Whole.{bad, needs, verdict, sized, limitOf, checkedOf, envelopesOf, insides, insidesOf, Begins, CheckedAs}
 use Rattle.writer.specs.declared.measure.Checked.{Checked}

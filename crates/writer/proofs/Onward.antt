@@ -10,7 +10,7 @@ use Rattle.meaning.specs.Basics.{pick}
 use Rattle.meaning.specs.Editions.{Edition, State, Next, Move, moves, go}
 use Rattle.meaning.specs.Reading.{tooDeep, Row, Found, none, hit, find}
 use Rattle.meaning.specs.Writing.{unfit, fits, lead, atLevel, standsFor, writeValue, Cell, cell, broken}
-use Rattle.writer.specs.Moves.{editionOf}
+use Rattle.writer.specs.Edition.{editionOf}
 use Rattle.writer.specs.Laying.{Laid, Layable}
 use Rattle.writer.specs.Bodies.{Body, halt, body, onBody, rowBody, bodyOf, cellsAt, BodyOnto}
 use Rattle.writer.specs.Rooms.{rowsOf, ownAmong, NotAmong, AllLead, Closes}

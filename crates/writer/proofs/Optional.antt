@@ -11,7 +11,7 @@ use Rattle.meaning.specs.Editions.{Edition, Room, State, state, Next, outer, in
 use Rattle.meaning.specs.Reading.{isClosed, tooDeep, Row, Found, none, hit, find, orElse}
 use Rattle.meaning.specs.Writing.{unfit, fits, led, Way, byOwn, byPass, nowhere, ways, wayOf, wayTo, fitBy, close, closeBy, Opens, envelopeRow, innerRow, lead, atLevel, standsFor, isPass, writeValue, fitRow, Cell, cell, broken, opensOf}
 use Rattle.laws.specs.Fits.{fit-once, close-once}
-use Rattle.writer.specs.Moves.{editionOf}
+use Rattle.writer.specs.Edition.{editionOf}
 use Rattle.writer.specs.Laying.{Layable}
 use Rattle.writer.specs.Bodies.{sealBody, rowBody, cellBody, bodyOf, cellsAt}
 use Rattle.writer.specs.Rooms.{ownAmong, NotAmong}

@@ -9,7 +9,7 @@ use lib.ListN.{length}
 use Rattle.meaning.specs.Editions.{Edition}
 use Rattle.meaning.specs.Headers.{start}
 use Rattle.meaning.specs.Writing.{Cell, cell, broken, Opens, envelopeRow, innerRow, opensOf, Envelope, envelopeAt, Plan, stuck, plan, newPlan, planOf, envelopeSize, headerOf, Limit, fine, exceeds, limits}
-use Rattle.writer.specs.Moves.{editionOf}
+use Rattle.writer.specs.Edition.{editionOf}
 use Rattle.writer.specs.Bodies.{cellsAt, Body, halt, body, openNumber}
 use Rattle.writer.specs.Whole.{openPlan, edge, fromBody, bad, needs, verdictOf, verdict, sized, endVerdict, envelopesOf}
 use Rattle.writer.proofs.Wholes.{verdict-extension, verdict-base}

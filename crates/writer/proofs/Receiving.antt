@@ -9,7 +9,7 @@ use Rattle.meaning.specs.Kinds.{receivedBy, receivedFrom, receivedId, receivedV
 use Rattle.meaning.specs.Editions.{State, state, parameters, receivedBegins, receivedDate, afterDate, afterFrom, afterId, afterVia, receivedExtra, Next, outer, inner, stay, text, noCode, closing, Move, moves, shared, own, sharedDate, ownDates, on_▸_▸_▸_, pass_▸_}
 use Rattle.meaning.specs.Reading.{Found, none, hit, find}
 use Rattle.meaning.specs.Writing.{Cell, cell, broken, atLevel}
-use Rattle.writer.specs.Moves.{editionOf}
+use Rattle.writer.specs.Edition.{editionOf}
 use Rattle.writer.specs.Laying.{Laid}
 use Rattle.writer.specs.Bodies.{halt, cellsAt}
 use Rattle.writer.specs.Rooms.{rowsOf, NotAmong, AllLead, Closes, OptionalIn, ExtrasIn}

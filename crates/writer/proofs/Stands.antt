@@ -10,7 +10,7 @@ use Rattle.meaning.specs.Editions.{Edition, B, D, State, state, parameters, clo
 use Rattle.meaning.specs.Reading.{isClosed, Row, Found, none, hit, find, orElse}
 use Rattle.meaning.specs.Writing.{Fit, unfit, fits, led, Way, ways, wayOf, wayTo, atLevel, fitBy, place, standsFor, isPass, valid, fitRow, closeBy, close, Cell, cell, broken, Opens, envelopeRow, innerRow, opensOf}
 use Rattle.laws.specs.Fits.{fit-once, close-once}
-use Rattle.writer.specs.Moves.{editionOf}
+use Rattle.writer.specs.Edition.{editionOf}
 use Rattle.writer.specs.Rooms.{ownAmong, NotAmong, Closes}
 use Rattle.writer.specs.Parameters.{atParameters, WayAhead, ClosingAhead}
 use Rattle.writer.specs.Bodies.{Body, halt, body, onBody, sealBody, rowBody, cellBody, bodyOf, opensNumber}

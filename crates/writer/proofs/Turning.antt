@@ -12,7 +12,7 @@ use Rattle.meaning.specs.Basics.{pick}
 use Rattle.meaning.specs.Kinds.{agentName, addressesOpen, address, resolversOpen}
 use Rattle.meaning.specs.Editions.{State, state, parameters, agentList, oneAgent, afterName, addressTexts, afterAddresses, afterResolvers, agentExtra, Next, stay, deeper, listEnds, agentEnds, text, opens, closing, Move, moves, shared, own, go, on_▸_▸_▸_, pass_▸_}
 use Rattle.meaning.specs.Reading.{none, hit, find, tooDeep}
-use Rattle.writer.specs.Moves.{editionOf}
+use Rattle.writer.specs.Edition.{editionOf}
 use Rattle.writer.specs.Laying.{Laid}
 use Rattle.writer.specs.Bodies.{halt, cellsAt}
 use Rattle.writer.specs.Rooms.{rowsOf, NotAmong, Closes, TextsIn, ExtrasIn}

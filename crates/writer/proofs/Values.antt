@@ -1,4 +1,4 @@
--- A value is valid for a form exactly if the reader's stage over the view takes it whole; and what each form's number says.
+-- A value is valid for a form exactly if the reader's stage over the view takes it whole.
 use mathlib.Core.Path.{_≡_, refl, sym, ap, _∙_, subst}
 use mathlib.Core.Bool.{Bool, true, false, _&&_}
 use mathlib.Core.List.{List, [], _∷_, _++_, append-nil}
@@ -7,11 +7,11 @@ use native.Mathlib.Omega.{arith}
 use lib.Dec.{T, eqb, leb, ltb}
 use lib.ListN.{length, take, getD}
 use lib.Seq.{take-length}
-use borrow.Author.Tests.{ne-eqb, eqb-true, le-leb, ltb-true, leb-false, leb-true}
+use borrow.Author.Tests.{ne-eqb, eqb-true, le-leb, leb-false, leb-true}
 use Rattle.meaning.specs.Basics.{pick, isEmpty}
 use Rattle.meaning.specs.Bytes.{Taken, took, failed, prefixed, textByte, takeText, textOk, numberOk, takeNumber, dateOk, takeDate, Check, passes, Reach, absolute, relative, dateChecks, blockOk, lengthBytes, oneByte, Width, fewest, past}
-use Rattle.meaning.specs.Editions.{Form, block, itself, opens, quiet}
-use Rattle.meaning.specs.Writing.{isOnly, valid, writeValue}
+use Rattle.meaning.specs.Editions.{block}
+use Rattle.meaning.specs.Writing.{isOnly, writeValue}
 use Rattle.laws.specs.Logic.{is-true}
 use Rattle.laws.specs.From.{from, from-length, from-end, from-cons}
 use Rattle.laws.specs.Values.{Was, text-byte-above, date-in, date-out, number-in, number-out}
@@ -20,7 +20,6 @@ use Rattle.values.specs.declared.Value.the-variants.{Is, Refused}
 use Rattle.values.specs.Stages.{Span, span, spans, misses, Valued, Run}
 use Rattle.values.specs.Dates.{dateLength}
 use Rattle.values.specs.Answers.{valued-at, valued-refused}
-use Rattle.writer.specs.Moves.{formOf}
 
 -- A value that a stage takes whole, and no other
 
@@ -154,62 +153,15 @@ only-byte c [] k q = absurd (omega arith)
 only-byte c (d ∷ []) k q = ap (λ (x : ℕ). eqb x c) q
 only-byte c (d ∷ (e ∷ v)) k q = absurd (omega arith)
 
--- The forms by their numbers
+-- No byte, and blocks
 
 pub empty-is : (v : List ℕ) → isEmpty v ≡ eqb (length v) 0
 empty-is [] = refl
 empty-is (b ∷ v) = sym (ne-eqb (suc (length v)) 0 (λ q. omega arith))
 
--- the forms that are left when these are not it
-pub rest-form : (n : ℕ) (P : Form → Type 0) → P itself → P opens → P quiet → (n ≡ 1 → ⊥) → (n ≡ 2 → ⊥) → (n ≡ 5 → ⊥) → (n ≡ 6 → ⊥) → (n ≡ 7 → ⊥) → (n ≡ 8 → ⊥) → (n ≡ 9 → ⊥) → (n ≡ 10 → ⊥) → (n ≡ 11 → ⊥) → P (formOf n)
-unfolding formOf
-rest-form n P i o q n₁ n₂ n₅ n₆ n₇ n₈ n₉ n₁₀ n₁₁ =
-    rw (ne-eqb n 1 n₁, ne-eqb n 2 n₂, ne-eqb n 5 n₅, ne-eqb n 6 n₆, ne-eqb n 7 n₇, ne-eqb n 8 n₈, ne-eqb n 9 n₉, ne-eqb n 10 n₁₀, ne-eqb n 11 n₁₁) (at (eqb n 3) (eqb n 4))
-  where
-    at : (a b : Bool) → P (pick a itself (pick b opens quiet))
-    at true b = i
-    at false true = o
-    at false false = q
-
-module _ (n c : ℕ) (v : List ℕ) where
-  pub valid-as : {f : Form} → formOf n ≡ f → {b : Bool} → b ≡ valid f c v → b ≡ valid (formOf n) c v
-  valid-as e q = q ∙ ap (λ (f : Form). valid f c v) (sym e)
-
-  pub valid-rest : (many : ℕ) → length v ≡ many → (n ≡ 3 → ⊥) → (n ≡ 1 → ⊥) → (n ≡ 2 → ⊥) → (n ≡ 5 → ⊥) → (n ≡ 6 → ⊥) → (n ≡ 7 → ⊥) → (n ≡ 8 → ⊥) → (n ≡ 9 → ⊥) → (n ≡ 10 → ⊥) → (n ≡ 11 → ⊥)
-      → eqb many 0 ≡ valid (formOf n) c v
-  unfolding formOf valid
-  valid-rest many e n₃ n₁ n₂ n₅ n₆ n₇ n₈ n₉ n₁₀ n₁₁ =
-      rw (ne-eqb n 1 n₁, ne-eqb n 2 n₂, ne-eqb n 3 n₃, ne-eqb n 5 n₅, ne-eqb n 6 n₆, ne-eqb n 7 n₇, ne-eqb n 8 n₈, ne-eqb n 9 n₉, ne-eqb n 10 n₁₀, ne-eqb n 11 n₁₁) (at (eqb n 4))
-    where
-      empty : eqb many 0 ≡ isEmpty v
-      empty = ap (λ (k : ℕ). eqb k 0) (sym e) ∙ sym (empty-is v)
-
-      at : (b : Bool) → eqb many 0 ≡ valid (pick b opens quiet) c v
-      at true = empty
-      at false = empty
-
 pub block-is : (w : Width) (v : List ℕ) (many : ℕ) → length v ≡ many → (leb (fewest w) many && ltb many (past w)) ≡ blockOk w v
 unfolding blockOk
 block-is w v many e = ap (λ (n : ℕ). leb (fewest w) n && ltb n (past w)) (sym e)
-
--- what a form writes
-pub writes-as : (n : ℕ) (v bs : List ℕ) {f : Form} → formOf n ≡ f → bs ≡ writeValue f v → bs ≡ writeValue (formOf n) v
-writes-as n v bs e q = q ∙ ap (λ (f : Form). writeValue f v) (sym e)
-
-pub writes-none : (n : ℕ) (v : List ℕ) → (n ≡ 1 → ⊥) → (n ≡ 2 → ⊥) → (n ≡ 5 → ⊥) → (n ≡ 6 → ⊥) → (n ≡ 7 → ⊥) → (n ≡ 8 → ⊥) → (n ≡ 9 → ⊥) → (n ≡ 10 → ⊥) → (n ≡ 11 → ⊥) → _≡_ {A = List ℕ} [] (writeValue (formOf n) v)
-unfolding writeValue
-writes-none n v n₁ n₂ n₅ n₆ n₇ n₈ n₉ n₁₀ n₁₁ = rest-form n (λ f. _≡_ {A = List ℕ} [] (writeValue f v)) refl refl refl n₁ n₂ n₅ n₆ n₇ n₈ n₉ n₁₀ n₁₁
-
--- a block's length fits its width
-pub block-small : (n c : ℕ) (v : List ℕ) (many : ℕ) (w : Width) → length v ≡ many → formOf n ≡ block w → valid (formOf n) c v ≡ true → many < past w
-unfolding valid
-block-small n c v many w e f q =
-    let h : (leb (fewest w) many && ltb many (past w)) ≡ true = block-is w v many e ∙ sym (ap (λ (g : Form). valid g c v) f) ∙ q in
-    ltb-true many (past w) (second (leb (fewest w) many) (ltb many (past w)) h)
-  where
-    second : (a b : Bool) → (a && b) ≡ true → b ≡ true
-    second true b q = q
-    second false b q = cc
 
 pub block-writes : (w : Width) (v : List ℕ) (many : ℕ) → length v ≡ many → lengthBytes w many ++ v ≡ writeValue (block w) v
 unfolding writeValue

@@ -75,7 +75,7 @@ plan-body e (broken ∷ cs) i b st = refl
 plan-body e (cell row ∷ cs) i b st = cell-same e b st i row cs (opensOf row) refl (plan-body e cs (suc i) b)
 
 -- before the first envelope nothing is open, and nothing fits
-none-fits : (e : Edition) (row : Row) (o : Fit) → fitRow e (state closed 0 false) row ≡ o → o ≡ unfit
+pub none-fits : (e : Edition) (row : Row) (o : Fit) → fitRow e (state closed 0 false) row ≡ o → o ≡ unfit
 none-fits e row unfit q = refl
 none-fits e row (fits st bs) q = absurd (closed-fits e row (state closed 0 false) st bs q refl)
 

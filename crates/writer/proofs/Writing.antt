@@ -11,7 +11,7 @@ use borrow.Author.Tests.{eq-eqb, ne-eqb}
 use Rattle.meaning.specs.Writing.{Cell, Envelope, Plan, wholePlan, envelopeSize, wrap, headerOf, fine}
 use Rattle.meaning.specs.Memory.{laidOver}
 use Rattle.laws.specs.Envelopes.{wrap-length}
-use Rattle.writer.specs.Moves.{editionOf}
+use Rattle.writer.specs.Edition.{editionOf}
 use Rattle.writer.specs.Bodies.{cellsAt, halt, body, openNumber}
 use Rattle.writer.specs.Whole.{needs, verdict, bytesOfPlan, insides, insidesOf, Begins, Writable, EnvelopeWritten}
 use Rattle.writer.specs.declared.body.Bodied.{Bodied}

@@ -1,7 +1,7 @@
 -- Rows of lent memory by their numbers, and the inside of one envelope as the code goes over it.
 use Prim.Native.Nat.{ℕ, zero, suc, _+_, _-_, _*_, _/_, _%_, _≤_}
 use mathlib.Core.List.{List, [], _∷_, _++_}
-use mathlib.Core.Bool.{true, false}
+use mathlib.Core.Bool.{Bool, true, false, not}
 use mathlib.Core.Path.{_≡_}
 use lib.Dec.{eqb}
 use lib.ListN.{length, getD}
@@ -64,6 +64,12 @@ openNumber [] = 0
 openNumber (broken ∷ cells) = 0
 openNumber (cell row ∷ cells) = opensNumber (opensOf row)
 
+-- an envelope ends before these cells: the next one's row is the first, or there is none
+abbrev pub endsBefore : List Cell → Bool
+endsBefore [] = true
+endsBefore (broken ∷ cells) = false
+endsBefore (cell row ∷ cells) = not (eqb (opensNumber (opensOf row)) 0)
+
 abbrev pub BodyIs : Body → List ℕ → List ℕ → List ℕ → ℕ → Bodied → List ℕ → Type 0
 BodyIs (halt j) pool rows before at (Stuck i) after = i ≡ j
 BodyIs (halt j) pool rows before at (Ended row p) after = ⊥
@@ -81,6 +87,5 @@ pub record Words (rows : List ℕ) (i : ℕ) (r : Numbers) : Type 0 where
   pub level-is : r .level ≡ getD rows (i * 4 + 1) 0
   pub start-is : r .start ≡ getD rows (i * 4 + 2) 0
   pub many-is : r .many ≡ getD rows (i * 4 + 3) 0
-  pub level-most : r .level ≤ 4294967295
   pub start-most : r .start ≤ 4294967295
   pub many-most : r .many ≤ 4294967295

@@ -1,6 +1,5 @@
-pub mod Moves
+pub mod Edition
 pub mod Laying
-pub mod Fitting
 pub mod Bodies
 pub mod Codes
 pub mod Rooms

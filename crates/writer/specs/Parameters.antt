@@ -7,7 +7,7 @@ use lib.Dec.{eqb}
 use Rattle.meaning.specs.Kinds.{agentName}
 use Rattle.meaning.specs.Editions.{State, state, parameters, agentList, oneAgent, Next, inner, innerOne, opens, Move, moves, closing, on_▸_▸_▸_}
 use Rattle.meaning.specs.Writing.{Cell, cell, broken, wayTo, opensOf}
-use Rattle.writer.specs.Moves.{editionOf}
+use Rattle.writer.specs.Edition.{editionOf}
 use Rattle.writer.specs.Bodies.{halt, cellsAt, opensNumber}
 use Rattle.writer.specs.Rooms.{ofKind, NotAmong}
 use Rattle.writer.specs.Stages.{bodyAt, Onward}

@@ -8,7 +8,7 @@ use lib.ListN.{length, take, drop}
 use Rattle.meaning.specs.Editions.{State, Move}
 use Rattle.meaning.specs.Reading.{Row, hit}
 use Rattle.meaning.specs.Writing.{Cell, cell, broken, lead, writeValue, opensOf}
-use Rattle.writer.specs.Moves.{editionOf}
+use Rattle.writer.specs.Edition.{editionOf}
 use Rattle.writer.specs.Laying.{rowWith, Laid, Layable}
 use Rattle.writer.specs.Bodies.{Body, halt, bodyOf, cellsAt, opensNumber, BodyOnto}
 use Rattle.writer.specs.Rooms.{ownAmong, NotAmong}

@@ -3,19 +3,16 @@ use Prim.Native.Nat.{ℕ, zero, suc, _+_, _-_, _*_, _/_, _≤_}
 use mathlib.Core.List.{List, [], _∷_, _++_}
 use mathlib.Core.Bool.{Bool, true, false}
 use mathlib.Core.Path.{_≡_}
-use lib.Dec.{eqb}
 use lib.ListN.{length, take, drop}
 use Rattle.meaning.specs.Basics.{pick}
 use Rattle.meaning.specs.Editions.{Edition}
 use Rattle.meaning.specs.Headers.{start}
 use Rattle.meaning.specs.Writing.{Cell, cell, broken, Opens, envelopeRow, innerRow, opensOf, Envelope, Plan, stuck, plan, newPlan, planOf, wholePlan, envelopeSize, withinLimit, wrap, envelopeLength, headerOf, Limit, fine, exceeds, limits}
-use Rattle.writer.specs.Moves.{editionOf}
-use Rattle.writer.specs.Fitting.{standing}
+use Rattle.writer.specs.Edition.{editionOf}
 use Rattle.writer.specs.Laying.{capped}
 use Rattle.writer.specs.Bodies.{Body, halt, body, cellsAt}
 use Rattle.writer.specs.declared.body.Bodied.{Bodied}
 use Rattle.writer.specs.declared.body.Bodied.the-variants.{Stuck, Ended}
-use Rattle.writer.specs.declared.fit.Standing.{Standing}
 use Rattle.writer.specs.declared.measure.Tally.{Tally}
 use Rattle.writer.specs.declared.measure.Checked.{Checked}
 use Rattle.writer.specs.declared.measure.Checked.the-variants.{Bad, Needs}
@@ -94,10 +91,6 @@ pub record Tallied (t : Tally) (i many : ℕ) (r : Tally) : Type 0 where
   pub less : r .left ≡ t .left - 1
   pub sum : r .over ≡ false → r .total ≡ t .total + envelopeSize many
   pub bound : r .total + r .left * 1048576 ≤ 16777216
-
--- the state at an envelope's front, by what opens: 2 the base
-abbrev pub startAt : ℕ → Standing
-startAt o = pick (eqb o 2) (standing 1 0 false) (standing 0 0 false)
 
 -- how long each envelope's inside is
 abbrev pub insides : List Envelope → List ℕ

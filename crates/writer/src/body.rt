@@ -1,17 +1,22 @@
-// The inside of one envelope, row by row.
-use crate::fit::Fitted;
-use crate::fit::Standing;
-use crate::fit::close_all;
-use crate::fit::fit_row;
+// The inside of one envelope, stage by stage.
+use crate::dates::date;
+use crate::extras::Stage;
+use crate::extras::needed;
+use crate::parameters::parameters;
+use crate::received::received;
+use crate::representation::representation;
 ghost use mathlib.Core.Path.{_≡_};
-ghost use mathlib.Core.List.{List};
-ghost use Prim.Native.Nat.{ℕ, _+_, _/_, _≤_, _<_};
+ghost use mathlib.Core.Bool.{false};
+ghost use Prim.Native.Nat.{_/_, _≤_, _<_};
 ghost use lib.ListN.{length, getD};
-ghost use Rattle.meaning.specs.Writing.{opensOf, close};
-ghost use Rattle.writer.specs.Moves.{packed, editionOf};
-ghost use Rattle.writer.specs.Laying.{rowWith, Layable};
-ghost use Rattle.writer.specs.Fitting.{stateOf, Good};
-ghost use Rattle.writer.specs.Bodies.{cellsAt, sealBody, bodyOf, BodyIs, opensNumber, openNumber, Words};
+ghost use Rattle.meaning.specs.Editions.{state, closed};
+ghost use Rattle.meaning.specs.Headers.{start};
+ghost use Rattle.meaning.specs.Writing.{opensOf};
+ghost use Rattle.writer.specs.Edition.{editionOf};
+ghost use Rattle.writer.specs.Laying.{rowWith};
+ghost use Rattle.writer.specs.Bodies.{cellsAt, bodyOf, BodyIs, opensNumber, openNumber, endsBefore, Words};
+ghost use Rattle.writer.specs.Stages.{StageIs};
+ghost use Rattle.writer.specs.Parameters.{atParameters};
 
 // "15: .. row number from 0"; or the row behind the envelope, and how many bytes its inside has.
 pub enum Bodied {
@@ -82,57 +87,63 @@ pub fn open_at(rows: &[u32], pool: &[u8], i: usize) -> usize
     opening(r.kind, r.level, &pool[start..end])
 }
 
-// The end of an envelope before row i.
-fn seal(in_d: bool, table: &[usize], i: usize, s: Standing, output: &mut [u8], at: usize) -> Bodied
-    requires { ⌜ (now table ≡ packed) × (Good s) × Layable (now output) at ⌝ }
-    ensures { λ r. ⌜ ((pool rows : List ℕ) → i ≤ length rows / 4 → BodyIs (sealBody i (cellsAt pool rows i) (close (editionOf in_d) (stateOf s))) pool rows (now (output .entry)) at r (now (output .exit))) ⌝ }
+// "Base: FE, length, representation, date"; an extension begins with a received object.
+fn front(rows: &[u32], pool: &[u8], i: usize, base: bool, in_d: bool, output: &mut [u8]) -> Stage
+    requires { ⌜ (i ≤ length (now rows) / 4) × (length (now output) ≤ 1048576) ⌝ }
+    ensures { λ r. ⌜ StageIs in_d (now (pool .entry)) (now (rows .entry)) i (start base) atParameters (now (output .entry)) 0 r (now (output .exit)) ⌝ }
 {
-    let f = close_all(in_d, table, s, output, at);
-    let Fitted::Fits { to: _, at: p } = f else {
-        return Bodied::Stuck(i);
-    };
-    Bodied::Ended { row: i, many: p }
+    if base {
+        let s = needed(representation(rows, pool, i, output, 0), i);
+        match s {
+            Stage::Stuck(j) => return Stage::Stuck(j),
+            Stage::Go { row, at } => return needed(date(rows, pool, row, 0, in_d, output, at), row),
+        }
+    }
+    received(rows, pool, i, in_d, output, 0)
+}
+
+// All stages, up to the 01 behind the parameters.
+fn stages(rows: &[u32], pool: &[u8], i: usize, base: bool, in_d: bool, output: &mut [u8]) -> Stage
+    requires { ⌜ (i ≤ length (now rows) / 4) × (length (now output) ≤ 1048576) ⌝ }
+    ensures { λ r. ⌜ StageIs in_d (now (pool .entry)) (now (rows .entry)) i (start base) (state closed 0 false) (now (output .entry)) 0 r (now (output .exit)) ⌝ }
+{
+    let s = front(rows, pool, i, base, in_d, output);
+    match s {
+        Stage::Stuck(j) => Stage::Stuck(j),
+        Stage::Go { row, at } => parameters(rows, pool, row, in_d, output, at),
+    }
+}
+
+// Whether row i is the next envelope's, or the rows end there.
+fn ends_at(rows: &[u32], pool: &[u8], i: usize) -> bool
+    ensures { λ r. ⌜ r ≡ endsBefore (cellsAt (now (pool .entry)) (now (rows .entry)) i) ⌝ }
+{
+    if rows.len() / 4 <= i {
+        return rows.len() % 4 == 0;
+    }
+    open_at(rows, pool, i) != 0
 }
 
 // The inside of an envelope, from the row after its own.
 pub fn body(
     in_d: bool,
-    table: &[usize],
     rows: &[u32],
     pool: &[u8],
     from: usize,
-    s: Standing,
+    base: bool,
     output: &mut [u8],
 ) -> Bodied
-    requires { ⌜ (now table ≡ packed) × (Good s) × (from ≤ length (now rows) / 4) × (length (now output) ≤ 1048576) ⌝ }
-    ensures { λ r. ⌜ BodyIs (bodyOf (editionOf in_d) (cellsAt (now (pool .entry)) (now (rows .entry)) from) from (stateOf s)) (now (pool .entry)) (now (rows .entry)) (now (output .entry)) 0 r (now (output .exit)) ⌝ }
+    requires { ⌜ (from ≤ length (now rows) / 4) × (length (now output) ≤ 1048576) ⌝ }
+    ensures { λ r. ⌜ BodyIs (bodyOf (editionOf in_d) (cellsAt (now (pool .entry)) (now (rows .entry)) from) from (start base)) (now (pool .entry)) (now (rows .entry)) (now (output .entry)) 0 r (now (output .exit)) ⌝ }
 {
-    let n = rows.len() / 4;
-    let mut i = from;
-    let mut t = s;
-    let mut p: usize = 0;
-    while i < n {
-        let next = i + 1;
-        let r = row_at(rows, i);
-        let start = r.start;
-        let end = start + r.many;
-        if pool.len() < end {
-            return Bodied::Stuck(i);
+    let s = stages(rows, pool, from, base, in_d, output);
+    match s {
+        Stage::Stuck(j) => Bodied::Stuck(j),
+        Stage::Go { row, at } => {
+            if ends_at(rows, pool, row) {
+                return Bodied::Ended { row: row, many: at };
+            }
+            Bodied::Stuck(row)
         }
-        let bytes = &pool[start..end];
-        if opening(r.kind, r.level, bytes) != 0 {
-            return seal(in_d, table, i, t, output, p);
-        }
-        let f = fit_row(in_d, table, t, r.kind, r.level, bytes, output, p);
-        let Fitted::Fits { to, at } = f else {
-            return Bodied::Stuck(i);
-        };
-        t = to;
-        p = at;
-        i = next;
     }
-    if rows.len() % 4 != 0 {
-        return Bodied::Stuck(i);
-    }
-    seal(in_d, table, i, t, output, p)
 }

@@ -7,7 +7,7 @@ use crate::value::date_ok;
 ghost use mathlib.Core.Path.{_≡_};
 ghost use mathlib.Core.List.{_++_};
 ghost use Rattle.meaning.specs.Editions.{Next, sharedDate, ownDates};
-ghost use Rattle.writer.specs.Moves.{editionOf};
+ghost use Rattle.writer.specs.Edition.{editionOf};
 ghost use Rattle.writer.specs.Codes.{codeInB, codeInD, dateCode};
 ghost use Rattle.writer.specs.Stages.{TakeRequires, TakenIs};
 

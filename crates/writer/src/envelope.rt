@@ -6,18 +6,17 @@ use crate::lay::put;
 use crate::lay::put_four;
 use crate::lay::put_two;
 use crate::measure::size_of;
-use crate::measure::start_of;
 ghost use mathlib.Core.Path.{_≡_};
 ghost use Prim.Native.Nat.{_+_, _≤_};
 ghost use lib.Dec.{eqb};
 ghost use lib.ListN.{length};
+ghost use Rattle.meaning.specs.Headers.{start};
 ghost use Rattle.meaning.specs.Writing.{wholePlan};
 ghost use Rattle.meaning.specs.Memory.{laidOver};
-ghost use Rattle.writer.specs.Moves.{packed, editionOf};
+ghost use Rattle.writer.specs.Edition.{editionOf};
 ghost use Rattle.writer.specs.Laying.{Laid};
-ghost use Rattle.writer.specs.Fitting.{stateOf};
 ghost use Rattle.writer.specs.Bodies.{cellsAt, bodyOf};
-ghost use Rattle.writer.specs.Whole.{startAt, headOf, bytesOfPlan, Writable, EnvelopeRequires, EnvelopeWritten};
+ghost use Rattle.writer.specs.Whole.{headOf, bytesOfPlan, Writable, EnvelopeRequires, EnvelopeWritten};
 
 // "Extension: FD, length ..; Base: FE, length": identifier and length, in the short form or the long one.
 fn put_head(opened: usize, many: usize, output: &mut [u8]) -> usize
@@ -44,7 +43,6 @@ fn identifier(opened: usize) -> u8
 // One envelope, whose inside has so many bytes; and where its rows end.
 fn put_envelope(
     in_d: bool,
-    table: &[usize],
     rows: &[u32],
     pool: &[u8],
     from: usize,
@@ -53,33 +51,25 @@ fn put_envelope(
     output: &mut [u8],
     at: usize,
 ) -> Bodied
-    requires { ⌜ (now table ≡ packed) × EnvelopeRequires in_d (now rows) (now pool) from opened many (now output) at ⌝ }
-    ensures { λ r. ⌜ EnvelopeWritten (bodyOf (editionOf in_d) (cellsAt (now (pool .entry)) (now (rows .entry)) from) from (stateOf (startAt opened))) (now (pool .entry)) (now (rows .entry)) (eqb opened 2) many (now (output .entry)) at (now (output .exit)) r ⌝ }
+    requires { ⌜ EnvelopeRequires in_d (now rows) (now pool) from opened many (now output) at ⌝ }
+    ensures { λ r. ⌜ EnvelopeWritten (bodyOf (editionOf in_d) (cellsAt (now (pool .entry)) (now (rows .entry)) from) from (start (eqb opened 2))) (now (pool .entry)) (now (rows .entry)) (eqb opened 2) many (now (output .entry)) at (now (output .exit)) r ⌝ }
 {
     let end = at + size_of(many);
     let inside = end - many;
     put_head(opened, many, &mut output[at..inside]);
     body(
         in_d,
-        table,
         rows,
         pool,
         from,
-        start_of(opened),
+        opened == 2,
         &mut output[inside..end],
     )
 }
 
 // Envelope by envelope, with the lengths that the check noted.
-pub fn put_all(
-    in_d: bool,
-    table: &[usize],
-    rows: &[u32],
-    pool: &[u8],
-    lengths: &[usize],
-    output: &mut [u8],
-)
-    requires { ⌜ (now table ≡ packed) × Writable in_d (now rows) (now pool) (now lengths) (now output) ⌝ }
+pub fn put_all(in_d: bool, rows: &[u32], pool: &[u8], lengths: &[usize], output: &mut [u8])
+    requires { ⌜ Writable in_d (now rows) (now pool) (now lengths) (now output) ⌝ }
     ensures { λ _. ⌜ now (output .exit) ≡ laidOver (now (output .entry)) (bytesOfPlan (wholePlan (editionOf in_d) (cellsAt (now (pool .entry)) (now (rows .entry)) 0))) ⌝ }
 {
     let mut i: usize = 0;
@@ -91,7 +81,7 @@ pub fn put_all(
             return;
         }
         let many = lengths[k];
-        let r = put_envelope(in_d, table, rows, pool, i + 1, opened, many, output, at);
+        let r = put_envelope(in_d, rows, pool, i + 1, opened, many, output, at);
         let Bodied::Ended { row, many: _ } = r else {
             return;
         };

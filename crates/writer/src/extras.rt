@@ -8,7 +8,7 @@ ghost use mathlib.Core.Path.{_≡_};
 ghost use mathlib.Core.Bool.{Bool};
 ghost use Prim.Native.Nat.{_≤_};
 ghost use Rattle.meaning.specs.Editions.{Room, State, state};
-ghost use Rattle.writer.specs.Moves.{editionOf};
+ghost use Rattle.writer.specs.Edition.{editionOf};
 ghost use Rattle.writer.specs.Rooms.{ExtrasIn};
 ghost use Rattle.writer.specs.Stages.{TakeRequires, afterNeeded, StageIs};
 

@@ -1,13 +1,10 @@
 // Bytes laid into the part that is lent, or counted where it has no room: so the same functions measure and write.
 // The count stops at an envelope's limit: no sum wraps, whatever the rows view.
 ghost use mathlib.Core.Path.{_≡_};
-ghost use mathlib.Core.Bool.{true};
 ghost use Prim.Native.Nat.{_+_, _-_, _≤_, _<_};
 ghost use lib.ListN.{length, take};
 ghost use lib.Seq.{sets};
 ghost use Rattle.meaning.specs.Bytes.{lengthBytes, twoBytes, fourBytes};
-ghost use Rattle.meaning.specs.Writing.{valid, writeValue};
-ghost use Rattle.writer.specs.Moves.{formOf};
 ghost use Rattle.writer.specs.Laying.{one, Laid, Layable, leadOf, fittingOf};
 
 const MOST: usize = 1048576;
@@ -81,38 +78,6 @@ pub fn put_four(n: usize, output: &mut [u8], at: usize) -> usize
 {
     let p = put_two(n / 65536, output, at);
     put_two(n % 65536, output, p)
-}
-
-// A value behind its code: a text has 00 behind it, a block its length before it.
-pub fn put_value(form: usize, code: usize, bytes: &[u8], output: &mut [u8], at: usize) -> usize
-    requires { ⌜ (Layable (now output) at) × (valid (formOf form) code (now bytes) ≡ true) ⌝ }
-    ensures { λ r. ⌜ Laid (now (output .entry)) at (writeValue (formOf form) (now (bytes .entry))) (now (output .exit)) r ⌝ }
-{
-    let many = bytes.len();
-    match form {
-        1 => {
-            let p = copy(bytes, output, at);
-            put(output, p, 0)
-        }
-        2 => copy(bytes, output, at),
-        5 => {
-            let p = put(output, at, many as u8);
-            copy(bytes, output, p)
-        }
-        6 => {
-            let p = put_two(many, output, at);
-            copy(bytes, output, p)
-        }
-        7 => {
-            let p = put_four(many, output, at);
-            copy(bytes, output, p)
-        }
-        8 => copy(bytes, output, at),
-        9 => copy(bytes, output, at),
-        10 => copy(bytes, output, at),
-        11 => copy(bytes, output, at),
-        _ => at,
-    }
 }
 
 // A move's code, unless it has none.

@@ -6,27 +6,24 @@ mod body;
 mod dates;
 mod envelope;
 mod extras;
-mod fit;
 mod kinds;
 mod lay;
 mod measure;
 mod parameters;
 mod received;
 mod representation;
-mod table;
 mod texts;
 mod value;
 
 use crate::envelope::put_all;
 use crate::measure::Checked;
 use crate::measure::check;
-use crate::table::TABLE;
 use values::OUTPUT_SHORT;
 ghost use mathlib.Core.Path.{_≡_};
 ghost use lib.ListN.{length};
 ghost use Rattle.meaning.specs.Writing.{writeRows};
 ghost use Rattle.meaning.specs.Memory.{cellsOf};
-ghost use Rattle.writer.specs.Moves.{editionOf};
+ghost use Rattle.writer.specs.Edition.{editionOf};
 ghost use Rattle.writer.specs.Promise.{WritePromise, WrittenAs, refusedAt};
 
 // "1: edition not 1 or 2; before all else"
@@ -66,16 +63,15 @@ fn refusal(answer: u32, place: usize) -> Answer
 fn write_in(in_d: bool, rows: &[u32], pool: &[u8], output: &mut [u8]) -> Answer
     ensures { λ r. ⌜ WrittenAs (writeRows (editionOf in_d) (length (now (output .entry))) (cellsOf (now (pool .entry)) (now (rows .entry)))) (now (rows .entry)) (now (output .entry)) r (now (output .exit)) ⌝ }
 {
-    let table = TABLE;
     let mut lengths = [0usize; 16];
-    let c = check(in_d, &table[..], rows, pool, &mut lengths[..]);
+    let c = check(in_d, rows, pool, &mut lengths[..]);
     match c {
         Checked::Bad { answer, place } => refusal(answer, place),
         Checked::Needs(many) => {
             if output.len() < many {
                 return refusal(OUTPUT_SHORT, many);
             }
-            put_all(in_d, &table[..], rows, pool, &lengths[..], output);
+            put_all(in_d, rows, pool, &lengths[..], output);
             Answer {
                 answer: 0,
                 place: many,

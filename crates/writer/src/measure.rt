@@ -2,16 +2,15 @@
 use crate::body::Bodied;
 use crate::body::body;
 use crate::body::open_at;
-use crate::fit::Standing;
 ghost use mathlib.Core.Path.{_≡_};
 ghost use mathlib.Core.List.{List};
 ghost use Prim.Native.Nat.{ℕ, _+_, _-_, _*_, _/_, _≤_};
 ghost use lib.ListN.{length, set};
+ghost use Rattle.meaning.specs.Headers.{start};
 ghost use Rattle.meaning.specs.Writing.{envelopeSize, wholePlan};
-ghost use Rattle.writer.specs.Moves.{packed, editionOf};
+ghost use Rattle.writer.specs.Edition.{editionOf};
 ghost use Rattle.writer.specs.Bodies.{cellsAt, bodyOf};
-ghost use Rattle.writer.specs.Fitting.{stateOf, Good};
-ghost use Rattle.writer.specs.Whole.{passedAt, Measured, Tallied, startAt, limitOf, endVerdict, checkedOf, CheckedAs};
+ghost use Rattle.writer.specs.Whole.{passedAt, Measured, Tallied, limitOf, endVerdict, checkedOf, CheckedAs};
 
 // A refusal, or the bytes needed.
 pub enum Checked {
@@ -92,37 +91,13 @@ fn passed(left: usize, total: usize, first: usize) -> Tally
     }
 }
 
-pub fn start_of(opened: usize) -> Standing
-    ensures { λ r. ⌜ r ≡ startAt opened ⌝ }
-{
-    if opened == 2 {
-        return Standing {
-            room: 1,
-            level: 0,
-            single: false,
-        };
-    }
-    Standing {
-        room: 0,
-        level: 0,
-        single: false,
-    }
-}
-
 // The inside of an envelope, only measured: its part of the output is empty.
-pub fn measure(
-    in_d: bool,
-    table: &[usize],
-    rows: &[u32],
-    pool: &[u8],
-    from: usize,
-    s: Standing,
-) -> Bodied
-    requires { ⌜ (now table ≡ packed) × (Good s) × (from ≤ length (now rows) / 4) ⌝ }
-    ensures { λ r. ⌜ Measured (bodyOf (editionOf in_d) (cellsAt (now (pool .entry)) (now (rows .entry)) from) from (stateOf s)) (now (pool .entry)) (now (rows .entry)) r ⌝ }
+pub fn measure(in_d: bool, rows: &[u32], pool: &[u8], from: usize, base: bool) -> Bodied
+    requires { ⌜ from ≤ length (now rows) / 4 ⌝ }
+    ensures { λ r. ⌜ Measured (bodyOf (editionOf in_d) (cellsAt (now (pool .entry)) (now (rows .entry)) from) from (start base)) (now (pool .entry)) (now (rows .entry)) r ⌝ }
 {
     let mut none = [0u8; 1];
-    body(in_d, table, rows, pool, from, s, &mut none[..0])
+    body(in_d, rows, pool, from, base, &mut none[..0])
 }
 
 // The length of one envelope's inside, for the pass that writes; a seventeenth has no place.
@@ -161,14 +136,8 @@ fn ended(rows: &[u32], row: usize, t: Tally) -> Checked
 }
 
 // What the rows come to: a refusal, or the bytes that they need; then the envelopes' lengths are noted.
-pub fn check(
-    in_d: bool,
-    table: &[usize],
-    rows: &[u32],
-    pool: &[u8],
-    lengths: &mut [usize],
-) -> Checked
-    requires { ⌜ (now table ≡ packed) × (length (now lengths) ≡ 16) ⌝ }
+pub fn check(in_d: bool, rows: &[u32], pool: &[u8], lengths: &mut [usize]) -> Checked
+    requires { ⌜ length (now lengths) ≡ 16 ⌝ }
     ensures { λ r. ⌜ CheckedAs (wholePlan (editionOf in_d) (cellsAt (now (pool .entry)) (now (rows .entry)) 0)) r (now (lengths .exit)) ⌝ }
 {
     let mut i: usize = 0;
@@ -186,7 +155,7 @@ pub fn check(
                 place: i,
             };
         }
-        let r = measure(in_d, table, rows, pool, i + 1, start_of(opened));
+        let r = measure(in_d, rows, pool, i + 1, opened == 2);
         match r {
             Bodied::Stuck(j) => return Checked::Bad {
                 answer: NO_TABLE,

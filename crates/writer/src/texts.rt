@@ -5,7 +5,7 @@ use crate::lay::put;
 ghost use mathlib.Core.Path.{_≡_};
 ghost use mathlib.Core.Bool.{Bool};
 ghost use Rattle.meaning.specs.Editions.{Room, State, state};
-ghost use Rattle.writer.specs.Moves.{editionOf};
+ghost use Rattle.writer.specs.Edition.{editionOf};
 ghost use Rattle.writer.specs.Rooms.{TextsIn, OptionalIn};
 ghost use Rattle.writer.specs.Stages.{TakeRequires, Onward};
 

@@ -4,29 +4,7 @@ ghost use mathlib.Core.Path.{_≡_};
 ghost use mathlib.Core.Bool.{true};
 ghost use mathlib.Core.List.{[]};
 ghost use Rattle.meaning.specs.Bytes.{textOk, numberOk, dateOk, dateChecks};
-ghost use Rattle.meaning.specs.Writing.{isOnly, valid};
 ghost use Rattle.values.specs.Dates.{reaching};
-ghost use Rattle.writer.specs.Moves.{formOf};
-
-// The lengths of a date's and of a block's forms are apart.
-pub fn valid_for(form: usize, code: usize, bytes: &[u8]) -> bool
-    ensures { λ r. ⌜ r ≡ valid (formOf form) code (now (bytes .entry)) ⌝ }
-{
-    let many = bytes.len();
-    match form {
-        1 => text_ok(bytes),
-        2 => number_ok(bytes),
-        3 => is_only(code, bytes),
-        5 => many < 256,
-        6 => (256 <= many) & (many < 65536),
-        7 => (65536 <= many) & (many < 4294967296),
-        8 => date_ok(bytes, true, false),
-        9 => date_ok(bytes, true, true),
-        10 => date_ok(bytes, false, false),
-        11 => date_ok(bytes, false, true),
-        _ => many == 0,
-    }
-}
 
 // "Text: bytes 20 to FF": the reader's own run comes to the end of the view.
 pub fn text_ok(bytes: &[u8]) -> bool
@@ -73,20 +51,4 @@ pub fn date_ok(bytes: &[u8], absolute: bool, designated: bool) -> bool
         return false;
     };
     end <= after
-}
-
-// A standard representation is its code.
-fn is_only(code: usize, bytes: &[u8]) -> bool
-    ensures { λ r. ⌜ r ≡ isOnly code (now (bytes .entry)) ⌝ }
-{
-    if bytes.len() != 1 {
-        return false;
-    }
-    wide(bytes[0]) == code
-}
-
-fn wide(b: u8) -> usize
-    ensures { λ r. ⌜ r ≡ b ⌝ }
-{
-    b as usize
 }

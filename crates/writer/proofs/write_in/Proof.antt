@@ -1,6 +1,5 @@
 -- `write_in`: the verdict's answer, and the output where it is written.
 use Rattle.writer.proofs.Answers.{accepts, refuses, too-short, writable}
-use Rattle.writer.specs.Moves.{packed}
 use borrow.Author.Needs.{needs}
 use mathlib.Core.Path.{refl}
 use Rattle.writer.proofs.write_in.Statement.{statement}
@@ -9,12 +8,8 @@ use Rattle.writer.proofs.write_in.Tie as tie
 slice-aggregate-check : tie.Need-slice-aggregate-check
 slice-aggregate-check c = search needs
 
-slice-aggregate-check-2 : tie.Need-slice-aggregate-check-2
-slice-aggregate-check-2 c = search needs
-
 check-requires : tie.Need-check-requires
-unfolding packed
-check-requires c κs = (refl, refl)
+check-requires c κs = refl
 
 enum-known-c : tie.Need-enum-known-c
 enum-known-c c = search needs
@@ -30,25 +25,21 @@ refusal-requires-2 c κs = search needs
 
 returns : tie.Need-returns
 returns c =
-    let a = c .before .before .before .before .before .before .before .before .before .before .before .before .args in
+    let a = c .before .before .before .before .before .before .before .before .before .before .before .args in
     too-short (a .in-d) (a .pool .now) (a .rows .now) (a .output .now) (c .before .before .before .before .before .before .check .ensures) (c .before .before .before .c2 .given .1) (c .before .if1 .taken) (c .refusal2 .ensures)
 
 slice-aggregate-put-all : tie.Need-slice-aggregate-put-all
 slice-aggregate-put-all c = search needs
 
-slice-aggregate-put-all-2 : tie.Need-slice-aggregate-put-all-2
-slice-aggregate-put-all-2 c = search needs
-
 put-all-requires : tie.Need-put-all-requires
-unfolding packed
 put-all-requires c κs =
-    let a = c .before .before .before .before .before .before .before .before .before .before .before .before .before .before .args in
-    let k = c .before .before .before .before .before .before .before .before .check in
-    (refl, writable (a .in-d) (a .pool .now) (a .rows .now) (a .output .now) (k .ensures) (c .before .before .before .before .before .c2 .given .1) (k .kept .1 .1 .1 .1 .0) (c .before .before .before .if1 .left))
+    let a = c .before .before .before .before .before .before .before .before .before .before .before .before .args in
+    let k = c .before .before .before .before .before .before .before .check in
+    writable (a .in-d) (a .pool .now) (a .rows .now) (a .output .now) (k .ensures) (c .before .before .before .before .c2 .given .1) (k .kept .1 .1 .1 .0) (c .before .before .if1 .left)
 
 returns-2 : tie.Need-returns-2
 returns-2 c =
-    let a = c .before .before .before .before .before .before .before .before .before .before .before .args in
+    let a = c .before .before .before .before .before .before .before .before .before .before .args in
     refuses (a .in-d) (a .pool .now) (a .rows .now) (a .output .now) (c .before .before .before .before .before .check .ensures) (c .before .before .c .given .1) (c .refusal .ensures)
 
 same-length : tie.Need-same-length
@@ -56,15 +47,14 @@ same-length c = search needs
 
 returns-3 : tie.Need-returns-3
 returns-3 c =
-    let a = c .before .before .before .before .before .before .before .before .before .before .before .before .before .before .before .before .before .args in
-    accepts (a .in-d) (a .pool .now) (a .rows .now) (a .output .now) (c .before .before .before .before .before .before .before .before .before .before .before .check .ensures) (c .before .before .before .before .before .before .before .before .c2 .given .1) (c .before .before .before .before .before .before .if1 .left) (c .before .before .put-all .ensures)
+    let a = c .before .before .before .before .before .before .before .before .before .before .before .before .before .before .before .args in
+    accepts (a .in-d) (a .pool .now) (a .rows .now) (a .output .now) (c .before .before .before .before .before .before .before .before .before .before .check .ensures) (c .before .before .before .before .before .before .before .c2 .given .1) (c .before .before .before .before .before .if1 .left) (c .before .before .put-all .ensures)
 
 pub write-in-spec : {M : Type 1} → statement M
 write-in-spec =
     tie.close
     (tie.spec
     slice-aggregate-check
-    slice-aggregate-check-2
     check-requires
     enum-known-c
     refusal-requires
@@ -72,7 +62,6 @@ write-in-spec =
     refusal-requires-2
     returns
     slice-aggregate-put-all
-    slice-aggregate-put-all-2
     put-all-requires
     returns-2
     same-length

@@ -2,7 +2,7 @@
 use Rattle.values.specs.Dates.{datesOf}
 use Rattle.writer.proofs.Laying.{laid-layable, laid-then}
 use Rattle.writer.proofs.Forms.{ahead-none, code-small, date-taken, date-unknown, date-wrong}
-use Rattle.writer.specs.Moves.{editionOf}
+use Rattle.writer.specs.Edition.{editionOf}
 use borrow.Author.Needs.{needs}
 use mathlib.Core.Path.{_∙_, refl, sym}
 use native.Mathlib.Omega.{arith}

@@ -12,38 +12,38 @@ use Rattle.writer.proofs.envelope.put_all.Statement.{statement}
 use Rattle.writer.proofs.envelope.put_all.Tie as tie
 
 abbrev Inv-loop : tie.InvT-loop
-Inv-loop in-d table rows pool lengths output₀ i₀ k₀ at₀ output i k at = (w : Writable in-d rows pool lengths output₀) → Writing in-d pool rows lengths output₀ (w .bytes-needed) i k at output
+Inv-loop in-d rows pool lengths output₀ i₀ k₀ at₀ output i k at = (w : Writable in-d rows pool lengths output₀) → Writing in-d pool rows lengths output₀ (w .bytes-needed) i k at output
 
 abbrev μ-loop : tie.MeasureT-loop
-μ-loop in-d table rows pool lengths output₀ i₀ k₀ at₀ output i k at = length rows / 4 - i
+μ-loop in-d rows pool lengths output₀ i₀ k₀ at₀ output i k at = length rows / 4 - i
 
 loop-holds : tie.Need-loop-holds Inv-loop μ-loop
-loop-holds c = let a = c .before .before .before .before .before .args in writing-starts (a .in-d) (a .pool .now) (a .rows .now) (a .lengths .now) (a .output .now)
+loop-holds c = let a = c .before .before .before .before .args in writing-starts (a .in-d) (a .pool .now) (a .rows .now) (a .lengths .now) (a .output .now)
 
 open-at-requires : tie.Need-open-at-requires Inv-loop μ-loop
 open-at-requires c κs = search needs
 
 same-length : tie.Need-same-length Inv-loop μ-loop
 same-length c =
-    let entry = c .before .before .before .before .before .before .before .before in
+    let entry = c .before .before .before .before .before .before .before in
     let a = entry .args in
-    let w = entry .pre .1 in
+    let w = entry .pre in
     let l = c .before .before .loop in
     writing-length (a .in-d) (a .pool .now) (a .rows .now) (a .lengths .now) (a .output .now) w (l .inv w)
 
 returns : tie.Need-returns Inv-loop μ-loop
 returns c =
-    let entry = c .before .before .before .before .before .before .before .before in
+    let entry = c .before .before .before .before .before .before .before in
     let a = entry .args in
-    let w = entry .pre .1 in
+    let w = entry .pre in
     let l = c .before .before .loop in
     writing-none (a .in-d) (a .pool .now) (a .rows .now) (a .lengths .now) (a .output .now) w (l .inv w) (c .before .open-at .ensures) (c .if1 .taken)
 
 mul-many : tie.Need-mul-many Inv-loop μ-loop
 mul-many c =
-    let entry = c .before .before .before .before .before .before .before .before in
+    let entry = c .before .before .before .before .before .before .before in
     let a = entry .args in
-    let w = entry .pre .1 in
+    let w = entry .pre in
     let l = c .before .before .loop in
     let o = c .before .open-at .ensures in
     let h = c .if1 .left in
@@ -51,9 +51,9 @@ mul-many c =
 
 shared-slice-read-many : tie.Need-shared-slice-read-many Inv-loop μ-loop
 shared-slice-read-many c =
-    let entry = c .before .before .before .before .before .before .before .before .before in
+    let entry = c .before .before .before .before .before .before .before .before in
     let a = entry .args in
-    let w = entry .pre .1 in
+    let w = entry .pre in
     let l = c .before .before .before .loop in
     let o = c .before .before .open-at .ensures in
     let h = c .before .if1 .left in
@@ -61,9 +61,9 @@ shared-slice-read-many c =
 
 add-put-envelope : tie.Need-add-put-envelope Inv-loop μ-loop
 add-put-envelope c =
-    let entry = c .before .before .before .before .before .before .before .before .before in
+    let entry = c .before .before .before .before .before .before .before .before in
     let a = entry .args in
-    let w = entry .pre .1 in
+    let w = entry .pre in
     let l = c .before .before .before .loop in
     let o = c .before .before .open-at .ensures in
     let h = c .before .if1 .left in
@@ -71,14 +71,14 @@ add-put-envelope c =
 
 put-envelope-requires : tie.Need-put-envelope-requires Inv-loop μ-loop
 put-envelope-requires c κs =
-    let entry = c .before .before .before .before .before .before .before .before .before .before in
+    let entry = c .before .before .before .before .before .before .before .before .before in
     let a = entry .args in
-    let w = entry .pre .1 in
+    let w = entry .pre in
     let l = c .before .before .before .before .loop in
     let o = c .before .before .before .open-at .ensures in
     let h = c .before .before .if1 .left in
     let n = writing-noted (a .in-d) (a .pool .now) (a .rows .now) (a .lengths .now) (a .output .now) w (l .inv w) o h in
-    (entry .pre .0, record { inside = omega (arith, row-inside (a .in-d) (a .pool .now) (a .rows .now) (l .i) o h); opens = omega (arith, h); small = n .2; room = omega (arith, n .1, writing-length (a .in-d) (a .pool .now) (a .rows .now) (a .lengths .now) (a .output .now) w (l .inv w)) })
+    record { inside = omega (arith, row-inside (a .in-d) (a .pool .now) (a .rows .now) (l .i) o h); opens = omega (arith, h); small = n .2; room = omega (arith, n .1, writing-length (a .in-d) (a .pool .now) (a .rows .now) (a .lengths .now) (a .output .now) w (l .inv w)) }
 
 enum-known-r : tie.Need-enum-known-r Inv-loop μ-loop
 enum-known-r c = search needs
@@ -88,17 +88,17 @@ enum-told c = search needs
 
 same-length-2 : tie.Need-same-length-2 Inv-loop μ-loop
 same-length-2 c =
-    let entry = c .before .before .before .before .before .before .before .before .before .before .before .before .before .before .before in
+    let entry = c .before .before .before .before .before .before .before .before .before .before .before .before .before .before in
     let a = entry .args in
-    let w = entry .pre .1 in
+    let w = entry .pre in
     let l = c .before .before .before .before .before .before .before .before .before .loop in
-    c .before .before .before .before .put-envelope .kept .1 .1 .1 .1 .1 .1 .1 .0 ∙ writing-length (a .in-d) (a .pool .now) (a .rows .now) (a .lengths .now) (a .output .now) w (l .inv w)
+    c .before .before .before .before .put-envelope .kept .1 .1 .1 .1 .1 .1 .0 ∙ writing-length (a .in-d) (a .pool .now) (a .rows .now) (a .lengths .now) (a .output .now) w (l .inv w)
 
 returns-2 : tie.Need-returns-2 Inv-loop μ-loop
 returns-2 c =
-    let entry = c .before .before .before .before .before .before .before .before .before .before .before .before .before .before .before in
+    let entry = c .before .before .before .before .before .before .before .before .before .before .before .before .before .before in
     let a = entry .args in
-    let w = entry .pre .1 in
+    let w = entry .pre in
     let l = c .before .before .before .before .before .before .before .before .before .loop in
     let o = c .before .before .before .before .before .before .before .before .open-at .ensures in
     let h = c .before .before .before .before .before .before .before .if1 .left in
@@ -106,17 +106,17 @@ returns-2 c =
 
 same-length-3 : tie.Need-same-length-3 Inv-loop μ-loop
 same-length-3 c =
-    let entry = c .before .before .before .before .before .before .before .before .before .before .before .before .before .before .before .before .before in
+    let entry = c .before .before .before .before .before .before .before .before .before .before .before .before .before .before .before .before in
     let a = entry .args in
-    let w = entry .pre .1 in
+    let w = entry .pre in
     let l = c .before .before .before .before .before .before .before .before .before .before .before .loop in
-    c .before .before .before .before .before .before .put-envelope .kept .1 .1 .1 .1 .1 .1 .1 .0 ∙ writing-length (a .in-d) (a .pool .now) (a .rows .now) (a .lengths .now) (a .output .now) w (l .inv w)
+    c .before .before .before .before .before .before .put-envelope .kept .1 .1 .1 .1 .1 .1 .0 ∙ writing-length (a .in-d) (a .pool .now) (a .rows .now) (a .lengths .now) (a .output .now) w (l .inv w)
 
 returns-3 : tie.Need-returns-3 Inv-loop μ-loop
 returns-3 c =
-    let entry = c .before .before .before .before .before .before .before .before .before .before .before .before .before .before .before .before .before in
+    let entry = c .before .before .before .before .before .before .before .before .before .before .before .before .before .before .before .before in
     let a = entry .args in
-    let w = entry .pre .1 in
+    let w = entry .pre in
     let l = c .before .before .before .before .before .before .before .before .before .before .before .loop in
     let o = c .before .before .before .before .before .before .before .before .before .before .open-at .ensures in
     let h = c .before .before .before .before .before .before .before .before .before .if1 .left in
@@ -126,9 +126,9 @@ returns-3 c =
 
 add-k : tie.Need-add-k Inv-loop μ-loop
 add-k c =
-    let entry = c .before .before .before .before .before .before .before .before .before .before .before .before .before .before .before .before .before in
+    let entry = c .before .before .before .before .before .before .before .before .before .before .before .before .before .before .before .before in
     let a = entry .args in
-    let w = entry .pre .1 in
+    let w = entry .pre in
     let l = c .before .before .before .before .before .before .before .before .before .before .before .loop in
     let o = c .before .before .before .before .before .before .before .before .before .before .open-at .ensures in
     let h = c .before .before .before .before .before .before .before .before .before .if1 .left in
@@ -136,9 +136,9 @@ add-k c =
 
 size-of-requires : tie.Need-size-of-requires Inv-loop μ-loop
 size-of-requires c κs =
-    let entry = c .before .before .before .before .before .before .before .before .before .before .before .before .before .before .before .before .before in
+    let entry = c .before .before .before .before .before .before .before .before .before .before .before .before .before .before .before .before in
     let a = entry .args in
-    let w = entry .pre .1 in
+    let w = entry .pre in
     let l = c .before .before .before .before .before .before .before .before .before .before .before .loop in
     let o = c .before .before .before .before .before .before .before .before .before .before .open-at .ensures in
     let h = c .before .before .before .before .before .before .before .before .before .if1 .left in
@@ -146,9 +146,9 @@ size-of-requires c κs =
 
 add-at : tie.Need-add-at Inv-loop μ-loop
 add-at c =
-    let entry = c .before .before .before .before .before .before .before .before .before .before .before .before .before .before .before .before .before .before in
+    let entry = c .before .before .before .before .before .before .before .before .before .before .before .before .before .before .before .before .before in
     let a = entry .args in
-    let w = entry .pre .1 in
+    let w = entry .pre in
     let l = c .before .before .before .before .before .before .before .before .before .before .before .before .loop in
     let o = c .before .before .before .before .before .before .before .before .before .before .before .open-at .ensures in
     let h = c .before .before .before .before .before .before .before .before .before .before .if1 .left in
@@ -158,9 +158,9 @@ add-at c =
 
 loop-less : tie.Need-loop-less Inv-loop μ-loop
 loop-less c =
-    let entry = c .before .before .before .before .before .before .before .before .before .before .before .before .before .before .before .before .before .before in
+    let entry = c .before .before .before .before .before .before .before .before .before .before .before .before .before .before .before .before .before in
     let a = entry .args in
-    let w = entry .pre .1 in
+    let w = entry .pre in
     let l = c .before .before .before .before .before .before .before .before .before .before .before .before .loop in
     let o = c .before .before .before .before .before .before .before .before .before .before .before .open-at .ensures in
     let h = c .before .before .before .before .before .before .before .before .before .before .if1 .left in
@@ -170,9 +170,9 @@ loop-less c =
 
 loop-again : tie.Need-loop-again Inv-loop μ-loop
 loop-again c =
-    let entry = c .before .before .before .before .before .before .before .before .before .before .before .before .before .before .before .before .before .before in
+    let entry = c .before .before .before .before .before .before .before .before .before .before .before .before .before .before .before .before .before in
     let a = entry .args in
-    let w = entry .pre .1 in
+    let w = entry .pre in
     let l = c .before .before .before .before .before .before .before .before .before .before .before .before .loop in
     let o = c .before .before .before .before .before .before .before .before .before .before .before .open-at .ensures in
     let h = c .before .before .before .before .before .before .before .before .before .before .if1 .left in

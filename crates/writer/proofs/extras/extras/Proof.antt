@@ -6,7 +6,7 @@ use Rattle.writer.proofs.Laying.{laid-layable, laid-length}
 use Rattle.writer.proofs.Lists.{extras-end, key-on, laid-from, layable-from, value-lost, value-on}
 use Rattle.writer.proofs.Onward.{onward-none, onward-stuck, onward-then}
 use Rattle.writer.specs.Laying.{Layable}
-use Rattle.writer.specs.Moves.{editionOf}
+use Rattle.writer.specs.Edition.{editionOf}
 use Rattle.writer.specs.Rooms.{ExtrasIn}
 use Rattle.writer.specs.Stages.{Onward}
 use borrow.Author.Needs.{needs}

@@ -1,12 +1,11 @@
 -- `measure::check`: envelope by envelope, what the tally says of the rest is the verdict over all; and the lengths are noted.
 use Prim.Native.Nat.{ℕ, _+_, _-_, _*_, _/_, _≤_}
 use Rattle.meaning.specs.Writing.{fine, wholePlan}
-use Rattle.writer.proofs.Checking.{check-base, check-extension, check-none, check-stuck, ends-here, ends-later, ends-small, rest, row-inside, stuck-here}
-use Rattle.writer.proofs.Envelopes.{start-good}
+use Rattle.writer.proofs.Checking.{check-base, check-extension, check-none, check-stuck, ends-later, ends-small, here, measured-ended, measured-stuck, rest, row-inside}
 use Rattle.writer.proofs.Noting.{Noting, checked-bad, noting-ends, noting-on, noting-starts}
 use Rattle.writer.proofs.Wholes.{whole-edge}
 use Rattle.writer.specs.Bodies.{cellsAt}
-use Rattle.writer.specs.Moves.{editionOf}
+use Rattle.writer.specs.Edition.{editionOf}
 use Rattle.writer.specs.Whole.{Begins, checkedOf, insidesOf, limitOf, needs as needed, verdict}
 use borrow.Author.Needs.{needs}
 use lib.ListN.{length}
@@ -17,88 +16,81 @@ use Rattle.writer.proofs.measure.check.Statement.{statement}
 use Rattle.writer.proofs.measure.check.Tie as tie
 
 abbrev Inv-loop : tie.InvT-loop
-Inv-loop in-d table rows pool lengths₀ i₀ t₀ lengths i t = (t .total + t .left * 1048576 ≤ 16777216) × (verdict 16 0 fine (wholePlan (editionOf in-d) (cellsAt pool rows 0)) ≡ verdict (t .left) (t .total) (limitOf (t .over) (t .first)) (rest in-d pool rows i)) × Noting in-d pool rows (t .left) i lengths
+Inv-loop in-d rows pool lengths₀ i₀ t₀ lengths i t = (t .total + t .left * 1048576 ≤ 16777216) × (verdict 16 0 fine (wholePlan (editionOf in-d) (cellsAt pool rows 0)) ≡ verdict (t .left) (t .total) (limitOf (t .over) (t .first)) (rest in-d pool rows i)) × Noting in-d pool rows (t .left) i lengths
 
 abbrev μ-loop : tie.MeasureT-loop
-μ-loop in-d table rows pool lengths₀ i₀ t₀ lengths i t = length rows / 4 - i
+μ-loop in-d rows pool lengths₀ i₀ t₀ lengths i t = length rows / 4 - i
 
 loop-holds : tie.Need-loop-holds Inv-loop μ-loop
 loop-holds c =
-    let entry = c .before .before .before .before in
+    let entry = c .before .before .before in
     let a = entry .args in
-    (omega arith, ap (verdict 16 0 fine) (whole-edge (editionOf (a .in-d)) (cellsAt (a .pool .now) (a .rows .now) 0)), noting-starts (a .in-d) (a .pool .now) (a .rows .now) (entry .pre .1))
+    (omega arith, ap (verdict 16 0 fine) (whole-edge (editionOf (a .in-d)) (cellsAt (a .pool .now) (a .rows .now) 0)), noting-starts (a .in-d) (a .pool .now) (a .rows .now) (entry .pre))
 
 open-at-requires : tie.Need-open-at-requires Inv-loop μ-loop
 open-at-requires c κs = search needs
 
 same-length : tie.Need-same-length Inv-loop μ-loop
-same-length c = let l = c .before .before .loop in l .inv .2 .long ∙ sym (c .before .before .before .before .before .before .before .pre .1)
+same-length c = let l = c .before .before .loop in l .inv .2 .long ∙ sym (c .before .before .before .before .before .before .pre)
 
 returns : tie.Need-returns Inv-loop μ-loop
 returns c =
-    let a = c .before .before .before .before .before .before .before .args in
+    let a = c .before .before .before .before .before .before .args in
     let l = c .before .before .loop in
     checked-bad (wholePlan (editionOf (a .in-d)) (cellsAt (a .pool .now) (a .rows .now) 0)) (l .inv .1 ∙ check-none (a .in-d) (a .pool .now) (a .rows .now) (l .i) (c .before .open-at .ensures) (l .t) (c .if1 .taken)) refl
 
 add-measure : tie.Need-add-measure Inv-loop μ-loop
 add-measure c =
-    let a = c .before .before .before .before .before .before .before .args in
+    let a = c .before .before .before .before .before .before .args in
     omega (arith, row-inside (a .in-d) (a .pool .now) (a .rows .now) (c .before .before .loop .i) (c .before .open-at .ensures) (c .if1 .left))
-
-start-of-requires : tie.Need-start-of-requires Inv-loop μ-loop
-start-of-requires c κs = search needs
 
 measure-requires : tie.Need-measure-requires Inv-loop μ-loop
 measure-requires c κs =
-    let entry = c .before .before .before .before .before .before .before .before in
-    let a = entry .args in
-    (entry .pre .0, start-good (c .before .before .open-at .result) (c .start-of .ensures), omega (arith, row-inside (a .in-d) (a .pool .now) (a .rows .now) (c .before .before .before .loop .i) (c .before .before .open-at .ensures) (c .before .if1 .left)))
+    let a = c .before .before .before .before .before .before .args in
+    omega (arith, row-inside (a .in-d) (a .pool .now) (a .rows .now) (c .before .before .loop .i) (c .before .open-at .ensures) (c .if1 .left))
 
 enum-known-r : tie.Need-enum-known-r Inv-loop μ-loop
 enum-known-r c = search needs
 
 same-length-2 : tie.Need-same-length-2 Inv-loop μ-loop
-same-length-2 c = let l = c .before .before .before .before .before .before .before .loop in l .inv .2 .long ∙ sym (c .before .before .before .before .before .before .before .before .before .before .before .before .pre .1)
+same-length-2 c = let l = c .before .before .before .before .before .before .loop in l .inv .2 .long ∙ sym (c .before .before .before .before .before .before .before .before .before .before .pre)
 
 returns-2 : tie.Need-returns-2 Inv-loop μ-loop
 returns-2 c =
-    let a = c .before .before .before .before .before .before .before .before .before .before .before .before .args in
-    let l = c .before .before .before .before .before .before .before .loop in
-    let o = c .before .before .before .before .before .before .open-at .ensures in
-    let h = c .before .before .before .before .before .if1 .left in
-    let m = c .before .before .before .measure in
-    checked-bad (wholePlan (editionOf (a .in-d)) (cellsAt (a .pool .now) (a .rows .now) 0)) (l .inv .1 ∙ check-stuck (a .in-d) (a .pool .now) (a .rows .now) (l .i) o (l .t) h (stuck-here (a .in-d) (a .pool .now) (a .rows .now) (l .i) o h (c .before .before .before .before .start-of .ensures) (m .result) (m .ensures) (c .before .r .given .1))) refl
+    let a = c .before .before .before .before .before .before .before .before .before .before .args in
+    let l = c .before .before .before .before .before .before .loop in
+    let o = c .before .before .before .before .before .open-at .ensures in
+    let h = c .before .before .before .before .if1 .left in
+    checked-bad (wholePlan (editionOf (a .in-d)) (cellsAt (a .pool .now) (a .rows .now) 0)) (l .inv .1 ∙ check-stuck (a .in-d) (a .pool .now) (a .rows .now) (l .i) o (l .t) h (measured-stuck (here (a .in-d) (a .pool .now) (a .rows .now) (l .i) o h) (a .pool .now) (a .rows .now) (c .before .r .given .1) (c .before .before .before .measure .ensures))) refl
 
 enum-known-r-2 : tie.Need-enum-known-r-2 Inv-loop μ-loop
 enum-known-r-2 c = search needs
 
 note-requires : tie.Need-note-requires Inv-loop μ-loop
-note-requires c κs = let l = c .before .before .before .before .before .before .before .before .loop in (l .inv .2 .long, omega (arith, l .inv .0))
+note-requires c κs = let l = c .before .before .before .before .before .before .before .loop in (l .inv .2 .long, omega (arith, l .inv .0))
 
 count-in-requires : tie.Need-count-in-requires Inv-loop μ-loop
 count-in-requires c κs =
-    let a = c .before .before .before .before .before .before .before .before .before .before .before .before .before .before .before .before .args in
-    let l = c .before .before .before .before .before .before .before .before .before .before .before .loop in
-    let o = c .before .before .before .before .before .before .before .before .before .before .open-at .ensures in
-    let h = c .before .before .before .before .before .before .before .before .before .if1 .left in
-    let m = c .before .before .before .before .before .before .before .measure in
-    let z = ends-here (a .in-d) (a .pool .now) (a .rows .now) (l .i) o h (c .before .before .before .before .before .before .before .before .start-of .ensures) (m .result) (m .ensures) (c .before .before .before .before .before .r2 .given .1) in
+    let a = c .before .before .before .before .before .before .before .before .before .before .before .before .before .before .args in
+    let l = c .before .before .before .before .before .before .before .before .before .before .loop in
+    let o = c .before .before .before .before .before .before .before .before .before .open-at .ensures in
+    let h = c .before .before .before .before .before .before .before .before .if1 .left in
+    let z = measured-ended (here (a .in-d) (a .pool .now) (a .rows .now) (l .i) o h) (a .pool .now) (a .rows .now) (c .before .before .before .before .before .r2 .given .1) (c .before .before .before .before .before .before .before .measure .ensures) in
     (ends-small (z .0) (z .2), l .inv .0)
 
 ended-requires : tie.Need-ended-requires Inv-loop μ-loop
 ended-requires c κs = search needs
 
 same-length-3 : tie.Need-same-length-3 Inv-loop μ-loop
-same-length-3 c = c .before .before .before .before .before .note .kept .0 ∙ c .before .before .before .before .before .before .before .before .before .before .before .before .before .before .loop .inv .2 .long ∙ sym (c .before .before .before .before .before .before .before .before .before .before .before .before .before .before .before .before .before .before .before .pre .1)
+same-length-3 c = c .before .before .before .before .before .note .kept .0 ∙ c .before .before .before .before .before .before .before .before .before .before .before .before .before .loop .inv .2 .long ∙ sym (c .before .before .before .before .before .before .before .before .before .before .before .before .before .before .before .before .before .pre)
 
 returns-3 : tie.Need-returns-3 Inv-loop μ-loop
 returns-3 c =
-    let a = c .before .before .before .before .before .before .before .before .before .before .before .before .before .before .before .before .before .before .before .args in
-    let l = c .before .before .before .before .before .before .before .before .before .before .before .before .before .before .loop in
-    let o = c .before .before .before .before .before .before .before .before .before .before .before .before .before .open-at .ensures in
-    let h = c .before .before .before .before .before .before .before .before .before .before .before .before .if1 .left in
-    let m = c .before .before .before .before .before .before .before .before .before .before .measure in
-    let z = ends-here (a .in-d) (a .pool .now) (a .rows .now) (l .i) o h (c .before .before .before .before .before .before .before .before .before .before .before .start-of .ensures) (m .result) (m .ensures) (c .before .before .before .before .before .before .before .before .r2 .given .1) in
+    let a = c .before .before .before .before .before .before .before .before .before .before .before .before .before .before .before .before .before .args in
+    let l = c .before .before .before .before .before .before .before .before .before .before .before .before .before .loop in
+    let o = c .before .before .before .before .before .before .before .before .before .before .before .before .open-at .ensures in
+    let h = c .before .before .before .before .before .before .before .before .before .before .before .if1 .left in
+    let z = measured-ended (here (a .in-d) (a .pool .now) (a .rows .now) (l .i) o h) (a .pool .now) (a .rows .now) (c .before .before .before .before .before .before .before .before .r2 .given .1) (c .before .before .before .before .before .before .before .before .before .before .measure .ensures) in
     record {
       is = c .ended .ensures (a .pool .now) ∙ sym (ap checkedOf (l .inv .1 ∙ check-base (a .in-d) (a .pool .now) (a .rows .now) (l .i) o (l .t) h z (c .before .before .count-in .ensures) (c .before .if2 .taken)));
       noted = subst (λ (x : List ℕ). (u : ℕ) → verdict 16 0 fine (wholePlan (editionOf (a .in-d)) (cellsAt (a .pool .now) (a .rows .now) 0)) ≡ needed u → Begins (insidesOf (wholePlan (editionOf (a .in-d)) (cellsAt (a .pool .now) (a .rows .now) 0))) x) (sym (c .before .before .before .before .before .note .ensures)) (noting-ends (a .in-d) (a .pool .now) (a .rows .now) (l .t) (l .inv .2) (omega (arith, l .inv .0)) (l .inv .1) o h z (c .before .if2 .taken));
@@ -106,22 +98,20 @@ returns-3 c =
 
 loop-less : tie.Need-loop-less Inv-loop μ-loop
 loop-less c =
-    let a = c .before .before .before .before .before .before .before .before .before .before .before .before .before .before .before .before .before .before .args in
-    let l = c .before .before .before .before .before .before .before .before .before .before .before .before .before .loop in
-    let o = c .before .before .before .before .before .before .before .before .before .before .before .before .open-at .ensures in
-    let h = c .before .before .before .before .before .before .before .before .before .before .before .if1 .left in
-    let m = c .before .before .before .before .before .before .before .before .before .measure in
-    let z = ends-here (a .in-d) (a .pool .now) (a .rows .now) (l .i) o h (c .before .before .before .before .before .before .before .before .before .before .start-of .ensures) (m .result) (m .ensures) (c .before .before .before .before .before .before .before .r2 .given .1) in
+    let a = c .before .before .before .before .before .before .before .before .before .before .before .before .before .before .before .before .args in
+    let l = c .before .before .before .before .before .before .before .before .before .before .before .before .loop in
+    let o = c .before .before .before .before .before .before .before .before .before .before .before .open-at .ensures in
+    let h = c .before .before .before .before .before .before .before .before .before .before .if1 .left in
+    let z = measured-ended (here (a .in-d) (a .pool .now) (a .rows .now) (l .i) o h) (a .pool .now) (a .rows .now) (c .before .before .before .before .before .before .before .r2 .given .1) (c .before .before .before .before .before .before .before .before .before .measure .ensures) in
     omega (arith, ends-later (a .in-d) (a .pool .now) (a .rows .now) (l .i) o (l .t) h z, z .3)
 
 loop-again : tie.Need-loop-again Inv-loop μ-loop
 loop-again c =
-    let a = c .before .before .before .before .before .before .before .before .before .before .before .before .before .before .before .before .before .before .args in
-    let l = c .before .before .before .before .before .before .before .before .before .before .before .before .before .loop in
-    let o = c .before .before .before .before .before .before .before .before .before .before .before .before .open-at .ensures in
-    let h = c .before .before .before .before .before .before .before .before .before .before .before .if1 .left in
-    let m = c .before .before .before .before .before .before .before .before .before .measure in
-    let z = ends-here (a .in-d) (a .pool .now) (a .rows .now) (l .i) o h (c .before .before .before .before .before .before .before .before .before .before .start-of .ensures) (m .result) (m .ensures) (c .before .before .before .before .before .before .before .r2 .given .1) in
+    let a = c .before .before .before .before .before .before .before .before .before .before .before .before .before .before .before .before .args in
+    let l = c .before .before .before .before .before .before .before .before .before .before .before .before .loop in
+    let o = c .before .before .before .before .before .before .before .before .before .before .before .open-at .ensures in
+    let h = c .before .before .before .before .before .before .before .before .before .before .if1 .left in
+    let z = measured-ended (here (a .in-d) (a .pool .now) (a .rows .now) (l .i) o h) (a .pool .now) (a .rows .now) (c .before .before .before .before .before .before .before .r2 .given .1) (c .before .before .before .before .before .before .before .before .before .measure .ensures) in
     let t = c .before .count-in .ensures in
     (t .bound, l .inv .1 ∙ check-extension (a .in-d) (a .pool .now) (a .rows .now) (l .i) o (l .t) h z t (c .if2 .left), subst (Noting (a .in-d) (a .pool .now) (a .rows .now) _ _) (sym (c .before .before .before .before .note .ensures)) (noting-on (a .in-d) (a .pool .now) (a .rows .now) (l .t) (l .inv .2) (omega (arith, l .inv .0)) (l .inv .1) o h z (t .less) (c .if2 .left)))
 
@@ -136,7 +126,6 @@ check-spec =
     same-length
     returns
     add-measure
-    start-of-requires
     measure-requires
     enum-known-r
     same-length-2

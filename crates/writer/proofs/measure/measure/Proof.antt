@@ -1,8 +1,8 @@
 -- `measure::measure`: a body over an empty part.
+use Rattle.meaning.specs.Headers.{start}
 use Rattle.writer.proofs.Envelopes.{measured}
 use Rattle.writer.specs.Bodies.{bodyOf, cellsAt}
-use Rattle.writer.specs.Fitting.{stateOf}
-use Rattle.writer.specs.Moves.{editionOf}
+use Rattle.writer.specs.Edition.{editionOf}
 use borrow.Author.Needs.{needs}
 use Rattle.writer.proofs.measure.measure.Statement.{statement}
 use Rattle.writer.proofs.measure.measure.Tie as tie
@@ -18,8 +18,8 @@ body-requires c κs = search needs
 
 returns : tie.Need-returns
 returns c =
-    let a = c .before .before .before .before .before .before .args in
-    measured (bodyOf (editionOf (a .in-d)) (cellsAt (a .pool .now) (a .rows .now) (a .from)) (a .from) (stateOf (a .s))) (a .pool .now) (a .rows .now) _ _ _ (c .before .body .ensures)
+    let a = c .before .before .before .before .before .args in
+    measured (bodyOf (editionOf (a .in-d)) (cellsAt (a .pool .now) (a .rows .now) (a .from)) (a .from) (start (a .base))) (a .pool .now) (a .rows .now) _ _ _ (c .before .body .ensures)
 
 pub measure-spec : {M : Type 1} → statement M
 measure-spec =

@@ -6,7 +6,7 @@ use Rattle.writer.proofs.Laying.{laid-layable, laid-length}
 use Rattle.writer.proofs.Lists.{item-on, laid-from, layable-from, texts-end}
 use Rattle.writer.proofs.Onward.{onward-none, onward-then}
 use Rattle.writer.specs.Laying.{Layable}
-use Rattle.writer.specs.Moves.{editionOf}
+use Rattle.writer.specs.Edition.{editionOf}
 use Rattle.writer.specs.Rooms.{TextsIn}
 use Rattle.writer.specs.Stages.{Onward}
 use borrow.Author.Needs.{needs}

@@ -1,0 +1,107 @@
+-- The inside of an envelope by its stages: what stands at its front, and its end behind the closing 01, where nothing fits any more.
+use Prim.Native.Nat.{ℕ, suc, _+_, _/_, _%_, _≤_, _<_}
+use mathlib.Core.List.{List, [], _∷_, _++_, append-nil}
+use mathlib.Core.Bool.{Bool, true, false, not}
+use mathlib.Core.Path.{_≡_, refl, ap, sym, _∙_, subst}
+use lib.Dec.{eqb}
+use lib.ListN.{length}
+use Rattle.meaning.specs.Basics.{pick}
+use Rattle.meaning.specs.Editions.{Edition, State, state, headDate, parameters, closed, outer, moves, shared, own, representations, sharedDate, ownDates}
+use Rattle.meaning.specs.Reading.{none, find}
+use Rattle.meaning.specs.Headers.{start}
+use Rattle.meaning.specs.Writing.{Cell, cell, broken, Opens, envelopeRow, innerRow, opensOf, fitRow}
+use Rattle.laws.specs.Fits.{close-once}
+use Rattle.writer.specs.Edition.{editionOf}
+use Rattle.writer.specs.Bodies.{rowCell, Body, halt, body, onBody, sealBody, rowBody, cellBody, bodyOf, cellsAt, opensNumber, openNumber, endsBefore, BodyIs}
+use Rattle.writer.specs.Rooms.{rowsOf, AllLead, Closes}
+use Rattle.writer.specs.Stages.{bodyAt, TakenIs, Onward, StageIs, afterNeeded}
+use Rattle.writer.specs.Parameters.{atParameters}
+use Rattle.writer.specs.declared.ahead.Taken.{Taken}
+use Rattle.writer.specs.declared.extras.Stage.{Stage}
+use Rattle.writer.specs.declared.body.Bodied.the-variants.{Stuck, Ended}
+use Rattle.writer.proofs.Bodies.{cells-next, cells-last}
+use Rattle.writer.proofs.Wholes.{none-fits}
+use Rattle.writer.proofs.Onward.{needed-on}
+
+-- a stage, by its answer
+pub stage-as : (inD : Bool) (pool rows : List ℕ) (i : ℕ) (st st₁ : State) (before : List ℕ) (at : ℕ) (after : List ℕ) {s r : Stage} → s ≡ r → StageIs inD pool rows i st st₁ before at s after → StageIs inD pool rows i st st₁ before at r after
+stage-as inD pool rows i st st₁ before at after e x = subst (λ (y : Stage). StageIs inD pool rows i st st₁ before at y after) e x
+
+-- "Base: FE, length, representation, date"
+
+abbrev pub atDate : State
+atDate = state headDate 0 false
+
+pub represented : (inD : Bool) (pool rows : List ℕ) (i : ℕ) (before : List ℕ) (at : ℕ) (t : Taken) (after : List ℕ) → TakenIs (representations (outer headDate)) 0 pool rows i before at t after
+    → {base : Bool} {s r : Stage} → base ≡ true → s ≡ afterNeeded i t → s ≡ r → StageIs inD pool rows i (start base) atDate before at r after
+unfolding moves shared own find
+represented inD pool rows i before at t after x {r = r} b q e =
+    let stands = needed-on inD pool rows i (start true) (representations (outer headDate)) (outer headDate) before at t after refl (refl, refl, (refl, refl, (refl, refl, (refl, refl, tt)))) (record { within = refl; represents = refl; receives = refl; by = refl }) x in
+    subst (λ (y : Bool). StageIs inD pool rows i (start y) atDate before at r after) (sym b) (stage-as inD pool rows i (start true) atDate before at after (sym q ∙ e) stands)
+
+dates-lead : (inD : Bool) → AllLead (sharedDate (outer parameters) ++ ownDates (editionOf inD) (outer parameters)) (outer parameters) atDate
+dates-lead true = (refl, refl, (refl, refl, (refl, refl, (refl, refl, (refl, refl, (refl, refl, tt))))))
+dates-lead false = (refl, refl, (refl, refl, tt))
+
+date-lost : (inD : Bool) → Closes (editionOf inD) atDate none
+unfolding moves shared own find
+date-lost true = record { within = refl; represents = refl; receives = refl; by = refl }
+date-lost false = record { within = refl; represents = refl; receives = refl; by = refl }
+
+pub dated : (inD : Bool) (pool rows : List ℕ) (i : ℕ) (before : List ℕ) (at : ℕ) (t : Taken) (after : List ℕ) → TakenIs (sharedDate (outer parameters) ++ ownDates (editionOf inD) (outer parameters)) 0 pool rows i before at t after
+    → {r : Stage} → r ≡ afterNeeded i t → StageIs inD pool rows i atDate atParameters before at r after
+unfolding moves shared own
+dated inD pool rows i before at t after x q =
+    stage-as inD pool rows i atDate atParameters before at after (sym q)
+    (needed-on inD pool rows i atDate (sharedDate (outer parameters) ++ ownDates (editionOf inD) (outer parameters)) (outer parameters) before at t after (all inD) (dates-lead inD) (date-lost inD) x)
+  where
+    all : (inD : Bool) → rowsOf (moves (editionOf inD) headDate) ≡ sharedDate (outer parameters) ++ ownDates (editionOf inD) (outer parameters)
+    all true = refl
+    all false = refl
+
+-- The end: the next envelope's row, or no row
+
+pub ends-last : (pool rows : List ℕ) (i : ℕ) → length rows / 4 ≤ i → eqb (length rows % 4) 0 ≡ endsBefore (cellsAt pool rows i)
+ends-last pool rows i h = sym (ap endsBefore (cells-last pool rows i h) ∙ at (eqb (length rows % 4) 0))
+  where
+    at : (b : Bool) → endsBefore (pick b [] (broken ∷ [])) ≡ b
+    at true = refl
+    at false = refl
+
+pub ends-open : (pool rows : List ℕ) (i : ℕ) → i < length rows / 4 → {n : ℕ} → n ≡ openNumber (cellsAt pool rows i) → not (eqb n 0) ≡ endsBefore (cellsAt pool rows i)
+ends-open pool rows i h q =
+    let c = cells-next pool rows i h in
+    ap (λ (k : ℕ). not (eqb k 0)) (q ∙ ap openNumber c) ∙ at (rowCell pool rows i) ∙ sym (ap endsBefore c)
+  where
+    at : (c : Cell) → not (eqb (openNumber (c ∷ cellsAt pool rows (i + 1))) 0) ≡ endsBefore (c ∷ cellsAt pool rows (i + 1))
+    at broken = refl
+    at (cell row) = refl
+
+-- behind the closing 01 nothing fits
+closed-body : (e : Edition) (cs : List Cell) (i : ℕ) → bodyOf e cs i (state closed 0 false) ≡ pick (endsBefore cs) (body [] i cs) (halt i)
+unfolding bodyOf
+closed-body e [] i = ap (sealBody i []) (close-once e (state closed 0 false))
+closed-body e (broken ∷ cs) i = refl
+closed-body e (cell row ∷ cs) i = at (opensOf row)
+  where
+    at : (o : Opens) → cellBody e (state closed 0 false) i row cs (bodyOf e cs (suc i)) o ≡ pick (not (eqb (opensNumber o) 0)) (body [] i (cell row ∷ cs)) (halt i)
+    at innerRow = ap (rowBody i (bodyOf e cs (suc i))) (none-fits e row (fitRow e (state closed 0 false) row) refl)
+    at (envelopeRow true) = ap (sealBody i (cell row ∷ cs)) (close-once e (state closed 0 false))
+    at (envelopeRow false) = ap (sealBody i (cell row ∷ cs)) (close-once e (state closed 0 false))
+
+pub body-stuck : {o : Body} (pool rows m : List ℕ) (at : ℕ) (m₁ : List ℕ) {j : ℕ} → o ≡ halt j → BodyIs o pool rows m at (Stuck j) m₁
+body-stuck pool rows m at m₁ {j} q = subst (λ (x : Body). BodyIs x pool rows m at (Stuck j) m₁) (sym q) refl
+
+-- what lies before the end is the whole inside
+module _ {inD : Bool} {pool rows : List ℕ} {i : ℕ} {st : State} {k : ℕ} {m : List ℕ} {at : ℕ} {m₁ : List ℕ} {p : ℕ} (a : Onward inD pool rows i st k (state closed 0 false) m at m₁ p) {b : Bool} (e : b ≡ endsBefore (cellsAt pool rows k)) where
+  abbrev bytes : List ℕ
+  bytes = a .onto .bytes
+
+  whole : {c : Bool} → b ≡ c → bodyAt inD pool rows i st ≡ onBody bytes (pick c (body [] k (cellsAt pool rows k)) (halt k))
+  whole q = a .onto .is ∙ ap (onBody bytes) (closed-body (editionOf inD) (cellsAt pool rows k) k ∙ ap (λ (x : Bool). pick x (body [] k (cellsAt pool rows k)) (halt k)) (sym e ∙ q))
+
+  pub body-ends : b ≡ true → BodyIs (bodyAt inD pool rows i st) pool rows m at (Ended k p) m₁
+  body-ends q = subst (λ (x : Body). BodyIs x pool rows m at (Ended k p) m₁) (sym (whole q ∙ ap (λ (x : List ℕ). body x k (cellsAt pool rows k)) (append-nil bytes))) (refl, a .inside, refl, a .onto .laid)
+
+  pub body-halts : b ≡ false → BodyIs (bodyAt inD pool rows i st) pool rows m at (Stuck k) m₁
+  body-halts q = body-stuck pool rows m at m₁ (whole q)
