@@ -1,0 +1,75 @@
+/* A plugin for the emulator, where a machine cannot run x86-64 programs itself: counts the instructions from an entry's first one
+   to its return, with what it calls, and prints them when the program ends.
+     qemu-x86_64 -plugin count.so,entry=ADDRESS PROGRAM ..
+   The emulator's own header is in no package; this is the part of its interface, version 1, that is needed. */
+#include <inttypes.h>
+#include <stdio.h>
+#include <stdlib.h>
+#include <string.h>
+
+typedef uint64_t plugin_id;
+struct translated;
+struct instruction;
+typedef void on_translated(plugin_id, struct translated *);
+typedef void on_executed(unsigned processor, void *place);
+typedef void on_exit_of(plugin_id, void *);
+
+enum { NO_REGISTERS = 0 };
+
+void qemu_plugin_register_vcpu_tb_trans_cb(plugin_id, on_translated *);
+void qemu_plugin_register_vcpu_insn_exec_cb(struct instruction *, on_executed *, int flags, void *place);
+void qemu_plugin_register_atexit_cb(plugin_id, on_exit_of *, void *);
+size_t qemu_plugin_tb_n_insns(const struct translated *);
+struct instruction *qemu_plugin_tb_get_insn(const struct translated *, size_t);
+uint64_t qemu_plugin_insn_vaddr(const struct instruction *);
+
+int qemu_plugin_version = 1;
+
+/* A call instruction has at most seven bytes: the return is that close behind it. */
+enum { LONGEST_CALL = 7 };
+
+static uint64_t entry, before, call, counted;
+static int inside;
+
+static void executed(unsigned processor, void *at)
+{
+    (void)processor;
+    uint64_t place = (uint64_t)(uintptr_t)at;
+    if (!inside && place == entry) {
+        inside = 1;
+        call = before;
+    } else if (inside && call < place && place <= call + LONGEST_CALL) {
+        inside = 0;
+    }
+    counted += (uint64_t)inside;
+    before = place;
+}
+
+static void translated(plugin_id id, struct translated *block)
+{
+    (void)id;
+    for (size_t i = 0; i < qemu_plugin_tb_n_insns(block); i++) {
+        struct instruction *one = qemu_plugin_tb_get_insn(block, i);
+        qemu_plugin_register_vcpu_insn_exec_cb(one, executed, NO_REGISTERS, (void *)(uintptr_t)qemu_plugin_insn_vaddr(one));
+    }
+}
+
+static void ended(plugin_id id, void *unused)
+{
+    (void)id;
+    (void)unused;
+    fprintf(stderr, "Collected : %" PRIu64 "\n", counted);
+}
+
+int qemu_plugin_install(plugin_id id, const void *information, int words, char **word)
+{
+    (void)information;
+    if (words != 1 || strncmp(word[0], "entry=", 6) != 0) {
+        fputs("usage: -plugin count.so,entry=ADDRESS\n", stderr);
+        return 1;
+    }
+    entry = strtoull(word[0] + 6, NULL, 16);
+    qemu_plugin_register_vcpu_tb_trans_cb(id, translated);
+    qemu_plugin_register_atexit_cb(id, ended, NULL);
+    return 0;
+}
