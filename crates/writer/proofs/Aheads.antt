@@ -69,9 +69,5 @@ module _ {pool rows : List ℕ} {i : ℕ} {r : Ahead} (kind level : ℕ) (a : Ah
 
 -- What was taken, by the answer
 
-module _ (l : List Move) (level : ℕ) (pool rows : List ℕ) (i : ℕ) (before : List ℕ) (at : ℕ) (after : List ℕ) {r : Taken} where
-  pub taken-to : {p : ℕ} → r ≡ To p → TakenIs l level pool rows i before at r after → RowTaken l level pool rows i before at after p
-  taken-to q t = subst (λ (x : Taken). TakenIs l level pool rows i before at x after) q t
-
-  pub taken-other : r ≡ Other → TakenIs l level pool rows i before at r after → (after ≡ before) × NotAmong l level (cellsAt pool rows i)
-  taken-other q t = subst (λ (x : Taken). TakenIs l level pool rows i before at x after) q t
+pub taken-as : (l : List Move) (level : ℕ) (pool rows : List ℕ) (i : ℕ) (before : List ℕ) (at : ℕ) (after : List ℕ) {r r₁ : Taken} → r ≡ r₁ → TakenIs l level pool rows i before at r after → TakenIs l level pool rows i before at r₁ after
+taken-as l level pool rows i before at after q t = subst (λ (x : Taken). TakenIs l level pool rows i before at x after) q t

@@ -145,3 +145,15 @@ module _ {pool rows : List ℕ} {i : ℕ} (m : Move) (level : ℕ) {r : Ahead} (
 
   pub sought-not : 3 ≤ m .kind → r .kind ≡ 0 → NotAmong (m ∷ []) level (cellsAt pool rows i)
   sought-not h z = cells-none m level q (cellsAt pool rows i) (sought-away s h z)
+
+-- Among none
+
+pub nothing-among : (level : ℕ) (cs : List Cell) → NotAmong [] level cs
+unfolding find
+nothing-among level [] = tt
+nothing-among level (broken ∷ cs) = tt
+nothing-among level (cell row ∷ cs) = at (eqb (row .level) level)
+  where
+    at : (b : Bool) → atLevel b none ≡ none
+    at true = refl
+    at false = refl

@@ -22,14 +22,13 @@ use Rattle.writer.specs.Parameters.{atParameters, afterOne, afterStage, 
 use Rattle.writer.specs.declared.ahead.Ahead.{Ahead}
 use Rattle.writer.specs.declared.ahead.Taken.{Taken}
 use Rattle.writer.specs.declared.ahead.Taken.the-variants.{To, Other}
-use Rattle.writer.specs.declared.extras.Stage.{Stage}
-use Rattle.writer.specs.declared.extras.Stage.the-variants as stage
+use Rattle.writer.specs.declared.stage.Stage.{Stage}
+use Rattle.writer.specs.declared.stage.Stage.the-variants as stage
 use Rattle.writer.specs.declared.parameters.Parameter.{Parameter}
 use Rattle.writer.specs.declared.parameters.Parameter.the-variants.{Go, Last, Stuck}
-use Rattle.writer.proofs.Among.{find-kind, level-hit, not-hit, sole-move, same-kind, takes}
+use Rattle.writer.proofs.Among.{find-kind, nothing-among, level-hit, not-hit, sole-move, same-kind, takes}
 use Rattle.writer.proofs.Openings.{opens-past}
 use Rattle.writer.proofs.Onward.{onward-then, onward-stuck, own-on, stage-then}
-use Rattle.writer.proofs.Receiving.{nothing-among}
 use Rattle.writer.proofs.Stands.{parameters-close, parameters-pass}
 
 -- A row by the only move of its kind
@@ -108,15 +107,15 @@ module _ (inD : Bool) (pool rows : List ℕ) (i : ℕ) {r : Ahead} (a : AheadIs 
       at (inl y) = subst ClosingAhead (sym (y .cells)) w
       at (inr y) = no-row (cellsAt pool rows i) (y .1)
 
-  found-as : (before : List ℕ) (at : ℕ) (p : Parameter) (after : List ℕ) → wayTo (r .kind) ≡ closing → ParameterIs inD l pool rows i before at p after → FoundIs inD pool rows i before at p after
-  found-as before at (Go k p) after w x = x
-  found-as before at Last after w x = (x .0, none-there (x .1), closing-ahead w)
-  found-as before at (Stuck j) after w x = x
+  found-by : (before : List ℕ) (at : ℕ) (p : Parameter) (after : List ℕ) → wayTo (r .kind) ≡ closing → ParameterIs inD l pool rows i before at p after → FoundIs inD pool rows i before at p after
+  found-by before at (Go k p) after w x = x
+  found-by before at Last after w x = (x .0, none-there (x .1), closing-ahead w)
+  found-by before at (Stuck j) after w x = x
 
 module _ (inD : Bool) (pool rows : List ℕ) (i k : ℕ) {r : Ahead} (a : AheadIs pool rows i r) (q : r .kind ≡ k) (w : wayTo k ≡ closing) (before : List ℕ) (at : ℕ) where
   pub found-kind : (l : List Move) → ofKind k (moves (editionOf inD) parameters) ≡ ofKind k l → (p : Parameter) (after : List ℕ) → ParameterIs inD l pool rows i before at p after → FoundIs inD pool rows i before at p after
   found-kind l is p after x =
-      found-as inD pool rows i a l (ap (λ (n : ℕ). ofKind n (moves (editionOf inD) parameters)) q ∙ is ∙ sym (ap (λ (n : ℕ). ofKind n l) q)) before at p after (ap wayTo q ∙ w) x
+      found-by inD pool rows i a l (ap (λ (n : ℕ). ofKind n (moves (editionOf inD) parameters)) q ∙ is ∙ sym (ap (λ (n : ℕ). ofKind n l) q)) before at p after (ap wayTo q ∙ w) x
 
   pub found-none : {after : List ℕ} → after ≡ before → ofKind k (moves (editionOf inD) parameters) ≡ [] → FoundIs inD pool rows i before at Last after
   found-none {after} e is = found-kind [] is Last after (e, nothing-among 0 (cellsAt pool rows i))
@@ -165,15 +164,8 @@ parameters-end inD pool rows i x w h l =
       inside = h;
     }
 
-module _ (inD : Bool) (pool rows : List ℕ) (i : ℕ) (before : List ℕ) (at : ℕ) (after : List ℕ) {r : Parameter} (f : FoundIs inD pool rows i before at r after) where
-  pub found-go : {k p : ℕ} → r ≡ Go k p → Onward inD pool rows i atParameters k atParameters before at after p × (i < k)
-  found-go q = subst (λ (x : Parameter). FoundIs inD pool rows i before at x after) q f
-
-  pub found-last : r ≡ Last → (after ≡ before) × NotAmong (moves (editionOf inD) parameters) 0 (cellsAt pool rows i) × ClosingAhead (cellsAt pool rows i)
-  found-last q = subst (λ (x : Parameter). FoundIs inD pool rows i before at x after) q f
-
-  pub found-stuck : {j : ℕ} → r ≡ Stuck j → bodyAt inD pool rows i atParameters ≡ halt j
-  found-stuck q = subst (λ (x : Parameter). FoundIs inD pool rows i before at x after) q f
+pub found-as : (inD : Bool) (pool rows : List ℕ) (i : ℕ) (before : List ℕ) (at : ℕ) (after : List ℕ) {r r₁ : Parameter} → r ≡ r₁ → FoundIs inD pool rows i before at r after → FoundIs inD pool rows i before at r₁ after
+found-as inD pool rows i before at after q f = subst (λ (x : Parameter). FoundIs inD pool rows i before at x after) q f
 
 pub leading : {inD : Bool} {pool rows : List ℕ} {i : ℕ} {st : State} {k : ℕ} {st₁ st₂ : State} {before : List ℕ} {at : ℕ} {after : List ℕ} {p : ℕ} → st₁ ≡ st₂ → Onward inD pool rows i st k st₁ before at after p → Onward inD pool rows i st k st₂ before at after p
 leading {inD} {pool} {rows} {i} {st} {k} {before = before} {at = at} {after = after} {p = p} q a = subst (λ (s : State). Onward inD pool rows i st k s before at after p) q a

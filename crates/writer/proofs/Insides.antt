@@ -17,47 +17,18 @@ use Rattle.writer.specs.Rooms.{rowsOf, AllLead, Closes}
 use Rattle.writer.specs.Stages.{bodyAt, TakenIs, Onward, StageIs, afterNeeded}
 use Rattle.writer.specs.Parameters.{atParameters}
 use Rattle.writer.specs.declared.ahead.Taken.{Taken}
-use Rattle.writer.specs.declared.extras.Stage.{Stage}
+use Rattle.writer.specs.declared.stage.Stage.{Stage}
 use Rattle.writer.specs.declared.body.Bodied.the-variants.{Stuck, Ended}
 use Rattle.writer.proofs.Bodies.{cells-next, cells-last}
 use Rattle.writer.proofs.Wholes.{none-fits}
-use Rattle.writer.proofs.Onward.{needed-on}
+use Rattle.writer.proofs.Onward.{needed-is}
+use Rattle.writer.proofs.Rooms.{front-representation}
 
--- a stage, by its answer
-pub stage-as : (inD : Bool) (pool rows : List ℕ) (i : ℕ) (st st₁ : State) (before : List ℕ) (at : ℕ) (after : List ℕ) {s r : Stage} → s ≡ r → StageIs inD pool rows i st st₁ before at s after → StageIs inD pool rows i st st₁ before at r after
-stage-as inD pool rows i st st₁ before at after e x = subst (λ (y : Stage). StageIs inD pool rows i st st₁ before at y after) e x
-
--- "Base: FE, length, representation, date"
-
-abbrev pub atDate : State
-atDate = state headDate 0 false
-
+-- "Base: FE, length, representation, date": what is known of the representation, where the code asks whether the envelope is the base
 pub represented : (inD : Bool) (pool rows : List ℕ) (i : ℕ) (before : List ℕ) (at : ℕ) (t : Taken) (after : List ℕ) → TakenIs (representations (outer headDate)) 0 pool rows i before at t after
-    → {base : Bool} {s r : Stage} → base ≡ true → s ≡ afterNeeded i t → s ≡ r → StageIs inD pool rows i (start base) atDate before at r after
-unfolding moves shared own find
+    → {base : Bool} {s r : Stage} → base ≡ true → s ≡ afterNeeded i t → s ≡ r → StageIs inD pool rows i (start base) (state headDate 0 false) before at r after
 represented inD pool rows i before at t after x {r = r} b q e =
-    let stands = needed-on inD pool rows i (start true) (representations (outer headDate)) (outer headDate) before at t after refl (refl, refl, (refl, refl, (refl, refl, (refl, refl, tt)))) (record { within = refl; represents = refl; receives = refl; by = refl }) x in
-    subst (λ (y : Bool). StageIs inD pool rows i (start y) atDate before at r after) (sym b) (stage-as inD pool rows i (start true) atDate before at after (sym q ∙ e) stands)
-
-dates-lead : (inD : Bool) → AllLead (sharedDate (outer parameters) ++ ownDates (editionOf inD) (outer parameters)) (outer parameters) atDate
-dates-lead true = (refl, refl, (refl, refl, (refl, refl, (refl, refl, (refl, refl, (refl, refl, tt))))))
-dates-lead false = (refl, refl, (refl, refl, tt))
-
-date-lost : (inD : Bool) → Closes (editionOf inD) atDate none
-unfolding moves shared own find
-date-lost true = record { within = refl; represents = refl; receives = refl; by = refl }
-date-lost false = record { within = refl; represents = refl; receives = refl; by = refl }
-
-pub dated : (inD : Bool) (pool rows : List ℕ) (i : ℕ) (before : List ℕ) (at : ℕ) (t : Taken) (after : List ℕ) → TakenIs (sharedDate (outer parameters) ++ ownDates (editionOf inD) (outer parameters)) 0 pool rows i before at t after
-    → {r : Stage} → r ≡ afterNeeded i t → StageIs inD pool rows i atDate atParameters before at r after
-unfolding moves shared own
-dated inD pool rows i before at t after x q =
-    stage-as inD pool rows i atDate atParameters before at after (sym q)
-    (needed-on inD pool rows i atDate (sharedDate (outer parameters) ++ ownDates (editionOf inD) (outer parameters)) (outer parameters) before at t after (all inD) (dates-lead inD) (date-lost inD) x)
-  where
-    all : (inD : Bool) → rowsOf (moves (editionOf inD) headDate) ≡ sharedDate (outer parameters) ++ ownDates (editionOf inD) (outer parameters)
-    all true = refl
-    all false = refl
+    subst (λ (y : Bool). StageIs inD pool rows i (start y) (state headDate 0 false) before at r after) (sym b) (needed-is inD pool rows i (start true) (front-representation inD) before at t after x (sym e ∙ q))
 
 -- The end: the next envelope's row, or no row
 

@@ -6,6 +6,8 @@ pub mod Bodies
 pub mod Aheads
 pub mod Among
 pub mod Forms
+pub mod Rooms
+pub mod Others
 pub mod Stands
 pub mod Onward
 pub mod Lists
@@ -13,7 +15,6 @@ pub mod Optional
 pub mod Turning
 pub mod Receiving
 pub mod Choosing
-pub mod Behind
 pub mod Wholes
 pub mod Insides
 pub mod Envelopes

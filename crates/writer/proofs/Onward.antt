@@ -13,12 +13,12 @@ use Rattle.meaning.specs.Writing.{unfit, fits, lead, atLevel, standsFor, writeV
 use Rattle.writer.specs.Edition.{editionOf}
 use Rattle.writer.specs.Laying.{Laid, Layable}
 use Rattle.writer.specs.Bodies.{Body, halt, body, onBody, rowBody, bodyOf, cellsAt, BodyOnto}
-use Rattle.writer.specs.Rooms.{rowsOf, ownAmong, NotAmong, AllLead, Closes}
+use Rattle.writer.specs.Rooms.{rowsOf, ownAmong, NotAmong, AllLead, Closes, Needs}
 use Rattle.writer.specs.Stages.{bodyAt, RowTaken, TakenIs, Onward, StageIs, Beyond, afterNeeded}
 use Rattle.writer.specs.declared.ahead.Taken.{Taken}
 use Rattle.writer.specs.declared.ahead.Taken.the-variants.{To, Other}
-use Rattle.writer.specs.declared.extras.Stage.{Stage}
-use Rattle.writer.specs.declared.extras.Stage.the-variants.{Go, Stuck}
+use Rattle.writer.specs.declared.stage.Stage.{Stage}
+use Rattle.writer.specs.declared.stage.Stage.the-variants.{Go, Stuck}
 use Rattle.writer.proofs.Laying.{laid-then, laid-layable}
 use Rattle.writer.proofs.Bodies.{body-row, body-starts}
 use Rattle.writer.proofs.Among.{find-rows, hit-leads, level-hit}
@@ -59,12 +59,8 @@ beyond inD pool rows k st st₁ m at (Go n p) m₁ h s = omega (arith, s .later)
 beyond inD pool rows k st st₁ m at (Stuck j) m₁ h s = tt
 
 -- the same by the answer
-module _ (inD : Bool) (pool rows : List ℕ) (i : ℕ) (st st₁ : State) (before : List ℕ) (at : ℕ) (after : List ℕ) {r : Stage} where
-  pub stage-go : {k p : ℕ} → r ≡ Go k p → StageIs inD pool rows i st st₁ before at r after → Onward inD pool rows i st k st₁ before at after p
-  stage-go q s = subst (λ (x : Stage). StageIs inD pool rows i st st₁ before at x after) q s
-
-  pub stage-stuck : {j : ℕ} → r ≡ Stuck j → StageIs inD pool rows i st st₁ before at r after → bodyAt inD pool rows i st ≡ halt j
-  stage-stuck q s = subst (λ (x : Stage). StageIs inD pool rows i st st₁ before at x after) q s
+pub stage-as : (inD : Bool) (pool rows : List ℕ) (i : ℕ) (st st₁ : State) (before : List ℕ) (at : ℕ) (after : List ℕ) {r r₁ : Stage} → r ≡ r₁ → StageIs inD pool rows i st st₁ before at r after → StageIs inD pool rows i st st₁ before at r₁ after
+stage-as inD pool rows i st st₁ before at after q s = subst (λ (x : Stage). StageIs inD pool rows i st st₁ before at x after) q s
 
 -- A row by its own move
 
@@ -109,7 +105,7 @@ not-in-room e st l (broken ∷ cs) q x = tt
 not-in-room e st l (cell row ∷ cs) q x = ap (atLevel (eqb (row .level) (st .level))) (find-rows row (moves e (st .room)) ∙ ap (find (standsFor row)) q) ∙ x
 
 module _ (inD : Bool) (pool rows : List ℕ) {i : ℕ} (st : State) {l : List Move} (q : rowsOf (moves (editionOf inD) (st .room)) ≡ l) (x : NotAmong l (st .level) (cellsAt pool rows i)) where
-  pub close-on : {m : Move} {before : List ℕ} {at : ℕ} {after : List ℕ} {p : ℕ} → Closes (editionOf inD) st (hit m) → i ≤ length rows / 4 → Laid before at (m .code ∷ []) after p → Onward inD pool rows i st i (go (m .next) st) before at after p
+  pub close-on : {m : Move} {before : List ℕ} {at : ℕ} {after : List ℕ} {p : ℕ} → Closes (editionOf inD) (st .room) (hit m) → i ≤ length rows / 4 → Laid before at (m .code ∷ []) after p → Onward inD pool rows i st i (go (m .next) st) before at after p
   close-on {m} c h d =
       record {
         onto = record { bytes = m .code ∷ []; is = body-closes (editionOf inD) st c (cellsAt pool rows i) i (not-in-room (editionOf inD) st l (cellsAt pool rows i) q x); laid = d };
@@ -117,15 +113,21 @@ module _ (inD : Bool) (pool rows : List ℕ) {i : ℕ} (st : State) {l : List Mo
         inside = h;
       }
 
-  pub lost-on : Closes (editionOf inD) st none → bodyAt inD pool rows i st ≡ halt i
+  pub lost-on : Closes (editionOf inD) (st .room) none → bodyAt inD pool rows i st ≡ halt i
   lost-on c = body-lost (editionOf inD) st c (cellsAt pool rows i) i (not-in-room (editionOf inD) st l (cellsAt pool rows i) q x)
 
--- what has to stand here
-pub needed-on : (inD : Bool) (pool rows : List ℕ) (i : ℕ) (st : State) (l : List Move) (n : Next) (before : List ℕ) (at : ℕ) (t : Taken) (after : List ℕ) → rowsOf (moves (editionOf inD) (st .room)) ≡ l → AllLead l n st → Closes (editionOf inD) st none
-    → TakenIs l (st .level) pool rows i before at t after → StageIs inD pool rows i st (go n st) before at (afterNeeded i t) after
-needed-on inD pool rows i st l n before at (To p) after q a c t = taken-on inD pool rows st t n q a
-needed-on inD pool rows i st l n before at Other after q a c t = lost-on inD pool rows st q (t .1) c
+-- What has to stand here
 
-pub needed-as : (inD : Bool) (pool rows : List ℕ) (i : ℕ) (st : State) (l : List Move) (n : Next) (before : List ℕ) (at : ℕ) (t : Taken) (after : List ℕ) {r : Stage} → rowsOf (moves (editionOf inD) (st .room)) ≡ l → AllLead l n st → Closes (editionOf inD) st none
-    → TakenIs l (st .level) pool rows i before at t after → r ≡ afterNeeded i t → StageIs inD pool rows i st (go n st) before at r after
-needed-as inD pool rows i st l n before at t after q a c x e = subst (λ (r : Stage). StageIs inD pool rows i st (go n st) before at r after) (sym e) (needed-on inD pool rows i st l n before at t after q a c x)
+module _ (inD : Bool) (pool rows : List ℕ) {i : ℕ} (st : State) {l : List Move} {n : Next} (w : Needs (editionOf inD) st l n) where
+  pub needed-on : {before : List ℕ} {at : ℕ} {after : List ℕ} {p : ℕ} → RowTaken l (st .level) pool rows i before at after p → Onward inD pool rows i st (i + 1) (go n st) before at after p
+  needed-on t = taken-on inD pool rows st t n (w .rows) (w .lead)
+
+  pub needed-lost : NotAmong l (st .level) (cellsAt pool rows i) → bodyAt inD pool rows i st ≡ halt i
+  needed-lost x = lost-on inD pool rows st (w .rows) x (w .lost)
+
+pub needed-is : (inD : Bool) (pool rows : List ℕ) (i : ℕ) (st : State) {l : List Move} {n : Next} → Needs (editionOf inD) st l n → (before : List ℕ) (at : ℕ) (t : Taken) (after : List ℕ) {r : Stage} → TakenIs l (st .level) pool rows i before at t after → r ≡ afterNeeded i t → StageIs inD pool rows i st (go n st) before at r after
+needed-is inD pool rows i st {l} {n} w before at t after x q = stage-as inD pool rows i st (go n st) before at after (sym q) (by t x)
+  where
+    by : (t : Taken) → TakenIs l (st .level) pool rows i before at t after → StageIs inD pool rows i st (go n st) before at (afterNeeded i t) after
+    by (To p) y = needed-on inD pool rows st w y
+    by Other y = needed-lost inD pool rows st w (y .1)

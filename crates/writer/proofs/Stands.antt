@@ -11,7 +11,7 @@ use Rattle.meaning.specs.Reading.{isClosed, Row, Found, none, hit, find, orElse
 use Rattle.meaning.specs.Writing.{Fit, unfit, fits, led, Way, ways, wayOf, wayTo, atLevel, fitBy, place, standsFor, isPass, valid, fitRow, closeBy, close, Cell, cell, broken, Opens, envelopeRow, innerRow, opensOf}
 use Rattle.laws.specs.Fits.{fit-once, close-once}
 use Rattle.writer.specs.Edition.{editionOf}
-use Rattle.writer.specs.Rooms.{ownAmong, NotAmong, Closes}
+use Rattle.writer.specs.Rooms.{ownAmong, NotAmong, Passes, Closes}
 use Rattle.writer.specs.Parameters.{atParameters, WayAhead, ClosingAhead}
 use Rattle.writer.specs.Bodies.{Body, halt, body, onBody, sealBody, rowBody, cellBody, bodyOf, opensNumber}
 
@@ -97,17 +97,23 @@ module _ (e : Edition) (st : State) (within : isClosed (st .room) ≡ false) whe
       at (envelopeRow c) = ap (sealBody i (cell row ∷ cs)) (closes-by r)
 
 -- a room whose only pass is a closing, or that has none
-module _ (e : Edition) (st : State) {o : Found} (c : Closes e st o) where
-  led-all : (cs : List Cell) → LedBy e st (c .within) o cs
+module _ (e : Edition) (st : State) {o : Found} (c : Closes e (st .room) o) where
+  within : isClosed (st .room) ≡ false
+  within = ap (λ (p : Passes). p .ended) c
+
+  by : find (isPass closing) (moves e (st .room)) ≡ o
+  by = ap (λ (p : Passes). p .closes) c
+
+  led-all : (cs : List Cell) → LedBy e st within o cs
   led-all [] = tt
   led-all (broken ∷ cs) = tt
-  led-all (cell row ∷ cs) = one-pass (moves e (st .room)) (c .represents) (c .receives) (c .by) (row .kind)
+  led-all (cell row ∷ cs) = one-pass (moves e (st .room)) (ap (λ (p : Passes). p .represents) c) (ap (λ (p : Passes). p .receives) c) by (row .kind)
 
-pub body-closes : (e : Edition) (st : State) {m : Move} → Closes e st (hit m) → (cs : List Cell) (i : ℕ) → NotAmong (moves e (st .room)) (st .level) cs → bodyOf e cs i st ≡ onBody (m .code ∷ []) (bodyOf e cs i (go (m .next) st))
-body-closes e st c cs i = closing-first e st (c .within) (c .by) cs i (led-all e st c cs)
+pub body-closes : (e : Edition) (st : State) {m : Move} → Closes e (st .room) (hit m) → (cs : List Cell) (i : ℕ) → NotAmong (moves e (st .room)) (st .level) cs → bodyOf e cs i st ≡ onBody (m .code ∷ []) (bodyOf e cs i (go (m .next) st))
+body-closes e st c cs i = closing-first e st (within e st c) (by e st c) cs i (led-all e st c cs)
 
-pub body-lost : (e : Edition) (st : State) → Closes e st none → (cs : List Cell) (i : ℕ) → NotAmong (moves e (st .room)) (st .level) cs → bodyOf e cs i st ≡ halt i
-body-lost e st c cs i = nothing-fits e st (c .within) (c .by) cs i (led-all e st c cs)
+pub body-lost : (e : Edition) (st : State) → Closes e (st .room) none → (cs : List Cell) (i : ℕ) → NotAmong (moves e (st .room)) (st .level) cs → bodyOf e cs i st ≡ halt i
+body-lost e st c cs i = nothing-fits e st (within e st c) (by e st c) cs i (led-all e st c cs)
 
 -- the parameters, before a row that has no code of its own there
 pub parameters-close : (e : Edition) (cs : List Cell) (i : ℕ) → ClosingAhead cs → NotAmong (moves e parameters) 0 cs → bodyOf e cs i atParameters ≡ onBody (0x01 ∷ []) (bodyOf e cs i (state closed 0 false))

@@ -1,4 +1,4 @@
--- Agents: the rooms that an agent goes through, by computation in each edition, and the turns of a list one behind the other.
+-- Agents: where an agent and a list end, and the turns of a list one behind the other.
 use Prim.Native.Nat.{ℕ, zero, suc, _+_, _-_, _/_, _≤_, _<_}
 use mathlib.Core.List.{List, [], _∷_}
 use mathlib.Core.Bool.{Bool, true, false, _&&_}
@@ -21,29 +21,8 @@ use Rattle.writer.specs.Turns.{extraCode, agentNames, agentsAt, rowsAndL
 use Rattle.writer.specs.declared.agents.Turn.{Turn}
 use Rattle.writer.specs.declared.agents.Turn.the-variants.{On, Done, Stuck}
 use Rattle.writer.proofs.Among.{sole-move}
+use Rattle.writer.proofs.Rooms.{agent-extras, agent-names, list-closes, one-agent}
 use Rattle.writer.proofs.Onward.{onward-then, onward-stuck, taken-on, taken-deep, close-on, lost-on}
-
--- The rooms
-
-pub addresses-in : (inD : Bool) → moves (editionOf inD) afterName ≡ on 0x02 ▸ addressesOpen ▸ opens ▸ stay addressTexts ∷ moves (editionOf inD) afterAddresses
-unfolding moves shared own
-addresses-in true = refl
-addresses-in false = refl
-
-pub resolvers-in : (inD : Bool) → moves (editionOf inD) afterAddresses ≡ on 0x03 ▸ resolversOpen ▸ opens ▸ deeper agentList ∷ moves (editionOf inD) afterResolvers
-unfolding moves shared own
-resolvers-in true = refl
-resolvers-in false = refl
-
-pub address-texts : (inD : Bool) (level : ℕ) (single : Bool) → TextsIn (editionOf inD) addressTexts address level single (state afterAddresses level single)
-unfolding moves shared own find
-address-texts true level single = record { item = stay addressTexts; rows = refl; again = refl; next = stay afterAddresses; closes = record { within = refl; represents = refl; receives = refl; by = refl }; leads = refl; shallow = refl }
-address-texts false level single = record { item = stay addressTexts; rows = refl; again = refl; next = stay afterAddresses; closes = record { within = refl; represents = refl; receives = refl; by = refl }; leads = refl; shallow = refl }
-
-agent-extras : (inD : Bool) (level : ℕ) (single : Bool) → ExtrasIn (editionOf inD) afterResolvers level single (extraCode inD) (go agentEnds (state afterResolvers level single))
-unfolding moves shared own find
-agent-extras true level single = record { value = agentExtra; rows = refl; values = refl; lost = record { within = refl; represents = refl; receives = refl; by = refl }; next = agentEnds; closes = record { within = refl; represents = refl; receives = refl; by = refl }; leads = refl }
-agent-extras false level single = record { value = agentExtra; rows = refl; values = refl; lost = record { within = refl; represents = refl; receives = refl; by = refl }; next = agentEnds; closes = record { within = refl; represents = refl; receives = refl; by = refl }; leads = refl }
 
 -- the code is what the edition says
 pub extras-coded : (inD : Bool) (level : ℕ) (single : Bool) {code : ℕ} → code ≡ extraCode inD → ExtrasIn (editionOf inD) afterResolvers level single code (go agentEnds (state afterResolvers level single))
@@ -52,23 +31,6 @@ extras-coded inD level single q = subst (λ (k : ℕ). ExtrasIn (editionOf inD) 
 pub extra-coded : (inD : Bool) {code : ℕ} → code ≡ extraCode inD → code ≤ 256
 extra-coded true q = omega arith
 extra-coded false q = omega arith
-
-names-in : (inD b : Bool) → rowsOf (moves (editionOf inD) (pick b oneAgent agentList)) ≡ agentNames
-unfolding moves shared own
-names-in true true = refl
-names-in true false = refl
-names-in false true = refl
-names-in false false = refl
-
-list-closes : (inD : Bool) (level : ℕ) (single : Bool) → Closes (editionOf inD) (state agentList level single) (hit (pass closing ▸ listEnds))
-unfolding moves shared own find
-list-closes true level single = record { within = refl; represents = refl; receives = refl; by = refl }
-list-closes false level single = record { within = refl; represents = refl; receives = refl; by = refl }
-
-one-lost : (inD : Bool) (level : ℕ) (single : Bool) → Closes (editionOf inD) (state oneAgent level single) none
-unfolding moves shared own find
-one-lost true level single = record { within = refl; represents = refl; receives = refl; by = refl }
-one-lost false level single = record { within = refl; represents = refl; receives = refl; by = refl }
 
 -- Where an agent and a list end
 
@@ -110,19 +72,19 @@ first level single q = ap (λ (n : ℕ). go listEnds (state agentList n single))
 
 module _ (inD : Bool) (pool rows : List ℕ) {i : ℕ} (level : ℕ) (single : Bool) where
   pub name-on : {before : List ℕ} {at : ℕ} {after : List ℕ} {p : ℕ} → level ≤ 8 → RowTaken agentNames level pool rows i before at after p → Onward inD pool rows i (agentsAt level single) (i + 1) (state afterName level single) before at after p
-  name-on h t = taken-on inD pool rows (agentsAt level single) t (stay afterName) (names-in inD (single && eqb level 1)) (refl, le-ltb 8 level h, tt)
+  name-on h t = taken-on inD pool rows (agentsAt level single) t (stay afterName) (agent-names inD (single && eqb level 1)) (refl, le-ltb 8 level h, tt)
 
   pub name-deep : {before : List ℕ} {at : ℕ} {after : List ℕ} {p : ℕ} → 8 < level → RowTaken agentNames level pool rows i before at after p → bodyAt inD pool rows i (agentsAt level single) ≡ halt i
   name-deep h t =
-      taken-deep inD pool rows (agentsAt level single) t (names-in inD (single && eqb level 1))
+      taken-deep inD pool rows (agentsAt level single) t (agent-names inD (single && eqb level 1))
       (ap (λ (m : Move). tooDeep m (agentsAt level single)) (sym (sole-move _ level (t .row) (t .stands))) ∙ lt-ltb 8 level h)
 
   module _ (x : NotAmong agentNames level (cellsAt pool rows i)) where
     pub one-missing : (single && eqb level 1) ≡ true → bodyAt inD pool rows i (agentsAt level single) ≡ halt i
-    one-missing q = lost-on inD pool rows (agentsAt level single) (names-in inD (single && eqb level 1)) x (subst (λ (b : Bool). Closes (editionOf inD) (state (pick b oneAgent agentList) level single) none) (sym q) (one-lost inD level single))
+    one-missing q = lost-on inD pool rows (agentsAt level single) (agent-names inD (single && eqb level 1)) x (subst (λ (b : Bool). Closes (editionOf inD) (pick b oneAgent agentList) none) (sym q) (one-agent inD))
 
     list-on : {before : List ℕ} {at : ℕ} {after : List ℕ} {p : ℕ} → (single && eqb level 1) ≡ false → i ≤ length rows / 4 → Laid before at (1 ∷ []) after p → Onward inD pool rows i (agentsAt level single) i (go listEnds (state agentList level single)) before at after p
-    list-on q h l = close-on inD pool rows (agentsAt level single) (names-in inD (single && eqb level 1)) x (subst (λ (b : Bool). Closes (editionOf inD) (state (pick b oneAgent agentList) level single) (hit (pass closing ▸ listEnds))) (sym q) (list-closes inD level single)) h l
+    list-on q h l = close-on inD pool rows (agentsAt level single) (agent-names inD (single && eqb level 1)) x (subst (λ (b : Bool). Closes (editionOf inD) (pick b oneAgent agentList) (hit (pass closing ▸ listEnds))) (sym q) (list-closes inD)) h l
 
     pub list-done : {before : List ℕ} {at : ℕ} {after : List ℕ} {p : ℕ} → (single && eqb level 1) ≡ false → level ≡ 1 → i ≤ length rows / 4 → Laid before at (1 ∷ []) after p → Onward inD pool rows i (agentsAt level single) i (state parameters 0 false) before at after p
     list-done {before} {at} {after} {p} q e h l = subst (λ (s : State). Onward inD pool rows i (agentsAt level single) i s before at after p) (first level single e) (list-on q h l)
@@ -137,15 +99,8 @@ turn-then single left left₁ (On k level p) m₂ small h a t = (onward-then sma
 turn-then single left left₁ (Done k p) m₂ small h a t = onward-then small a t
 turn-then single left left₁ (Stuck j) m₂ small h a t = onward-stuck small a t
 
-module _ (inD single : Bool) (pool rows : List ℕ) (i : ℕ) (st : State) (left : ℕ) (before : List ℕ) (at : ℕ) (after : List ℕ) {r : Turn} where
-  pub turn-on : {k level p : ℕ} → r ≡ On k level p → TurnIs inD single pool rows i st left before at r after → Onward inD pool rows i st k (agentsAt level single) before at after p × (1 ≤ level) × (level ≤ 9) × (rowsAndLevels rows k level ≤ left)
-  turn-on q t = subst (λ (x : Turn). TurnIs inD single pool rows i st left before at x after) q t
-
-  pub turn-done : {k p : ℕ} → r ≡ Done k p → TurnIs inD single pool rows i st left before at r after → Onward inD pool rows i st k (state parameters 0 false) before at after p
-  turn-done q t = subst (λ (x : Turn). TurnIs inD single pool rows i st left before at x after) q t
-
-  pub turn-stuck : {j : ℕ} → r ≡ Stuck j → TurnIs inD single pool rows i st left before at r after → bodyAt inD pool rows i st ≡ halt j
-  turn-stuck q t = subst (λ (x : Turn). TurnIs inD single pool rows i st left before at x after) q t
+pub turn-as : (inD single : Bool) (pool rows : List ℕ) (i : ℕ) (st : State) (left : ℕ) (before : List ℕ) (at : ℕ) (after : List ℕ) {r r₁ : Turn} → r ≡ r₁ → TurnIs inD single pool rows i st left before at r after → TurnIs inD single pool rows i st left before at r₁ after
+turn-as inD single pool rows i st left before at after q t = subst (λ (x : Turn). TurnIs inD single pool rows i st left before at x after) q t
 
 -- memory that a row which stands elsewhere left as it was
 pub turn-from : (inD single : Bool) (pool rows : List ℕ) (i : ℕ) (st : State) (left : ℕ) (at : ℕ) (r : Turn) (after : List ℕ) {before m : List ℕ} → before ≡ m → TurnIs inD single pool rows i st left before at r after → TurnIs inD single pool rows i st left m at r after

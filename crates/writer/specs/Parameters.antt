@@ -13,8 +13,8 @@ use Rattle.writer.specs.Rooms.{ofKind, NotAmong}
 use Rattle.writer.specs.Stages.{bodyAt, Onward}
 use Rattle.writer.specs.declared.ahead.Taken.{Taken}
 use Rattle.writer.specs.declared.ahead.Taken.the-variants.{To, Other}
-use Rattle.writer.specs.declared.extras.Stage.{Stage}
-use Rattle.writer.specs.declared.extras.Stage.the-variants as stage
+use Rattle.writer.specs.declared.stage.Stage.{Stage}
+use Rattle.writer.specs.declared.stage.Stage.the-variants as stage
 use Rattle.writer.specs.declared.parameters.Parameter.{Parameter}
 use Rattle.writer.specs.declared.parameters.Parameter.the-variants.{Go, Last, Stuck}
 

@@ -35,12 +35,25 @@ abbrev pub AllLead : List Move → Next → State → Type 0
 AllLead [] n st = Unit {0}
 AllLead (m ∷ l) n st = (m .next ≡ n) × (tooDeep m st ≡ false) × AllLead l n st
 
+-- the passes of a room, and whether it is the end
+pub record Passes : Type 0 where
+  pub represents : Found
+  pub receives : Found
+  pub closes : Found
+  pub ended : Bool
+
+abbrev pub passesOf : Edition → Room → Passes
+passesOf e r = record { represents = find (isPass 0x04) (moves e r); receives = find (isPass 0x0a) (moves e r); closes = find (isPass closing) (moves e r); ended = isClosed r }
+
 -- a room whose only pass, if it has one, is a closing
-pub record Closes (e : Edition) (st : State) (o : Found) : Type 0 where
-  pub within : isClosed (st .room) ≡ false
-  pub represents : find (isPass 0x04) (moves e (st .room)) ≡ none
-  pub receives : find (isPass 0x0a) (moves e (st .room)) ≡ none
-  pub by : find (isPass closing) (moves e (st .room)) ≡ o
+abbrev pub Closes : Edition → Room → Found → Type 0
+Closes e r o = passesOf e r ≡ record { represents = none; receives = none; closes = o; ended = false }
+
+-- a room that must have one of these rows, which all lead the same way
+pub record Needs (e : Edition) (st : State) (l : List Move) (n : Next) : Type 0 where
+  pub rows : rowsOf (moves e (st .room)) ≡ l
+  pub lead : AllLead l n st
+  pub lost : Closes e (st .room) none
 
 -- a list of texts: items, and a closing that leads on
 pub record TextsIn (e : Edition) (room : Room) (kind level : ℕ) (single : Bool) (st₁ : State) : Type 0 where
@@ -48,7 +61,7 @@ pub record TextsIn (e : Edition) (room : Room) (kind level : ℕ) (single : Bool
   pub rows : rowsOf (moves e room) ≡ on noCode ▸ kind ▸ text ▸ item ∷ []
   pub again : go item (state room level single) ≡ state room level single
   pub next : Next
-  pub closes : Closes e (state room level single) (hit (pass closing ▸ next))
+  pub closes : Closes e room (hit (pass closing ▸ next))
   pub leads : go next (state room level single) ≡ st₁
   pub shallow : eqb kind agentName ≡ false
 
@@ -64,7 +77,7 @@ pub record ExtrasIn (e : Edition) (room : Room) (level : ℕ) (single : Bool) (c
   pub value : Room
   pub rows : rowsOf (moves e room) ≡ on code ▸ extraKey ▸ text ▸ stay value ∷ []
   pub values : rowsOf (moves e value) ≡ anyValues (stay room)
-  pub lost : Closes e (state value level single) none
+  pub lost : Closes e value none
   pub next : Next
-  pub closes : Closes e (state room level single) (hit (pass closing ▸ next))
+  pub closes : Closes e room (hit (pass closing ▸ next))
   pub leads : go next (state room level single) ≡ st₁

@@ -15,8 +15,8 @@ use Rattle.writer.specs.Rooms.{ownAmong, NotAmong}
 use Rattle.writer.specs.declared.ahead.Ahead.{Ahead}
 use Rattle.writer.specs.declared.ahead.Taken.{Taken}
 use Rattle.writer.specs.declared.ahead.Taken.the-variants.{To, Other}
-use Rattle.writer.specs.declared.extras.Stage.{Stage}
-use Rattle.writer.specs.declared.extras.Stage.the-variants.{Go, Stuck}
+use Rattle.writer.specs.declared.stage.Stage.{Stage}
+use Rattle.writer.specs.declared.stage.Stage.the-variants.{Go, Stuck}
 
 -- The row ahead
 

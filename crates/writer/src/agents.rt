@@ -2,11 +2,11 @@
 use crate::ahead::Taken;
 use crate::ahead::opened;
 use crate::ahead::text;
-use crate::extras::Stage;
 use crate::extras::extras;
 use crate::kinds;
 use crate::lay::put;
-use crate::texts::Step;
+use crate::stage::Stage;
+use crate::stage::Step;
 use crate::texts::texts;
 ghost use mathlib.Core.Path.{_≡_};
 ghost use mathlib.Core.Bool.{Bool, false};

@@ -1,10 +1,10 @@
 // The inside of one envelope, stage by stage.
 use crate::dates::date;
-use crate::extras::Stage;
-use crate::extras::needed;
 use crate::parameters::parameters;
 use crate::received::received;
 use crate::representation::representation;
+use crate::stage::Stage;
+use crate::stage::needed;
 ghost use mathlib.Core.Path.{_≡_};
 ghost use mathlib.Core.Bool.{false};
 ghost use Prim.Native.Nat.{_/_, _≤_, _<_};

@@ -4,31 +4,12 @@ use crate::ahead::text;
 use crate::any::any;
 use crate::kinds;
 use crate::lay::put;
-ghost use mathlib.Core.Path.{_≡_};
+use crate::stage::Stage;
 ghost use mathlib.Core.Bool.{Bool};
-ghost use Prim.Native.Nat.{_≤_};
 ghost use Rattle.meaning.specs.Editions.{Room, State, state};
 ghost use Rattle.writer.specs.Edition.{editionOf};
 ghost use Rattle.writer.specs.Rooms.{ExtrasIn};
-ghost use Rattle.writer.specs.Stages.{TakeRequires, afterNeeded, StageIs};
-
-// The row ahead and the place behind what was laid; or the row that fits nowhere.
-pub enum Stage {
-    Go { row: usize, at: usize },
-    Stuck(usize),
-}
-
-// What has to stand here.
-pub fn needed(t: Taken, i: usize) -> Stage
-    requires { ⌜ i ≤ 4611686018427387903 ⌝ }
-    ensures { λ r. ⌜ r ≡ afterNeeded i t ⌝ }
-{
-    let Taken::To(p) = t else {
-        return Stage::Stuck(i);
-    };
-    let next = i + 1;
-    Stage::Go { row: next, at: p }
-}
+ghost use Rattle.writer.specs.Stages.{TakeRequires, StageIs};
 
 // Extras, as many as there are, and the 01 behind them.
 pub fn extras(

@@ -12,6 +12,7 @@ mod measure;
 mod parameters;
 mod received;
 mod representation;
+mod stage;
 mod texts;
 mod value;
 

@@ -2,10 +2,10 @@
 use crate::ahead::Taken;
 use crate::ahead::text;
 use crate::dates::date;
-use crate::extras::Stage;
 use crate::extras::extras;
 use crate::kinds;
 use crate::lay::put;
+use crate::stage::Stage;
 use crate::texts::optional;
 ghost use mathlib.Core.Path.{_≡_};
 ghost use mathlib.Core.Bool.{false};

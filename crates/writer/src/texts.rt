@@ -2,6 +2,7 @@
 use crate::ahead::Taken;
 use crate::ahead::text;
 use crate::lay::put;
+use crate::stage::Step;
 ghost use mathlib.Core.Path.{_≡_};
 ghost use mathlib.Core.Bool.{Bool};
 ghost use Rattle.meaning.specs.Editions.{Room, State, state};
@@ -11,12 +12,6 @@ ghost use Rattle.writer.specs.Stages.{TakeRequires, Onward};
 
 // No code stands before an item of a list.
 const NO_CODE: usize = 256;
-
-// The row ahead, and the place behind what was laid.
-pub struct Step {
-    pub row: usize,
-    pub at: usize,
-}
 
 // "In a list of texts, 01 where an item would begin ends the list."
 pub fn texts(

@@ -1,11 +1,11 @@
 -- `agents::addresses`: the list is there, or the room behind it does as well.
 use Rattle.meaning.specs.Editions.{state, stay, afterName, addressTexts, afterAddresses}
-use Rattle.writer.proofs.Aheads.{taken-other, taken-to}
+use Rattle.writer.proofs.Aheads.{taken-as}
 use Rattle.writer.proofs.Laying.{laid-layable}
 use Rattle.writer.proofs.Lists.{unmoved}
 use Rattle.writer.proofs.Onward.{onward-then}
 use Rattle.writer.proofs.Optional.{part-off, part-on}
-use Rattle.writer.proofs.Turning.{address-texts, addresses-in}
+use Rattle.writer.proofs.Rooms.{address-texts, agent-addresses}
 use borrow.Author.Needs.{needs}
 use mathlib.Core.Path.{refl}
 use native.Mathlib.Omega.{arith}
@@ -27,15 +27,15 @@ same-length c = search needs
 returns : tie.Need-returns
 returns c inD single =
     let entry = c .before .before .before .before .before .before .before .before .before in
-    let other = taken-other _ _ _ _ _ _ _ _ (c .enum-told .given .1) (c .before .before .before .before .opened .ensures (stay addressTexts)) in
-    unmoved (other .0) (part-off inD _ _ afterName afterAddresses (addresses-in inD) (entry .args .level) single refl refl refl (entry .pre .inside) (entry .pre .layable) (other .1))
+    let other = taken-as _ _ _ _ _ _ _ _ (c .enum-told .given .1) (c .before .before .before .before .opened .ensures (stay addressTexts)) in
+    unmoved (other .0) (part-off inD _ _ afterName afterAddresses (agent-addresses inD) (entry .args .level) single refl refl refl (entry .pre .inside) (entry .pre .layable) (other .1))
 
 add-next : tie.Need-add-next
 add-next c = search needs
 
 texts-requires : tie.Need-texts-requires
 texts-requires c κs =
-    let taken = taken-to _ _ _ _ _ _ _ _ (c .before .before .t .given .1) (c .before .before .before .before .before .before .opened .ensures (stay addressTexts)) in
+    let taken = taken-as _ _ _ _ _ _ _ _ (c .before .before .t .given .1) (c .before .before .before .before .before .before .opened .ensures (stay addressTexts)) in
     record { inside = omega (arith, taken .ahead .within); inner = omega arith; coded = omega arith; layable = laid-layable (taken .laid) (c .before .before .before .before .before .before .before .before .before .before .before .pre .layable) }
 
 same-length-2 : tie.Need-same-length-2
@@ -45,8 +45,8 @@ returns-2 : tie.Need-returns-2
 returns-2 c inD single =
     let entry = c .before .before .before .before .before .before .before .before .before .before .before .before .before .before in
     let level = entry .args .level in
-    let taken = taken-to _ _ _ _ _ _ _ _ (c .before .before .before .before .before .t .given .1) (c .before .before .before .before .before .before .before .before .before .opened .ensures (stay addressTexts)) in
-    onward-then (entry .pre .layable .small) (part-on inD _ _ afterName afterAddresses (addresses-in inD) level single taken refl) (c .before .before .texts .ensures inD addressTexts single (state afterAddresses level single) (address-texts inD level single))
+    let taken = taken-as _ _ _ _ _ _ _ _ (c .before .before .before .before .before .t .given .1) (c .before .before .before .before .before .before .before .before .before .opened .ensures (stay addressTexts)) in
+    onward-then (entry .pre .layable .small) (part-on inD _ _ afterName afterAddresses (agent-addresses inD) level single taken refl) (c .before .before .texts .ensures inD addressTexts single (state afterAddresses level single) (address-texts inD level single))
 
 pub addresses-spec : {M : Type 1} → statement M
 addresses-spec =

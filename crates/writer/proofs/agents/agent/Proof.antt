@@ -1,11 +1,12 @@
 -- `agents::agent`: a name that is too deep; an agent up to its resolvers; an agent without them; or the end of the list.
 use Rattle.meaning.specs.Editions.{stay, deeper, agentList, afterName, afterAddresses, afterResolvers}
-use Rattle.writer.proofs.Aheads.{taken-other, taken-to}
+use Rattle.writer.proofs.Aheads.{taken-as}
 use Rattle.writer.proofs.Laying.{laid-layable}
 use Rattle.writer.proofs.Lists.{layable-from, unmoved}
 use Rattle.writer.proofs.Onward.{onward-layable, onward-then}
 use Rattle.writer.proofs.Optional.{part-off, part-on}
-use Rattle.writer.proofs.Turning.{name-deep, name-on, resolvers-in, resolvers-on, turn-from, turn-then}
+use Rattle.writer.proofs.Rooms.{agent-resolvers}
+use Rattle.writer.proofs.Turning.{name-deep, name-on, resolvers-on, turn-from, turn-then}
 use Prim.Native.Nat.{_-_}
 use Rattle.writer.specs.Turns.{rowsAndLevels}
 use borrow.Author.Needs.{needs}
@@ -26,33 +27,33 @@ enum-told c = search needs
 list-ends-requires : tie.Need-list-ends-requires
 list-ends-requires c κs =
     let pre = c .before .before .before .before .before .before .before .before .before .before .pre in
-    let other = taken-other _ _ _ _ _ _ _ _ (c .before .enum-told .given .1) (c .before .before .before .before .before .text .ensures (stay afterName)) in
+    let other = taken-as _ _ _ _ _ _ _ _ (c .before .enum-told .given .1) (c .before .before .before .before .before .text .ensures (stay afterName)) in
     (record { inside = pre .inside; least = pre .least; most = pre .most; layable = layable-from (other .0) (pre .layable) }, other .1)
 
 same-length : tie.Need-same-length
 same-length c = search needs
 
 returns : tie.Need-returns
-returns c = turn-from _ _ _ _ _ _ _ _ (c .before .before .list-ends .result) _ (taken-other _ _ _ _ _ _ _ _ (c .before .before .before .before .enum-told .given .1) (c .before .before .before .before .before .before .before .before .text .ensures (stay afterName)) .0) (c .before .before .list-ends .ensures)
+returns c = turn-from _ _ _ _ _ _ _ _ (c .before .before .list-ends .result) _ (taken-as _ _ _ _ _ _ _ _ (c .before .before .before .before .enum-told .given .1) (c .before .before .before .before .before .before .before .before .text .ensures (stay afterName)) .0) (c .before .before .list-ends .ensures)
 
 same-length-2 : tie.Need-same-length-2
 same-length-2 c = search needs
 
 returns-2 : tie.Need-returns-2
-returns-2 c = let a = c .before .before .before .before .before .before .before .before .before .before .before .args in name-deep (a .in-d) _ _ (a .level) (a .single) (c .if1 .taken) (taken-to _ _ _ _ _ _ _ _ (c .before .before .t .given .1) (c .before .before .before .before .before .before .text .ensures (stay afterName)))
+returns-2 c = let a = c .before .before .before .before .before .before .before .before .before .before .before .args in name-deep (a .in-d) _ _ (a .level) (a .single) (c .if1 .taken) (taken-as _ _ _ _ _ _ _ _ (c .before .before .t .given .1) (c .before .before .before .before .before .before .text .ensures (stay afterName)))
 
 add-named : tie.Need-add-named
 add-named c = search needs
 
 addresses-requires : tie.Need-addresses-requires
 addresses-requires c κs =
-    let taken = taken-to _ _ _ _ _ _ _ _ (c .before .before .before .t .given .1) (c .before .before .before .before .before .before .before .text .ensures (stay afterName)) in
+    let taken = taken-as _ _ _ _ _ _ _ _ (c .before .before .before .t .given .1) (c .before .before .before .before .before .before .before .text .ensures (stay afterName)) in
     record { inside = omega (arith, taken .ahead .within); inner = omega arith; coded = omega arith; layable = laid-layable (taken .laid) (c .before .before .before .before .before .before .before .before .before .before .before .before .pre .layable) }
 
 opened-requires : tie.Need-opened-requires
 opened-requires c κs =
     let a = c .before .before .before .before .before .before .before .before .before .before .before .before .before .before .before .before .args in
-    let taken = taken-to _ _ _ _ _ _ _ _ (c .before .before .before .before .before .before .before .t .given .1) (c .before .before .before .before .before .before .before .before .before .before .before .text .ensures (stay afterName)) in
+    let taken = taken-as _ _ _ _ _ _ _ _ (c .before .before .before .before .before .before .before .t .given .1) (c .before .before .before .before .before .before .before .before .before .before .before .text .ensures (stay afterName)) in
     let s = c .before .before .before .addresses .ensures (a .in-d) (a .single) in
     record { inside = s .inside; inner = omega arith; coded = omega arith; layable = onward-layable s (laid-layable (taken .laid) (c .before .before .before .before .before .before .before .before .before .before .before .before .before .before .before .before .pre .layable)) }
 
@@ -66,9 +67,9 @@ agent-ends-requires : tie.Need-agent-ends-requires
 agent-ends-requires c κs =
     let a = c .before .before .before .before .before .before .before .before .before .before .before .before .before .before .before .before .before .before .before .before .before .before .args in
     let pre = c .before .before .before .before .before .before .before .before .before .before .before .before .before .before .before .before .before .before .before .before .before .before .pre in
-    let taken = taken-to _ _ _ _ _ _ _ _ (c .before .before .before .before .before .before .before .before .before .before .before .before .before .t .given .1) (c .before .before .before .before .before .before .before .before .before .before .before .before .before .before .before .before .before .text .ensures (stay afterName)) in
+    let taken = taken-as _ _ _ _ _ _ _ _ (c .before .before .before .before .before .before .before .before .before .before .before .before .before .t .given .1) (c .before .before .before .before .before .before .before .before .before .before .before .before .before .before .before .before .before .text .ensures (stay afterName)) in
     let s = c .before .before .before .before .before .before .before .before .before .addresses .ensures (a .in-d) (a .single) in
-    let other = taken-other _ _ _ _ _ _ _ _ (c .before .enum-told2 .given .1) (c .before .before .before .before .before .opened .ensures (deeper agentList)) in
+    let other = taken-as _ _ _ _ _ _ _ _ (c .before .enum-told2 .given .1) (c .before .before .before .before .before .opened .ensures (deeper agentList)) in
     record { inside = s .inside; least = pre .least; most = pre .most; layable = layable-from (other .0) (onward-layable s (laid-layable (taken .laid) (pre .layable))) }
 
 same-length-3 : tie.Need-same-length-3
@@ -78,10 +79,10 @@ returns-3 : tie.Need-returns-3
 returns-3 c =
     let a = c .before .before .before .before .before .before .before .before .before .before .before .before .before .before .before .before .before .before .before .before .before .before .before .before .before .args in
     let pre = c .before .before .before .before .before .before .before .before .before .before .before .before .before .before .before .before .before .before .before .before .before .before .before .before .before .pre in
-    let taken = taken-to _ _ _ _ _ _ _ _ (c .before .before .before .before .before .before .before .before .before .before .before .before .before .before .before .before .t .given .1) (c .before .before .before .before .before .before .before .before .before .before .before .before .before .before .before .before .before .before .before .before .text .ensures (stay afterName)) in
+    let taken = taken-as _ _ _ _ _ _ _ _ (c .before .before .before .before .before .before .before .before .before .before .before .before .before .before .before .before .t .given .1) (c .before .before .before .before .before .before .before .before .before .before .before .before .before .before .before .before .before .before .before .before .text .ensures (stay afterName)) in
     let s = c .before .before .before .before .before .before .before .before .before .before .before .before .addresses .ensures (a .in-d) (a .single) in
-    let other = taken-other _ _ _ _ _ _ _ _ (c .before .before .before .before .enum-told2 .given .1) (c .before .before .before .before .before .before .before .before .opened .ensures (deeper agentList)) in
-    let none = unmoved (other .0) (part-off (a .in-d) _ _ afterAddresses afterResolvers (resolvers-in (a .in-d)) (a .level) (a .single) refl refl refl (s .inside) (onward-layable s (laid-layable (taken .laid) (pre .layable))) (other .1)) in
+    let other = taken-as _ _ _ _ _ _ _ _ (c .before .before .before .before .enum-told2 .given .1) (c .before .before .before .before .before .before .before .before .opened .ensures (deeper agentList)) in
+    let none = unmoved (other .0) (part-off (a .in-d) _ _ afterAddresses afterResolvers (agent-resolvers (a .in-d)) (a .level) (a .single) refl refl refl (s .inside) (onward-layable s (laid-layable (taken .laid) (pre .layable))) (other .1)) in
     let on = onward-then (pre .layable .small) (onward-then (pre .layable .small) (name-on (a .in-d) _ _ (a .level) (a .single) (omega (arith, c .before .before .before .before .before .before .before .before .before .before .before .before .before .before .if1 .left)) taken) s) none in
     turn-then (a .single) (rowsAndLevels (a .rows .now) (c .before .before .before .before .before .before .before .before .before .before .before .before .addresses .result .row) (a .level)) (rowsAndLevels (a .rows .now) (a .i) (a .level) - 1) (c .before .before .agent-ends .result) _ (pre .layable .small) (omega (arith, s .later, s .inside, taken .ahead .within)) on (c .before .before .agent-ends .ensures)
 
@@ -98,10 +99,10 @@ returns-4 : tie.Need-returns-4
 returns-4 c =
     let a = c .before .before .before .before .before .before .before .before .before .before .before .before .before .before .before .before .before .before .before .before .before .before .args in
     let pre = c .before .before .before .before .before .before .before .before .before .before .before .before .before .before .before .before .before .before .before .before .before .before .pre in
-    let taken = taken-to _ _ _ _ _ _ _ _ (c .before .before .before .before .before .before .before .before .before .before .before .before .before .t .given .1) (c .before .before .before .before .before .before .before .before .before .before .before .before .before .before .before .before .before .text .ensures (stay afterName)) in
+    let taken = taken-as _ _ _ _ _ _ _ _ (c .before .before .before .before .before .before .before .before .before .before .before .before .before .t .given .1) (c .before .before .before .before .before .before .before .before .before .before .before .before .before .before .before .before .before .text .ensures (stay afterName)) in
     let s = c .before .before .before .before .before .before .before .before .before .addresses .ensures (a .in-d) (a .single) in
-    let resolvers = taken-to _ _ _ _ _ _ _ _ (c .before .o .given .1) (c .before .before .before .before .before .opened .ensures (deeper agentList)) in
-    let on = onward-then (pre .layable .small) (onward-then (pre .layable .small) (name-on (a .in-d) _ _ (a .level) (a .single) (omega (arith, c .before .before .before .before .before .before .before .before .before .before .before .if1 .left)) taken) s) (part-on (a .in-d) _ _ afterAddresses afterResolvers (resolvers-in (a .in-d)) (a .level) (a .single) resolvers refl) in
+    let resolvers = taken-as _ _ _ _ _ _ _ _ (c .before .o .given .1) (c .before .before .before .before .before .opened .ensures (deeper agentList)) in
+    let on = onward-then (pre .layable .small) (onward-then (pre .layable .small) (name-on (a .in-d) _ _ (a .level) (a .single) (omega (arith, c .before .before .before .before .before .before .before .before .before .before .before .if1 .left)) taken) s) (part-on (a .in-d) _ _ afterAddresses afterResolvers (agent-resolvers (a .in-d)) (a .level) (a .single) resolvers refl) in
     (resolvers-on (a .level) (a .single) (pre .least) on, omega arith, omega (arith, c .before .before .before .before .before .before .before .before .before .before .before .if1 .left), omega (arith, s .later, resolvers .ahead .within))
 
 pub agent-spec : {M : Type 1} → statement M

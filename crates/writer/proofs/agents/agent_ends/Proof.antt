@@ -1,6 +1,6 @@
 -- `agents::agent_ends`: the extras, and where the agent's 01 leads.
 use Rattle.meaning.specs.Editions.{state, afterResolvers, agentEnds, go}
-use Rattle.writer.proofs.Onward.{stage-go, stage-stuck}
+use Rattle.writer.proofs.Onward.{stage-as}
 use Rattle.writer.proofs.Turning.{agent-done, agent-listed, extra-coded, extras-coded}
 use borrow.Author.Needs.{needs}
 use native.Mathlib.Omega.{arith}
@@ -25,7 +25,7 @@ same-length c = search needs
 returns : tie.Need-returns
 returns c =
     let a = c .before .before .before .before .before .before .before .before .before .before .before .before .args in
-    agent-done (a .level) (a .single) (stage-go _ _ _ _ _ _ _ _ _ (c .before .before .s2 .given .1) (c .before .before .before .before .before .before .extras .ensures (a .in-d) afterResolvers (a .single) (go agentEnds (state afterResolvers (a .level) (a .single))) (extras-coded (a .in-d) (a .level) (a .single) (c .before .before .before .before .before .before .before .before .extra-code .ensures)))) (c .if1 .taken)
+    agent-done (a .level) (a .single) (stage-as _ _ _ _ _ _ _ _ _ (c .before .before .s2 .given .1) (c .before .before .before .before .before .before .extras .ensures (a .in-d) afterResolvers (a .single) (go agentEnds (state afterResolvers (a .level) (a .single))) (extras-coded (a .in-d) (a .level) (a .single) (c .before .before .before .before .before .before .before .before .extra-code .ensures)))) (c .if1 .taken)
 
 same-length-2 : tie.Need-same-length-2
 same-length-2 c = search needs
@@ -33,7 +33,7 @@ same-length-2 c = search needs
 returns-2 : tie.Need-returns-2
 returns-2 c =
     let a = c .before .before .before .before .before .before .before .before .before .before .before .args in
-    stage-stuck _ _ _ _ _ _ _ _ _ (c .before .s .given .1) (c .before .before .before .before .before .extras .ensures (a .in-d) afterResolvers (a .single) (go agentEnds (state afterResolvers (a .level) (a .single))) (extras-coded (a .in-d) (a .level) (a .single) (c .before .before .before .before .before .before .before .extra-code .ensures)))
+    stage-as _ _ _ _ _ _ _ _ _ (c .before .s .given .1) (c .before .before .before .before .before .extras .ensures (a .in-d) afterResolvers (a .single) (go agentEnds (state afterResolvers (a .level) (a .single))) (extras-coded (a .in-d) (a .level) (a .single) (c .before .before .before .before .before .before .before .extra-code .ensures)))
 
 same-length-3 : tie.Need-same-length-3
 same-length-3 c = search needs
@@ -42,7 +42,7 @@ returns-3 : tie.Need-returns-3
 returns-3 c =
     let a = c .before .before .before .before .before .before .before .before .before .before .before .before .args in
     let pre = c .before .before .before .before .before .before .before .before .before .before .before .before .pre in
-    let on = agent-listed (a .level) (a .single) (stage-go _ _ _ _ _ _ _ _ _ (c .before .before .s2 .given .1) (c .before .before .before .before .before .before .extras .ensures (a .in-d) afterResolvers (a .single) (go agentEnds (state afterResolvers (a .level) (a .single))) (extras-coded (a .in-d) (a .level) (a .single) (c .before .before .before .before .before .before .before .before .extra-code .ensures)))) (c .if1 .left) in
+    let on = agent-listed (a .level) (a .single) (stage-as _ _ _ _ _ _ _ _ _ (c .before .before .s2 .given .1) (c .before .before .before .before .before .before .extras .ensures (a .in-d) afterResolvers (a .single) (go agentEnds (state afterResolvers (a .level) (a .single))) (extras-coded (a .in-d) (a .level) (a .single) (c .before .before .before .before .before .before .before .before .extra-code .ensures)))) (c .if1 .left) in
     (on, pre .least, pre .most, omega (arith, on .later))
 
 pub agent-ends-spec : {M : Type 1} → statement M

@@ -2,7 +2,7 @@
 use Prim.Native.Nat.{_/_, _≤_}
 use Rattle.writer.proofs.Laying.{laid-layable, laid-length}
 use Rattle.writer.proofs.Onward.{onward-layable, onward-none, onward-stuck, onward-then}
-use Rattle.writer.proofs.Turning.{turn-done, turn-on, turn-stuck}
+use Rattle.writer.proofs.Turning.{turn-as}
 use Rattle.writer.specs.Laying.{Layable}
 use Rattle.writer.specs.Stages.{Onward}
 use Rattle.writer.specs.Turns.{agentsAt, rowsAndLevels}
@@ -36,7 +36,7 @@ same-length : tie.Need-same-length Inv-loop μ-loop
 same-length c = search needs
 
 returns : tie.Need-returns Inv-loop μ-loop
-returns c = onward-stuck (c .before .before .before .before .before .before .before .before .before .before .before .pre .layable .small) (c .before .before .before .before .before .before .before .loop .inv .5) (turn-stuck _ _ _ _ _ _ _ _ _ _ (c .before .t .given .1) (c .before .before .before .before .before .agent .ensures))
+returns c = onward-stuck (c .before .before .before .before .before .before .before .before .before .before .before .pre .layable .small) (c .before .before .before .before .before .before .before .loop .inv .5) (turn-as _ _ _ _ _ _ _ _ _ _ (c .before .t .given .1) (c .before .before .before .before .before .agent .ensures))
 
 enum-known-t-2 : tie.Need-enum-known-t-2 Inv-loop μ-loop
 enum-known-t-2 c = search needs
@@ -45,18 +45,18 @@ same-length-2 : tie.Need-same-length-2 Inv-loop μ-loop
 same-length-2 c = search needs
 
 returns-2 : tie.Need-returns-2 Inv-loop μ-loop
-returns-2 c = onward-then (c .before .before .before .before .before .before .before .before .before .before .before .pre .layable .small) (c .before .before .before .before .before .before .before .loop .inv .5) (turn-done _ _ _ _ _ _ _ _ _ _ (c .before .t2 .given .1) (c .before .before .before .before .before .agent .ensures))
+returns-2 c = onward-then (c .before .before .before .before .before .before .before .before .before .before .before .pre .layable .small) (c .before .before .before .before .before .before .before .loop .inv .5) (turn-as _ _ _ _ _ _ _ _ _ _ (c .before .t2 .given .1) (c .before .before .before .before .before .agent .ensures))
 
 enum-known-t-3 : tie.Need-enum-known-t-3 Inv-loop μ-loop
 enum-known-t-3 c = search needs
 
 loop-less : tie.Need-loop-less Inv-loop μ-loop
-loop-less c = omega (arith, c .before .before .before .before .before .before .before .loop .inv .1, turn-on _ _ _ _ _ _ _ _ _ _ (c .before .t3 .given .1) (c .before .before .before .before .before .agent .ensures) .3)
+loop-less c = omega (arith, c .before .before .before .before .before .before .before .loop .inv .1, turn-as _ _ _ _ _ _ _ _ _ _ (c .before .t3 .given .1) (c .before .before .before .before .before .agent .ensures) .3)
 
 loop-again : tie.Need-loop-again Inv-loop μ-loop
 loop-again c =
     let l = c .before .before .before .before .before .before .before .loop in
-    let on = turn-on _ _ _ _ _ _ _ _ _ _ (c .before .t3 .given .1) (c .before .before .before .before .before .agent .ensures) in
+    let on = turn-as _ _ _ _ _ _ _ _ _ _ (c .before .t3 .given .1) (c .before .before .before .before .before .agent .ensures) in
     (on .0 .inside, on .1, on .2, onward-layable (on .0) (l .inv .3), laid-length (on .0 .onto .laid) ∙ l .inv .4, onward-then (c .before .before .before .before .before .before .before .before .before .before .before .pre .layable .small) (l .inv .5) (on .0))
 
 pub agents-spec : {M : Type 1} → statement M

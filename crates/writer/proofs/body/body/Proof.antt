@@ -1,5 +1,6 @@
 -- `body::body`: behind the stages nothing fits; the envelope ends there or the row ahead stands nowhere.
-use Rattle.writer.proofs.Insides.{body-ends, body-halts, body-stuck, stage-as}
+use Rattle.writer.proofs.Insides.{body-ends, body-halts, body-stuck}
+use Rattle.writer.proofs.Onward.{stage-as}
 use Rattle.meaning.specs.Editions.{closed, state}
 use Rattle.meaning.specs.Headers.{start}
 use borrow.Author.Needs.{needs}

@@ -1,12 +1,13 @@
 -- `body::front`: representation and date have to stand one behind the other, or a received object.
-use Rattle.writer.proofs.Insides.{dated, represented}
-use Rattle.writer.proofs.Onward.{onward-layable, stage-then}
+use Rattle.writer.proofs.Insides.{represented}
+use Rattle.writer.proofs.Rooms.{front-date}
+use Rattle.writer.proofs.Onward.{needed-is, onward-layable, stage-then}
 use Rattle.writer.specs.Parameters.{atParameters}
 use Rattle.writer.specs.Stages.{StageIs}
 use Rattle.meaning.specs.Headers.{start}
-use mathlib.Core.Bool.{Bool}
+use mathlib.Core.Bool.{Bool, false}
 use mathlib.Core.Path.{subst, sym}
-use Rattle.meaning.specs.Editions.{headDate, outer, parameters}
+use Rattle.meaning.specs.Editions.{state, headDate, outer, parameters}
 use borrow.Author.Needs.{needs}
 use native.Mathlib.Omega.{arith}
 use Rattle.writer.proofs.body.front.Statement.{statement}
@@ -52,7 +53,7 @@ returns-2 : tie.Need-returns-2
 returns-2 c =
     let a = c .before .before .before .before .before .before .before .before .before .before .before .before .before .before .before .before .before .args in
     let first = represented (a .in-d) (a .pool .now) (a .rows .now) (a .i) (a .output .now) 0 (c .before .before .before .before .before .before .before .before .before .before .before .representation .result) _ (c .before .before .before .before .before .before .before .before .before .before .before .representation .ensures (outer headDate)) (c .before .before .before .before .before .before .before .before .before .before .before .before .before .if1 .taken) (c .before .before .before .before .before .before .before .before .needed .ensures) (c .before .before .before .before .before .before .s2 .given .1) in
-    stage-then (c .before .before .before .before .before .before .before .before .before .before .before .before .before .before .before .before .before .pre .1) first atParameters _ (c .needed2 .result) (dated (a .in-d) (a .pool .now) (a .rows .now) _ _ _ (c .before .before .before .date .result) _ (c .before .before .before .date .ensures (outer parameters)) (c .needed2 .ensures))
+    stage-then (c .before .before .before .before .before .before .before .before .before .before .before .before .before .before .before .before .before .pre .1) first atParameters _ (c .needed2 .result) (needed-is (a .in-d) (a .pool .now) (a .rows .now) _ (state headDate 0 false) (front-date (a .in-d)) _ _ (c .before .before .before .date .result) _ (c .before .before .before .date .ensures (outer parameters)) (c .needed2 .ensures))
 
 received-requires : tie.Need-received-requires
 received-requires c κs = search needs

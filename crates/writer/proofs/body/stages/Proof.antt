@@ -1,5 +1,5 @@
 -- `body::stages`: the parameters behind the front.
-use Rattle.writer.proofs.Insides.{stage-as}
+use Rattle.writer.proofs.Onward.{stage-as}
 use Rattle.writer.proofs.Onward.{onward-layable, stage-then}
 use Rattle.writer.specs.Parameters.{atParameters}
 use Rattle.meaning.specs.Editions.{closed, state}

@@ -1,7 +1,7 @@
 -- `extras::extras`: the extras from the first to where the code stands, for every room that has them.
 use Prim.Native.Nat.{_-_, _/_, _≤_}
 use Rattle.meaning.specs.Editions.{Room, State, state, stay, listEnds}
-use Rattle.writer.proofs.Aheads.{taken-other, taken-to}
+use Rattle.writer.proofs.Aheads.{taken-as}
 use Rattle.writer.proofs.Laying.{laid-layable, laid-length}
 use Rattle.writer.proofs.Lists.{extras-end, key-on, laid-from, layable-from, value-lost, value-on}
 use Rattle.writer.proofs.Onward.{onward-none, onward-stuck, onward-then}
@@ -38,7 +38,7 @@ enum-told : tie.Need-enum-told Inv-loop μ-loop
 enum-told c = search needs
 
 put-requires : tie.Need-put-requires Inv-loop μ-loop
-put-requires c κs = layable-from (taken-other _ _ _ _ _ _ _ _ (c .before .enum-told .given .1) (c .before .before .before .before .before .text .ensures listEnds) .0) (c .before .before .before .before .before .before .before .loop .inv .1)
+put-requires c κs = layable-from (taken-as _ _ _ _ _ _ _ _ (c .before .enum-told .given .1) (c .before .before .before .before .before .text .ensures listEnds) .0) (c .before .before .before .before .before .before .before .loop .inv .1)
 
 same-length : tie.Need-same-length Inv-loop μ-loop
 same-length c = search needs
@@ -46,7 +46,7 @@ same-length c = search needs
 returns : tie.Need-returns Inv-loop μ-loop
 returns c inD room single st₁ t =
     let l = c .before .before .before .before .before .before .before .before .before .before .loop in
-    let other = taken-other _ _ _ _ _ _ _ _ (c .before .before .before .before .enum-told .given .1) (c .before .before .before .before .before .before .before .before .text .ensures (stay (t .value))) in
+    let other = taken-as _ _ _ _ _ _ _ _ (c .before .before .before .before .enum-told .given .1) (c .before .before .before .before .before .before .before .before .text .ensures (stay (t .value))) in
     onward-then (c .before .before .before .before .before .before .before .before .before .before .before .before .before .before .pre .layable .small) (l .inv .3 inD room single st₁ t) (extras-end inD _ _ t (other .1) (l .inv .0) (laid-from (other .0) (c .before .before .put .ensures)))
 
 add-i : tie.Need-add-i Inv-loop μ-loop
@@ -54,7 +54,7 @@ add-i c = search needs
 
 any-requires : tie.Need-any-requires Inv-loop μ-loop
 any-requires c κs =
-    let taken = taken-to _ _ _ _ _ _ _ _ (c .before .before .t .given .1) (c .before .before .before .before .before .before .text .ensures listEnds) in
+    let taken = taken-as _ _ _ _ _ _ _ _ (c .before .before .t .given .1) (c .before .before .before .before .before .before .text .ensures listEnds) in
     record { inside = omega (arith, taken .ahead .within); inner = omega arith; coded = omega arith; layable = laid-layable (taken .laid) (c .before .before .before .before .before .before .before .before .loop .inv .1) }
 
 enum-known-v : tie.Need-enum-known-v Inv-loop μ-loop
@@ -69,23 +69,23 @@ same-length-2 c = search needs
 returns-2 : tie.Need-returns-2 Inv-loop μ-loop
 returns-2 c inD room single st₁ t =
     let small = c .before .before .before .before .before .before .before .before .before .before .before .before .before .before .before .before .before .pre .layable .small in
-    let key = key-on inD _ _ t (taken-to _ _ _ _ _ _ _ _ (c .before .before .before .before .before .before .before .t .given .1) (c .before .before .before .before .before .before .before .before .before .before .before .text .ensures (stay (t .value)))) in
-    let other = taken-other _ _ _ _ _ _ _ _ (c .enum-told2 .given .1) (c .before .before .before .before .any .ensures (stay room)) in
+    let key = key-on inD _ _ t (taken-as _ _ _ _ _ _ _ _ (c .before .before .before .before .before .before .before .t .given .1) (c .before .before .before .before .before .before .before .before .before .before .before .text .ensures (stay (t .value)))) in
+    let other = taken-as _ _ _ _ _ _ _ _ (c .enum-told2 .given .1) (c .before .before .before .before .any .ensures (stay room)) in
     onward-stuck small (onward-then small (c .before .before .before .before .before .before .before .before .before .before .before .before .before .loop .inv .3 inD room single st₁ t) key) (value-lost inD _ _ t (other .1))
 
 add-i-2 : tie.Need-add-i-2 Inv-loop μ-loop
 add-i-2 c = search needs
 
 loop-less : tie.Need-loop-less Inv-loop μ-loop
-loop-less c = omega (arith, taken-to _ _ _ _ _ _ _ _ (c .before .before .before .before .before .before .before .before .t .given .1) (c .before .before .before .before .before .before .before .before .before .before .before .before .text .ensures listEnds) .ahead .within)
+loop-less c = omega (arith, taken-as _ _ _ _ _ _ _ _ (c .before .before .before .before .before .before .before .before .t .given .1) (c .before .before .before .before .before .before .before .before .before .before .before .before .text .ensures listEnds) .ahead .within)
 
 loop-again : tie.Need-loop-again Inv-loop μ-loop
 loop-again c =
     let l = c .before .before .before .before .before .before .before .before .before .before .before .before .before .before .loop in
     let small = c .before .before .before .before .before .before .before .before .before .before .before .before .before .before .before .before .before .before .pre .layable .small in
-    let key = taken-to _ _ _ _ _ _ _ _ (c .before .before .before .before .before .before .before .before .t .given .1) (c .before .before .before .before .before .before .before .before .before .before .before .before .text .ensures listEnds) in
-    let value = taken-to _ _ _ _ _ _ _ _ (c .before .v .given .1) (c .before .before .before .before .before .any .ensures listEnds) in
-    (omega (arith, value .ahead .within), laid-layable (value .laid) (laid-layable (key .laid) (l .inv .1)), laid-length (value .laid) ∙ laid-length (key .laid) ∙ l .inv .2, λ inD room single st₁ t. onward-then small (l .inv .3 inD room single st₁ t) (onward-then (l .inv .1 .small) (key-on inD _ _ t (taken-to _ _ _ _ _ _ _ _ (c .before .before .before .before .before .before .before .before .t .given .1) (c .before .before .before .before .before .before .before .before .before .before .before .before .text .ensures (stay (t .value))))) (value-on inD _ _ t (taken-to _ _ _ _ _ _ _ _ (c .before .v .given .1) (c .before .before .before .before .before .any .ensures (stay room))))))
+    let key = taken-as _ _ _ _ _ _ _ _ (c .before .before .before .before .before .before .before .before .t .given .1) (c .before .before .before .before .before .before .before .before .before .before .before .before .text .ensures listEnds) in
+    let value = taken-as _ _ _ _ _ _ _ _ (c .before .v .given .1) (c .before .before .before .before .before .any .ensures listEnds) in
+    (omega (arith, value .ahead .within), laid-layable (value .laid) (laid-layable (key .laid) (l .inv .1)), laid-length (value .laid) ∙ laid-length (key .laid) ∙ l .inv .2, λ inD room single st₁ t. onward-then small (l .inv .3 inD room single st₁ t) (onward-then (l .inv .1 .small) (key-on inD _ _ t (taken-as _ _ _ _ _ _ _ _ (c .before .before .before .before .before .before .before .before .t .given .1) (c .before .before .before .before .before .before .before .before .before .before .before .before .text .ensures (stay (t .value))))) (value-on inD _ _ t (taken-as _ _ _ _ _ _ _ _ (c .before .v .given .1) (c .before .before .before .before .before .any .ensures (stay room))))))
 
 pub extras-spec : {M : Type 1} → statement M
 extras-spec =

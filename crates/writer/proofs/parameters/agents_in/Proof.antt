@@ -1,9 +1,9 @@
 -- `parameters::agents_in`: its row, and the agents behind it.
-use Rattle.writer.proofs.Aheads.{taken-other, taken-to}
+use Rattle.writer.proofs.Aheads.{taken-as}
 use Rattle.writer.proofs.Laying.{laid-layable}
 use Rattle.writer.proofs.Choosing.{after-first, leading, parameter-row}
 use Rattle.meaning.specs.Editions.{opens, on_▸_▸_▸_}
-use Rattle.writer.proofs.Behind.{agents-begin}
+use Rattle.writer.proofs.Rooms.{agents-begin}
 use Rattle.writer.specs.Parameters.{agentsNext}
 use borrow.Author.Needs.{needs}
 use native.Mathlib.Omega.{arith}
@@ -23,14 +23,14 @@ same-length : tie.Need-same-length
 same-length c = search needs
 
 returns : tie.Need-returns
-returns c in-there = taken-other _ _ _ _ _ _ _ _ (c .enum-told .given .1) (c .before .before .before .before .opened .ensures (agentsNext (c .before .before .before .before .before .before .before .before .before .args .one)))
+returns c in-there = taken-as _ _ _ _ _ _ _ _ (c .enum-told .given .1) (c .before .before .before .before .opened .ensures (agentsNext (c .before .before .before .before .before .before .before .before .before .args .one)))
 
 add-k : tie.Need-add-k
 add-k c = search needs
 
 agents-requires : tie.Need-agents-requires
 agents-requires c κs =
-    let first = taken-to _ _ _ _ _ _ _ _ (c .before .before .t .given .1) (c .before .before .before .before .before .before .opened .ensures (agentsNext (c .before .before .before .before .before .before .before .before .before .before .before .args .one))) in
+    let first = taken-as _ _ _ _ _ _ _ _ (c .before .before .t .given .1) (c .before .before .before .before .before .before .opened .ensures (agentsNext (c .before .before .before .before .before .before .before .before .before .before .before .args .one))) in
     record { inside = omega (arith, first .ahead .within); inner = omega arith; coded = omega arith; layable = laid-layable (first .laid) (c .before .before .before .before .before .before .before .before .before .before .before .pre .layable) }
 
 begun-requires : tie.Need-begun-requires
@@ -42,7 +42,7 @@ same-length-2 c = search needs
 returns-2 : tie.Need-returns-2
 returns-2 c in-there =
     let a = c .before .before .before .before .before .before .before .before .before .before .before .before .before .before .before .args in
-    let first = taken-to _ _ _ _ _ _ _ _ (c .before .before .before .before .before .before .t .given .1) (c .before .before .before .before .before .before .before .before .before .before .opened .ensures (agentsNext (a .one))) in
+    let first = taken-as _ _ _ _ _ _ _ _ (c .before .before .before .before .before .before .t .given .1) (c .before .before .before .before .before .before .before .before .before .before .opened .ensures (agentsNext (a .one))) in
     let opening = parameter-row (a .in-d) _ _ (on (a .code) ▸ (a .kind) ▸ opens ▸ agentsNext (a .one)) (in-there .is) (in-there .shallow) first in
     after-first (a .in-d) _ (c .before .before .before .before .before .before .before .before .before .before .before .before .before .before .before .pre .layable .small) (leading (agents-begin (a .one)) opening) (c .before .before .before .agents .result) _ (c .before .before .before .agents .ensures) (c .begun .ensures)
 

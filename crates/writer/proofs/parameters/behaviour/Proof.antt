@@ -1,11 +1,11 @@
 -- `parameters::behaviour`: its row, and the any-value that it needs.
-use Rattle.writer.proofs.Aheads.{taken-other, taken-to}
+use Rattle.writer.proofs.Aheads.{taken-as}
 use Rattle.writer.proofs.Laying.{laid-layable}
 use Rattle.writer.proofs.Choosing.{after-first, parameter-row}
 use Rattle.meaning.specs.Editions.{state, parameters, behaviourValue, outer, opens, anyValues, on_▸_▸_▸_}
 use Rattle.meaning.specs.Kinds.{behaviourOpens}
-use Rattle.writer.proofs.Behind.{behaviour-first, behaviour-value}
-use Rattle.writer.proofs.Onward.{needed-as}
+use Rattle.writer.proofs.Rooms.{behaviour-first, behaviour-value}
+use Rattle.writer.proofs.Onward.{needed-is}
 use borrow.Author.Needs.{needs}
 use mathlib.Core.Bool.{false}
 use mathlib.Core.Path.{refl}
@@ -28,20 +28,20 @@ same-length : tie.Need-same-length
 same-length c = search needs
 
 returns : tie.Need-returns
-returns c inD = taken-other _ _ _ _ _ _ _ _ (c .enum-told .given .1) (c .before .before .before .before .opened .ensures (outer behaviourValue))
+returns c inD = taken-as _ _ _ _ _ _ _ _ (c .enum-told .given .1) (c .before .before .before .before .opened .ensures (outer behaviourValue))
 
 add-k : tie.Need-add-k
 add-k c = search needs
 
 any-requires : tie.Need-any-requires
 any-requires c κs =
-    let first = taken-to _ _ _ _ _ _ _ _ (c .before .before .t .given .1) (c .before .before .before .before .before .before .opened .ensures (outer behaviourValue)) in
+    let first = taken-as _ _ _ _ _ _ _ _ (c .before .before .t .given .1) (c .before .before .before .before .before .before .opened .ensures (outer behaviourValue)) in
     record { inside = omega (arith, first .ahead .within); inner = omega arith; coded = omega arith; layable = laid-layable (first .laid) (c .before .before .before .before .before .before .before .before .before .before .before .pre .layable) }
 
 needed-requires : tie.Need-needed-requires
 needed-requires c κs =
     let a = c .before .before .before .before .before .before .before .before .before .before .before .before .before .before .args in
-    let k : a .i + 1 ≤ length (a .rows .now) / 4 = omega (arith, taken-to _ _ _ _ _ _ _ _ (c .before .before .before .before .before .t .given .1) (c .before .before .before .before .before .before .before .before .before .opened .ensures (outer behaviourValue)) .ahead .within) in
+    let k : a .i + 1 ≤ length (a .rows .now) / 4 = omega (arith, taken-as _ _ _ _ _ _ _ _ (c .before .before .before .before .before .t .given .1) (c .before .before .before .before .before .before .before .before .before .opened .ensures (outer behaviourValue)) .ahead .within) in
     search (needs, k)
 
 begun-requires : tie.Need-begun-requires
@@ -52,10 +52,9 @@ same-length-2 c = search needs
 
 returns-2 : tie.Need-returns-2
 returns-2 c inD =
-    let first = taken-to _ _ _ _ _ _ _ _ (c .before .before .before .before .before .before .before .t .given .1) (c .before .before .before .before .before .before .before .before .before .before .before .opened .ensures (outer behaviourValue)) in
-    let value = behaviour-value inD in
+    let first = taken-as _ _ _ _ _ _ _ _ (c .before .before .before .before .before .before .before .t .given .1) (c .before .before .before .before .before .before .before .before .before .before .before .opened .ensures (outer behaviourValue)) in
     after-first inD _ (c .before .before .before .before .before .before .before .before .before .before .before .before .before .before .before .before .pre .layable .small) (parameter-row inD _ _ (on 0x0b ▸ behaviourOpens ▸ opens ▸ outer behaviourValue) (behaviour-first inD) refl first) (c .before .needed .result) _
-    (needed-as inD _ _ _ (state behaviourValue 0 false) (anyValues (outer parameters)) (outer parameters) _ _ (c .before .before .before .before .any .result) _ (value .rows) (value .lead) (value .lost) (c .before .before .before .before .any .ensures (outer parameters)) (c .before .needed .ensures)) (c .begun .ensures)
+    (needed-is inD _ _ _ (state behaviourValue 0 false) (behaviour-value inD) _ _ (c .before .before .before .before .any .result) _ (c .before .before .before .before .any .ensures (outer parameters)) (c .before .needed .ensures)) (c .begun .ensures)
 
 pub behaviour-spec : {M : Type 1} → statement M
 behaviour-spec =

@@ -1,7 +1,8 @@
 -- `parameters::by_kind`: each kind that begins a parameter, those that its code leads to, and all others.
 use Rattle.meaning.specs.Editions.{ownText, behaviourValue, encryptedTexts, parameters, outer, text, number, opens, on_▸_▸_▸_}
 use Rattle.meaning.specs.Kinds.{behaviourOpens, comments, encryptedOpens, fromOpens, ownKey, payloadEncoding, payloadLength, receiverOpens, toOpens}
-use Rattle.writer.proofs.Behind.{behaviour-first, closes-other, comments-first, encoding-first, encrypted-first, from-first, length-first, none-encrypted, none-other, none-represents, own-first, receiver-first, to-first, OtherKind}
+use Rattle.writer.proofs.Others.{closes-other, none-other, OtherKind}
+use Rattle.writer.proofs.Rooms.{behaviour-first, comments-first, encoding-first, encrypted-first, from-first, length-first, none-encrypted, none-represents, own-first, receiver-first, to-first}
 use Rattle.writer.proofs.Choosing.{after-single, found-in, found-kind, found-none, way-ahead}
 use Rattle.writer.specs.Parameters.{agentsNext}
 use borrow.Author.Needs.{needs}

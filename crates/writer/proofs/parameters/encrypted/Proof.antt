@@ -1,10 +1,10 @@
 -- `parameters::encrypted`: its row, and the texts behind it.
-use Rattle.writer.proofs.Aheads.{taken-other, taken-to}
+use Rattle.writer.proofs.Aheads.{taken-as}
 use Rattle.writer.proofs.Laying.{laid-layable}
 use Rattle.writer.proofs.Choosing.{parameter-row}
 use Rattle.meaning.specs.Editions.{encryptedTexts, outer, opens, on_▸_▸_▸_}
 use Rattle.meaning.specs.Kinds.{encryptedOpens}
-use Rattle.writer.proofs.Behind.{encrypted-first, encrypted-texts}
+use Rattle.writer.proofs.Rooms.{encrypted-first, encrypted-texts}
 use Rattle.writer.proofs.Onward.{onward-then}
 use Rattle.writer.specs.Parameters.{atParameters}
 use borrow.Author.Needs.{needs}
@@ -27,14 +27,14 @@ same-length : tie.Need-same-length
 same-length c = search needs
 
 returns : tie.Need-returns
-returns c = taken-other _ _ _ _ _ _ _ _ (c .enum-told .given .1) (c .before .before .before .before .opened .ensures (outer encryptedTexts))
+returns c = taken-as _ _ _ _ _ _ _ _ (c .enum-told .given .1) (c .before .before .before .before .opened .ensures (outer encryptedTexts))
 
 add-k : tie.Need-add-k
 add-k c = search needs
 
 texts-requires : tie.Need-texts-requires
 texts-requires c κs =
-    let first = taken-to _ _ _ _ _ _ _ _ (c .before .before .t .given .1) (c .before .before .before .before .before .before .opened .ensures (outer encryptedTexts)) in
+    let first = taken-as _ _ _ _ _ _ _ _ (c .before .before .t .given .1) (c .before .before .before .before .before .before .opened .ensures (outer encryptedTexts)) in
     record { inside = omega (arith, first .ahead .within); inner = omega arith; coded = omega arith; layable = laid-layable (first .laid) (c .before .before .before .before .before .before .before .before .before .before .before .pre .layable) }
 
 same-length-2 : tie.Need-same-length-2
@@ -42,7 +42,7 @@ same-length-2 c = search needs
 
 returns-2 : tie.Need-returns-2
 returns-2 c =
-    let first = taken-to _ _ _ _ _ _ _ _ (c .before .before .before .before .before .t .given .1) (c .before .before .before .before .before .before .before .before .before .opened .ensures (outer encryptedTexts)) in
+    let first = taken-as _ _ _ _ _ _ _ _ (c .before .before .before .before .before .t .given .1) (c .before .before .before .before .before .before .before .before .before .opened .ensures (outer encryptedTexts)) in
     let items = c .before .before .texts .ensures false encryptedTexts false atParameters encrypted-texts in
     (onward-then (c .before .before .before .before .before .before .before .before .before .before .before .before .before .before .pre .layable .small) (parameter-row false _ _ (on 0x08 ▸ encryptedOpens ▸ opens ▸ outer encryptedTexts) encrypted-first refl first) items, omega (arith, items .later))
 

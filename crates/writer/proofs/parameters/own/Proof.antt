@@ -1,11 +1,11 @@
 -- `parameters::own`: a key, and the value that it needs.
-use Rattle.writer.proofs.Aheads.{taken-other, taken-to}
+use Rattle.writer.proofs.Aheads.{taken-as}
 use Rattle.writer.proofs.Laying.{laid-layable}
 use Rattle.writer.proofs.Choosing.{after-first, parameter-row}
 use Rattle.meaning.specs.Editions.{state, parameters, ownText, outer, text, noCode, on_▸_▸_▸_}
 use Rattle.meaning.specs.Kinds.{ownKey, ownValue}
-use Rattle.writer.proofs.Behind.{own-first, own-text}
-use Rattle.writer.proofs.Onward.{needed-as}
+use Rattle.writer.proofs.Rooms.{own-first, own-text}
+use Rattle.writer.proofs.Onward.{needed-is}
 use borrow.Author.Needs.{needs}
 use mathlib.Core.Bool.{false}
 use mathlib.Core.List.{[], _∷_}
@@ -29,20 +29,20 @@ same-length : tie.Need-same-length
 same-length c = search needs
 
 returns : tie.Need-returns
-returns c inD = taken-other _ _ _ _ _ _ _ _ (c .enum-told .given .1) (c .before .before .before .before .text .ensures (outer ownText))
+returns c inD = taken-as _ _ _ _ _ _ _ _ (c .enum-told .given .1) (c .before .before .before .before .text .ensures (outer ownText))
 
 add-k : tie.Need-add-k
 add-k c = search needs
 
 text-requires-2 : tie.Need-text-requires-2
 text-requires-2 c κs =
-    let first = taken-to _ _ _ _ _ _ _ _ (c .before .before .t .given .1) (c .before .before .before .before .before .before .text .ensures (outer ownText)) in
+    let first = taken-as _ _ _ _ _ _ _ _ (c .before .before .t .given .1) (c .before .before .before .before .before .before .text .ensures (outer ownText)) in
     record { inside = omega (arith, first .ahead .within); inner = omega arith; coded = omega arith; layable = laid-layable (first .laid) (c .before .before .before .before .before .before .before .before .before .before .before .pre .layable) }
 
 needed-requires : tie.Need-needed-requires
 needed-requires c κs =
     let a = c .before .before .before .before .before .before .before .before .before .before .before .before .before .before .args in
-    let k : a .i + 1 ≤ length (a .rows .now) / 4 = omega (arith, taken-to _ _ _ _ _ _ _ _ (c .before .before .before .before .before .t .given .1) (c .before .before .before .before .before .before .before .before .before .text .ensures (outer ownText)) .ahead .within) in
+    let k : a .i + 1 ≤ length (a .rows .now) / 4 = omega (arith, taken-as _ _ _ _ _ _ _ _ (c .before .before .before .before .before .t .given .1) (c .before .before .before .before .before .before .before .before .before .text .ensures (outer ownText)) .ahead .within) in
     search (needs, k)
 
 begun-requires : tie.Need-begun-requires
@@ -53,10 +53,9 @@ same-length-2 c = search needs
 
 returns-2 : tie.Need-returns-2
 returns-2 c inD =
-    let first = taken-to _ _ _ _ _ _ _ _ (c .before .before .before .before .before .before .before .t .given .1) (c .before .before .before .before .before .before .before .before .before .before .before .text .ensures (outer ownText)) in
-    let needs-text = own-text inD in
+    let first = taken-as _ _ _ _ _ _ _ _ (c .before .before .before .before .before .before .before .t .given .1) (c .before .before .before .before .before .before .before .before .before .before .before .text .ensures (outer ownText)) in
     after-first inD _ (c .before .before .before .before .before .before .before .before .before .before .before .before .before .before .before .before .pre .layable .small) (parameter-row inD _ _ (on 0x00 ▸ ownKey ▸ text ▸ outer ownText) (own-first inD) refl first) (c .before .needed .result) _
-    (needed-as inD _ _ _ (state ownText 0 false) (on noCode ▸ ownValue ▸ text ▸ outer parameters ∷ []) (outer parameters) _ _ (c .before .before .before .before .text2 .result) _ (needs-text .rows) (needs-text .lead) (needs-text .lost) (c .before .before .before .before .text2 .ensures (outer parameters)) (c .before .needed .ensures)) (c .begun .ensures)
+    (needed-is inD _ _ _ (state ownText 0 false) (own-text inD) _ _ (c .before .before .before .before .text2 .result) _ (c .before .before .before .before .text2 .ensures (outer parameters)) (c .before .needed .ensures)) (c .begun .ensures)
 
 pub own-spec : {M : Type 1} → statement M
 own-spec =

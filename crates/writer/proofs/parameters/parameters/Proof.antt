@@ -1,6 +1,6 @@
 -- `parameters::parameters`: parameter by parameter, until the row ahead begins none.
 use Prim.Native.Nat.{_-_, _/_, _≤_}
-use Rattle.writer.proofs.Choosing.{found-go, found-last, found-stuck, parameters-end}
+use Rattle.writer.proofs.Choosing.{found-as, parameters-end}
 use Rattle.writer.proofs.Laying.{laid-length}
 use Rattle.writer.proofs.Lists.{laid-from, layable-from}
 use Rattle.writer.proofs.Onward.{onward-layable, onward-none, onward-stuck, onward-then}
@@ -34,13 +34,13 @@ same-length : tie.Need-same-length Inv-loop μ-loop
 same-length c = search needs
 
 returns : tie.Need-returns Inv-loop μ-loop
-returns c = onward-stuck (c .before .before .before .before .before .before .before .before .before .before .before .pre .layable .small) (c .before .before .before .before .before .before .before .loop .inv .3) (found-stuck _ _ _ _ _ _ _ (c .before .before .before .before .before .by-kind .ensures) (c .before .r .given .1))
+returns c = onward-stuck (c .before .before .before .before .before .before .before .before .before .before .before .pre .layable .small) (c .before .before .before .before .before .before .before .loop .inv .3) (found-as _ _ _ _ _ _ _ (c .before .r .given .1) (c .before .before .before .before .before .by-kind .ensures))
 
 enum-told : tie.Need-enum-told Inv-loop μ-loop
 enum-told c = search needs
 
 put-requires : tie.Need-put-requires Inv-loop μ-loop
-put-requires c κs = layable-from (found-last _ _ _ _ _ _ _ (c .before .before .before .before .before .by-kind .ensures) (c .before .enum-told .given .1) .0) (c .before .before .before .before .before .before .before .loop .inv .1)
+put-requires c κs = layable-from (found-as _ _ _ _ _ _ _ (c .before .enum-told .given .1) (c .before .before .before .before .before .by-kind .ensures) .0) (c .before .before .before .before .before .before .before .loop .inv .1)
 
 same-length-2 : tie.Need-same-length-2 Inv-loop μ-loop
 same-length-2 c = search needs
@@ -48,19 +48,19 @@ same-length-2 c = search needs
 returns-2 : tie.Need-returns-2 Inv-loop μ-loop
 returns-2 c =
     let l = c .before .before .before .before .before .before .before .before .before .before .loop in
-    let last = found-last _ _ _ _ _ _ _ (c .before .before .before .before .before .before .before .before .by-kind .ensures) (c .before .before .before .before .enum-told .given .1) in
+    let last = found-as _ _ _ _ _ _ _ (c .before .before .before .before .enum-told .given .1) (c .before .before .before .before .before .before .before .before .by-kind .ensures) in
     onward-then (c .before .before .before .before .before .before .before .before .before .before .before .before .before .before .pre .layable .small) (l .inv .3) (parameters-end (c .before .before .before .before .before .before .before .before .before .before .before .before .before .before .args .in-d) _ _ _ (last .1) (last .2) (l .inv .0) (laid-from (last .0) (c .before .before .put .ensures)))
 
 enum-known-r-2 : tie.Need-enum-known-r-2 Inv-loop μ-loop
 enum-known-r-2 c = search needs
 
 loop-less : tie.Need-loop-less Inv-loop μ-loop
-loop-less c = let went = found-go _ _ _ _ _ _ _ (c .before .before .before .before .before .by-kind .ensures) (c .before .r2 .given .1) in omega (arith, went .1, went .0 .inside)
+loop-less c = let went = found-as _ _ _ _ _ _ _ (c .before .r2 .given .1) (c .before .before .before .before .before .by-kind .ensures) in omega (arith, went .1, went .0 .inside)
 
 loop-again : tie.Need-loop-again Inv-loop μ-loop
 loop-again c =
     let l = c .before .before .before .before .before .before .before .loop in
-    let went = found-go _ _ _ _ _ _ _ (c .before .before .before .before .before .by-kind .ensures) (c .before .r2 .given .1) in
+    let went = found-as _ _ _ _ _ _ _ (c .before .r2 .given .1) (c .before .before .before .before .before .by-kind .ensures) in
     (went .0 .inside, onward-layable (went .0) (l .inv .1), laid-length (went .0 .onto .laid) ∙ l .inv .2, onward-then (c .before .before .before .before .before .before .before .before .before .before .before .pre .layable .small) (l .inv .3) (went .0))
 
 pub parameters-spec : {M : Type 1} → statement M

@@ -1,5 +1,5 @@
 -- `parameters::received_in`: the code 0A leads to the received object.
-use Rattle.writer.proofs.Behind.{pass-receives}
+use Rattle.writer.proofs.Rooms.{pass-receives}
 use Rattle.writer.proofs.Choosing.{found-stage, pass-on}
 use Rattle.writer.proofs.Laying.{laid-layable}
 use Rattle.writer.proofs.Onward.{stage-then}

@@ -1,9 +1,9 @@
 -- `parameters::represented`: the code 04 leads to the representation that it needs.
 use Rattle.meaning.specs.Editions.{state, parameters, parameterRepresentation, outer, representations}
-use Rattle.writer.proofs.Behind.{pass-represents, representation-value}
+use Rattle.writer.proofs.Rooms.{pass-represents, parameter-representation}
 use Rattle.writer.proofs.Choosing.{beyond-one, found-stage, pass-on}
 use Rattle.writer.proofs.Laying.{laid-layable}
-use Rattle.writer.proofs.Onward.{needed-as, stage-then}
+use Rattle.writer.proofs.Onward.{needed-is, stage-then}
 use Rattle.writer.specs.Parameters.{atParameters}
 use borrow.Author.Needs.{needs}
 use mathlib.Core.Bool.{false}
@@ -28,11 +28,10 @@ same-length c = search needs
 
 returns : tie.Need-returns
 returns c inD way =
-    let value = representation-value inD in
     let pass = pass-on inD _ _ _ 0x04 (pass-represents inD) (c .before .before .before .before .before .before .before .before .before .before .before .before .before .pre .inside) way (c .before .before .before .before .before .before .before .before .put .ensures) in
     found-stage inD _ _ _ _ _ (c .before .needed .result) _
     (stage-then (c .before .before .before .before .before .before .before .before .before .before .before .before .before .pre .layable .small) pass atParameters _ (c .before .needed .result)
-    (needed-as inD _ _ _ (state parameterRepresentation 0 false) (representations (outer parameters)) (outer parameters) _ _ (c .before .before .before .before .representation .result) _ (value .rows) (value .lead) (value .lost) (c .before .before .before .before .representation .ensures (outer parameters)) (c .before .needed .ensures)))
+    (needed-is inD _ _ _ (state parameterRepresentation 0 false) (parameter-representation inD) _ _ (c .before .before .before .before .representation .result) _ (c .before .before .before .before .representation .ensures (outer parameters)) (c .before .needed .ensures)))
     (beyond-one _ (c .before .before .before .before .representation .result) (c .before .needed .ensures)) (c .begun .ensures)
 
 pub represented-spec : {M : Type 1} → statement M

@@ -1,7 +1,8 @@
 -- `received::behind_date`: three optional texts, then the extras of D or the 01 of B.
 use Rattle.meaning.specs.Editions.{state, parameters, afterDate, afterFrom, afterId, afterVia}
 use Rattle.writer.proofs.Onward.{onward-layable, onward-then, stage-then}
-use Rattle.writer.proofs.Receiving.{extras-when, from-in, id-in, received-closes, via-in}
+use Rattle.writer.proofs.Receiving.{extras-when, received-closes}
+use Rattle.writer.proofs.Rooms.{received-from, received-id, received-via}
 use borrow.Author.Needs.{needs}
 use mathlib.Core.Bool.{false}
 use native.Mathlib.Omega.{arith}
@@ -14,22 +15,22 @@ optional-requires c κs = search needs
 optional-requires-2 : tie.Need-optional-requires-2
 optional-requires-2 c κs =
     let d = c .before .before .before .before .before .before .before .before .args .in-d in
-    let a = c .before .before .before .optional .ensures d afterDate afterFrom false (from-in d) in
+    let a = c .before .before .before .optional .ensures d afterDate afterFrom false (received-from d) in
     record { inside = a .inside; inner = omega arith; coded = omega arith; layable = onward-layable a (c .before .before .before .before .before .before .before .before .pre .layable) }
 
 optional-requires-3 : tie.Need-optional-requires-3
 optional-requires-3 c κs =
     let d = c .before .before .before .before .before .before .before .before .before .before .before .before .args .in-d in
-    let a = c .before .before .before .before .before .before .before .optional .ensures d afterDate afterFrom false (from-in d) in
-    let b = c .before .before .before .optional2 .ensures d afterFrom afterId false (id-in d) in
+    let a = c .before .before .before .before .before .before .before .optional .ensures d afterDate afterFrom false (received-from d) in
+    let b = c .before .before .before .optional2 .ensures d afterFrom afterId false (received-id d) in
     record { inside = b .inside; inner = omega arith; coded = omega arith; layable = onward-layable b (onward-layable a (c .before .before .before .before .before .before .before .before .before .before .before .before .pre .layable)) }
 
 extras-requires : tie.Need-extras-requires
 extras-requires c κs =
     let d = c .before .before .before .before .before .before .before .before .before .before .before .before .before .before .before .before .before .args .in-d in
-    let a = c .before .before .before .before .before .before .before .before .before .before .before .before .optional .ensures d afterDate afterFrom false (from-in d) in
-    let b = c .before .before .before .before .before .before .before .before .optional2 .ensures d afterFrom afterId false (id-in d) in
-    let v = c .before .before .before .before .optional3 .ensures d afterId afterVia false (via-in d) in
+    let a = c .before .before .before .before .before .before .before .before .before .before .before .before .optional .ensures d afterDate afterFrom false (received-from d) in
+    let b = c .before .before .before .before .before .before .before .before .optional2 .ensures d afterFrom afterId false (received-id d) in
+    let v = c .before .before .before .before .optional3 .ensures d afterId afterVia false (received-via d) in
     record { inside = v .inside; inner = omega arith; coded = omega arith; layable = onward-layable v (onward-layable b (onward-layable a (c .before .before .before .before .before .before .before .before .before .before .before .before .before .before .before .before .before .pre .layable))) }
 
 same-length : tie.Need-same-length
@@ -39,17 +40,17 @@ returns : tie.Need-returns
 returns c =
     let d = c .before .before .before .before .before .before .before .before .before .before .before .before .before .before .before .before .before .before .before .before .args .in-d in
     let small = c .before .before .before .before .before .before .before .before .before .before .before .before .before .before .before .before .before .before .before .before .pre .layable .small in
-    let a = c .before .before .before .before .before .before .before .before .before .before .before .before .before .before .before .optional .ensures d afterDate afterFrom false (from-in d) in
-    let b = c .before .before .before .before .before .before .before .before .before .before .before .optional2 .ensures d afterFrom afterId false (id-in d) in
-    let v = c .before .before .before .before .before .before .before .optional3 .ensures d afterId afterVia false (via-in d) in
+    let a = c .before .before .before .before .before .before .before .before .before .before .before .before .before .before .before .optional .ensures d afterDate afterFrom false (received-from d) in
+    let b = c .before .before .before .before .before .before .before .before .before .before .before .optional2 .ensures d afterFrom afterId false (received-id d) in
+    let v = c .before .before .before .before .before .before .before .optional3 .ensures d afterId afterVia false (received-via d) in
     stage-then small (onward-then small (onward-then small a b) v) (state parameters 0 false) _ (c .before .before .extras .result) (c .before .before .extras .ensures d afterVia false (state parameters 0 false) (extras-when d (c .before .before .before .before .if1 .taken)))
 
 put-requires : tie.Need-put-requires
 put-requires c κs =
     let d = c .before .before .before .before .before .before .before .before .before .before .before .before .before .before .before .before .before .args .in-d in
-    let a = c .before .before .before .before .before .before .before .before .before .before .before .before .optional .ensures d afterDate afterFrom false (from-in d) in
-    let b = c .before .before .before .before .before .before .before .before .optional2 .ensures d afterFrom afterId false (id-in d) in
-    let v = c .before .before .before .before .optional3 .ensures d afterId afterVia false (via-in d) in
+    let a = c .before .before .before .before .before .before .before .before .before .before .before .before .optional .ensures d afterDate afterFrom false (received-from d) in
+    let b = c .before .before .before .before .before .before .before .before .optional2 .ensures d afterFrom afterId false (received-id d) in
+    let v = c .before .before .before .before .optional3 .ensures d afterId afterVia false (received-via d) in
     onward-layable v (onward-layable b (onward-layable a (c .before .before .before .before .before .before .before .before .before .before .before .before .before .before .before .before .before .pre .layable)))
 
 same-length-2 : tie.Need-same-length-2
@@ -59,9 +60,9 @@ returns-2 : tie.Need-returns-2
 returns-2 c =
     let d = c .before .before .before .before .before .before .before .before .before .before .before .before .before .before .before .before .before .before .before .before .args .in-d in
     let small = c .before .before .before .before .before .before .before .before .before .before .before .before .before .before .before .before .before .before .before .before .pre .layable .small in
-    let a = c .before .before .before .before .before .before .before .before .before .before .before .before .before .before .before .optional .ensures d afterDate afterFrom false (from-in d) in
-    let b = c .before .before .before .before .before .before .before .before .before .before .before .optional2 .ensures d afterFrom afterId false (id-in d) in
-    let v = c .before .before .before .before .before .before .before .optional3 .ensures d afterId afterVia false (via-in d) in
+    let a = c .before .before .before .before .before .before .before .before .before .before .before .before .before .before .before .optional .ensures d afterDate afterFrom false (received-from d) in
+    let b = c .before .before .before .before .before .before .before .before .before .before .before .optional2 .ensures d afterFrom afterId false (received-id d) in
+    let v = c .before .before .before .before .before .before .before .optional3 .ensures d afterId afterVia false (received-via d) in
     onward-then small (onward-then small (onward-then small a b) v) (received-closes d _ _ (c .before .before .before .before .if1 .left) (v .inside) (c .before .before .put .ensures))
 
 pub behind-date-spec : {M : Type 1} → statement M

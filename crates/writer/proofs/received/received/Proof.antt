@@ -1,9 +1,9 @@
 -- `received::received`: by, date, and what is behind them.
-use Rattle.meaning.specs.Editions.{state, parameters, inner, stay, receivedDate, afterDate}
-use Rattle.writer.proofs.Aheads.{taken-other, taken-to}
+use Rattle.meaning.specs.Editions.{state, parameters, inner, stay, receivedBegins, receivedDate, afterDate}
+use Rattle.writer.proofs.Aheads.{taken-as}
 use Rattle.writer.proofs.Laying.{laid-layable}
-use Rattle.writer.proofs.Onward.{beyond, onward-stuck, onward-then, stage-then}
-use Rattle.writer.proofs.Receiving.{by-missing, by-on, date-missing, date-on}
+use Rattle.writer.proofs.Onward.{beyond, needed-lost, needed-on, onward-stuck, onward-then, stage-then}
+use Rattle.writer.proofs.Rooms.{received-by, received-date}
 use Prim.Native.Nat.{_+_, _/_, _<_}
 use lib.ListN.{length}
 use borrow.Author.Needs.{needs}
@@ -25,14 +25,14 @@ same-length : tie.Need-same-length
 same-length c = search needs
 
 returns : tie.Need-returns
-returns c = (by-missing (c .before .before .before .before .before .before .before .before .before .args .in-d) _ _ (taken-other _ _ _ _ _ _ _ _ (c .enum-told .given .1) (c .before .before .before .before .text .ensures (inner receivedDate)) .1), tt)
+returns c = (needed-lost (c .before .before .before .before .before .before .before .before .before .args .in-d) _ _ (state receivedBegins 0 false) (received-by (c .before .before .before .before .before .before .before .before .before .args .in-d)) (taken-as _ _ _ _ _ _ _ _ (c .enum-told .given .1) (c .before .before .before .before .text .ensures (inner receivedDate)) .1), tt)
 
 add-named : tie.Need-add-named
 add-named c = search needs
 
 date-requires : tie.Need-date-requires
 date-requires c κs =
-    let by = taken-to _ _ _ _ _ _ _ _ (c .before .before .t .given .1) (c .before .before .before .before .before .before .text .ensures (inner receivedDate)) in
+    let by = taken-as _ _ _ _ _ _ _ _ (c .before .before .t .given .1) (c .before .before .before .before .before .before .text .ensures (inner receivedDate)) in
     record { inside = omega (arith, by .ahead .within); inner = omega arith; coded = omega arith; layable = laid-layable (by .laid) (c .before .before .before .before .before .before .before .before .before .before .before .pre .layable) }
 
 enum-known-d : tie.Need-enum-known-d
@@ -47,20 +47,20 @@ same-length-2 c = search needs
 returns-2 : tie.Need-returns-2
 returns-2 c =
     let d = c .before .before .before .before .before .before .before .before .before .before .before .before .before .before .before .before .args .in-d in
-    let by = taken-to _ _ _ _ _ _ _ _ (c .before .before .before .before .before .before .before .t .given .1) (c .before .before .before .before .before .before .before .before .before .before .before .text .ensures (inner receivedDate)) in
-    let other = taken-other _ _ _ _ _ _ _ _ (c .enum-told2 .given .1) (c .before .before .before .before .date .ensures (stay afterDate)) in
-    (onward-stuck (c .before .before .before .before .before .before .before .before .before .before .before .before .before .before .before .before .pre .layable .small) (by-on d _ _ by) (date-missing d _ _ (other .1)), tt)
+    let by = taken-as _ _ _ _ _ _ _ _ (c .before .before .before .before .before .before .before .t .given .1) (c .before .before .before .before .before .before .before .before .before .before .before .text .ensures (inner receivedDate)) in
+    let other = taken-as _ _ _ _ _ _ _ _ (c .enum-told2 .given .1) (c .before .before .before .before .date .ensures (stay afterDate)) in
+    (onward-stuck (c .before .before .before .before .before .before .before .before .before .before .before .before .before .before .before .before .pre .layable .small) (needed-on d _ _ (state receivedBegins 0 false) (received-by d) by) (needed-lost d _ _ (state receivedDate 1 false) (received-date d) (other .1)), tt)
 
 add-dated : tie.Need-add-dated
 add-dated c =
     let a = c .before .before .before .before .before .before .before .before .before .before .before .before .before .before .before .before .before .args in
-    let dated : a .i + 1 < length (a .rows .now) / 4 = taken-to _ _ _ _ _ _ _ _ (c .before .d .given .1) (c .before .before .before .before .before .date .ensures (stay afterDate)) .ahead .within in
+    let dated : a .i + 1 < length (a .rows .now) / 4 = taken-as _ _ _ _ _ _ _ _ (c .before .d .given .1) (c .before .before .before .before .before .date .ensures (stay afterDate)) .ahead .within in
     search (needs, dated)
 
 behind-date-requires : tie.Need-behind-date-requires
 behind-date-requires c κs =
-    let by = taken-to _ _ _ _ _ _ _ _ (c .before .before .before .before .before .before .before .before .before .t .given .1) (c .before .before .before .before .before .before .before .before .before .before .before .before .before .text .ensures (inner receivedDate)) in
-    let dated = taken-to _ _ _ _ _ _ _ _ (c .before .before .d .given .1) (c .before .before .before .before .before .before .date .ensures (stay afterDate)) in
+    let by = taken-as _ _ _ _ _ _ _ _ (c .before .before .before .before .before .before .before .before .before .t .given .1) (c .before .before .before .before .before .before .before .before .before .before .before .before .before .text .ensures (inner receivedDate)) in
+    let dated = taken-as _ _ _ _ _ _ _ _ (c .before .before .d .given .1) (c .before .before .before .before .before .before .date .ensures (stay afterDate)) in
     record { inside = omega (arith, dated .ahead .within); inner = omega arith; coded = omega arith; layable = laid-layable (dated .laid) (laid-layable (by .laid) (c .before .before .before .before .before .before .before .before .before .before .before .before .before .before .before .before .before .before .pre .layable)) }
 
 same-length-3 : tie.Need-same-length-3
@@ -70,9 +70,9 @@ returns-3 : tie.Need-returns-3
 returns-3 c =
     let d = c .before .before .before .before .before .before .before .before .before .before .before .before .before .before .before .before .before .before .before .before .before .args .in-d in
     let small = c .before .before .before .before .before .before .before .before .before .before .before .before .before .before .before .before .before .before .before .before .before .pre .layable .small in
-    let by = taken-to _ _ _ _ _ _ _ _ (c .before .before .before .before .before .before .before .before .before .before .before .before .t .given .1) (c .before .before .before .before .before .before .before .before .before .before .before .before .before .before .before .before .text .ensures (inner receivedDate)) in
-    let dated = taken-to _ _ _ _ _ _ _ _ (c .before .before .before .before .before .d .given .1) (c .before .before .before .before .before .before .before .before .before .date .ensures (stay afterDate)) in
-    (stage-then small (onward-then small (by-on d _ _ by) (date-on d _ _ dated)) (state parameters 0 false) _ (c .before .before .behind-date .result) (c .before .before .behind-date .ensures), beyond _ _ _ _ _ _ _ _ (c .before .before .behind-date .result) _ (omega arith) (c .before .before .behind-date .ensures))
+    let by = taken-as _ _ _ _ _ _ _ _ (c .before .before .before .before .before .before .before .before .before .before .before .before .t .given .1) (c .before .before .before .before .before .before .before .before .before .before .before .before .before .before .before .before .text .ensures (inner receivedDate)) in
+    let dated = taken-as _ _ _ _ _ _ _ _ (c .before .before .before .before .before .d .given .1) (c .before .before .before .before .before .before .before .before .before .date .ensures (stay afterDate)) in
+    (stage-then small (onward-then small (needed-on d _ _ (state receivedBegins 0 false) (received-by d) by) (needed-on d _ _ (state receivedDate 1 false) (received-date d) dated)) (state parameters 0 false) _ (c .before .before .behind-date .result) (c .before .before .behind-date .ensures), beyond _ _ _ _ _ _ _ _ (c .before .before .behind-date .result) _ (omega arith) (c .before .before .behind-date .ensures))
 
 pub received-spec : {M : Type 1} → statement M
 received-spec =

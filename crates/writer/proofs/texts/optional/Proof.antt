@@ -1,6 +1,6 @@
 -- `texts::optional`: the text is there, or the room behind it does as well.
 use Rattle.meaning.specs.Editions.{stay}
-use Rattle.writer.proofs.Aheads.{taken-other, taken-to}
+use Rattle.writer.proofs.Aheads.{taken-as}
 use Rattle.writer.proofs.Lists.{shallow-kind, unmoved}
 use Rattle.writer.proofs.Optional.{part-off, part-on}
 use borrow.Author.Needs.{needs}
@@ -23,7 +23,7 @@ same-length c = search needs
 returns : tie.Need-returns
 returns c inD room room₁ single o =
     let entry = c .before .before .before .before .before .before .before .before .before in
-    let other = taken-other _ _ _ _ _ _ _ _ (c .enum-told .given .1) (c .before .before .before .before .text .ensures (stay room₁)) in
+    let other = taken-as _ _ _ _ _ _ _ _ (c .enum-told .given .1) (c .before .before .before .before .text .ensures (stay room₁)) in
     unmoved (other .0) (part-off inD _ _ room room₁ (o .is) (entry .args .level) single refl (o .within) (o .within₁) (entry .pre .inside) (entry .pre .layable) (other .1))
 
 add-next : tie.Need-add-next
@@ -35,7 +35,7 @@ same-length-2 c = search needs
 returns-2 : tie.Need-returns-2
 returns-2 c inD room room₁ single o =
     let a = c .before .before .before .before .before .before .before .before .before .before .args in
-    part-on inD _ _ room room₁ (o .is) (a .level) single (taken-to _ _ _ _ _ _ _ _ (c .before .t .given .1) (c .before .before .before .before .before .text .ensures (stay room₁))) (shallow-kind (a .kind) (a .level) (o .shallow))
+    part-on inD _ _ room room₁ (o .is) (a .level) single (taken-as _ _ _ _ _ _ _ _ (c .before .t .given .1) (c .before .before .before .before .before .text .ensures (stay room₁))) (shallow-kind (a .kind) (a .level) (o .shallow))
 
 pub optional-spec : {M : Type 1} → statement M
 optional-spec =

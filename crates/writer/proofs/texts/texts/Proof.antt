@@ -1,7 +1,7 @@
 -- `texts::texts`: the list from its first item to where the code stands, for every room that has such a list.
 use Prim.Native.Nat.{_-_, _/_, _≤_}
 use Rattle.meaning.specs.Editions.{Room, State, state, listEnds}
-use Rattle.writer.proofs.Aheads.{taken-other, taken-to}
+use Rattle.writer.proofs.Aheads.{taken-as}
 use Rattle.writer.proofs.Laying.{laid-layable, laid-length}
 use Rattle.writer.proofs.Lists.{item-on, laid-from, layable-from, texts-end}
 use Rattle.writer.proofs.Onward.{onward-none, onward-then}
@@ -38,7 +38,7 @@ enum-told : tie.Need-enum-told Inv-loop μ-loop
 enum-told c = search needs
 
 put-requires : tie.Need-put-requires Inv-loop μ-loop
-put-requires c κs = layable-from (taken-other _ _ _ _ _ _ _ _ (c .before .enum-told .given .1) (c .before .before .before .before .before .text .ensures listEnds) .0) (c .before .before .before .before .before .before .before .loop .inv .1)
+put-requires c κs = layable-from (taken-as _ _ _ _ _ _ _ _ (c .before .enum-told .given .1) (c .before .before .before .before .before .text .ensures listEnds) .0) (c .before .before .before .before .before .before .before .loop .inv .1)
 
 same-length : tie.Need-same-length Inv-loop μ-loop
 same-length c = search needs
@@ -46,20 +46,20 @@ same-length c = search needs
 returns : tie.Need-returns Inv-loop μ-loop
 returns c inD room single st₁ t =
     let l = c .before .before .before .before .before .before .before .before .before .before .loop in
-    let other = taken-other _ _ _ _ _ _ _ _ (c .before .before .before .before .enum-told .given .1) (c .before .before .before .before .before .before .before .before .text .ensures (t .item)) in
+    let other = taken-as _ _ _ _ _ _ _ _ (c .before .before .before .before .enum-told .given .1) (c .before .before .before .before .before .before .before .before .text .ensures (t .item)) in
     onward-then (c .before .before .before .before .before .before .before .before .before .before .before .before .before .before .pre .layable .small) (l .inv .3 inD room single st₁ t) (texts-end inD _ _ t (other .1) (l .inv .0) (laid-from (other .0) (c .before .before .put .ensures)))
 
 add-i : tie.Need-add-i Inv-loop μ-loop
 add-i c = search needs
 
 loop-less : tie.Need-loop-less Inv-loop μ-loop
-loop-less c = omega (arith, taken-to _ _ _ _ _ _ _ _ (c .before .t .given .1) (c .before .before .before .before .before .text .ensures listEnds) .ahead .within)
+loop-less c = omega (arith, taken-as _ _ _ _ _ _ _ _ (c .before .t .given .1) (c .before .before .before .before .before .text .ensures listEnds) .ahead .within)
 
 loop-again : tie.Need-loop-again Inv-loop μ-loop
 loop-again c =
     let l = c .before .before .before .before .before .before .before .loop in
-    let taken = taken-to _ _ _ _ _ _ _ _ (c .before .t .given .1) (c .before .before .before .before .before .text .ensures listEnds) in
-    (omega (arith, taken .ahead .within), laid-layable (taken .laid) (l .inv .1), laid-length (taken .laid) ∙ l .inv .2, λ inD room single st₁ t. onward-then (c .before .before .before .before .before .before .before .before .before .before .before .pre .layable .small) (l .inv .3 inD room single st₁ t) (item-on inD _ _ t (taken-to _ _ _ _ _ _ _ _ (c .before .t .given .1) (c .before .before .before .before .before .text .ensures (t .item)))))
+    let taken = taken-as _ _ _ _ _ _ _ _ (c .before .t .given .1) (c .before .before .before .before .before .text .ensures listEnds) in
+    (omega (arith, taken .ahead .within), laid-layable (taken .laid) (l .inv .1), laid-length (taken .laid) ∙ l .inv .2, λ inD room single st₁ t. onward-then (c .before .before .before .before .before .before .before .before .before .before .before .pre .layable .small) (l .inv .3 inD room single st₁ t) (item-on inD _ _ t (taken-as _ _ _ _ _ _ _ _ (c .before .t .given .1) (c .before .before .before .before .before .text .ensures (t .item)))))
 
 pub texts-spec : {M : Type 1} → statement M
 texts-spec =

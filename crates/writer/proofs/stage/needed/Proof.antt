@@ -1,9 +1,9 @@
--- `extras::needed`: by the two answers.
+-- `stage::needed`: by the two answers.
 use Rattle.writer.specs.Stages.{afterNeeded}
 use borrow.Author.Needs.{needs}
 use mathlib.Core.Path.{ap, sym}
-use Rattle.writer.proofs.extras.needed.Statement.{statement}
-use Rattle.writer.proofs.extras.needed.Tie as tie
+use Rattle.writer.proofs.stage.needed.Statement.{statement}
+use Rattle.writer.proofs.stage.needed.Tie as tie
 
 enum-known-t : tie.Need-enum-known-t
 enum-known-t c = search needs
