@@ -12,10 +12,8 @@ use Rattle.meaning.specs.Writing.{Cell, cell, broken}
 use Rattle.writer.specs.Laying.{rowWith}
 use Rattle.writer.specs.Bodies.{cellsAt, Words}
 use Rattle.meaning.specs.Editions.{Move}
-use Rattle.writer.specs.Rooms.{NotAmong}
-use Rattle.writer.specs.Stages.{nothingAhead, NoRow, RowAhead, AheadIs, viewed, rowAhead, NotOf, SoughtIs, RowTaken, TakenIs}
+use Rattle.writer.specs.Stages.{nothingAhead, NoRow, RowAhead, AheadIs, viewed, rowAhead, NotOf, SoughtIs, TakenIs}
 use Rattle.writer.specs.declared.ahead.Taken.{Taken}
-use Rattle.writer.specs.declared.ahead.Taken.the-variants.{To, Other}
 use Rattle.writer.specs.declared.ahead.Ahead.{Ahead}
 use Rattle.writer.specs.declared.body.Numbers.{Numbers}
 use Rattle.writer.proofs.Bodies.{cells-last, cell-in, cell-out}

@@ -6,15 +6,15 @@ use mathlib.Core.Logic.{⊎-elim}
 use mathlib.Core.Path.{_≡_, refl, ap, sym, _∙_, subst}
 use native.Mathlib.Omega.{arith}
 use lib.Dec.{eqb}
-use borrow.Author.Tests.{eq-eqb, ne-eqb, eqb-true}
+use borrow.Author.Tests.{eq-eqb, eqb-true}
 use Rattle.meaning.specs.Basics.{pick}
 use Rattle.meaning.specs.Editions.{State, Next, Form, text, date, number, block, itself, opens, quiet, isQuiet, Move}
-use Rattle.meaning.specs.Reading.{Row, tooDeep, Found, none, hit, find, orElse}
-use Rattle.meaning.specs.Writing.{atLevel, standsFor, valid, lead, writeValue, Cell, cell, broken, opensOf}
+use Rattle.meaning.specs.Reading.{Row, tooDeep, Found, none, hit, find}
+use Rattle.meaning.specs.Writing.{atLevel, standsFor, valid, lead, writeValue, Cell, cell, broken}
 use Rattle.writer.specs.Laying.{rowWith, Laid}
-use Rattle.writer.specs.Bodies.{cellsAt, opensNumber}
+use Rattle.writer.specs.Bodies.{cellsAt}
 use Rattle.writer.specs.Rooms.{rowsOf, ofKind, ownAmong, NotAmong, AllLead}
-use Rattle.writer.specs.Stages.{RowAhead, NoRow, AheadIs, viewed, rowAhead, NotOf, SoughtIs, RowTaken}
+use Rattle.writer.specs.Stages.{RowAhead, viewed, NotOf, SoughtIs, RowTaken}
 use Rattle.writer.specs.declared.ahead.Ahead.{Ahead}
 use Rattle.writer.proofs.Openings.{opens-past}
 
@@ -54,7 +54,7 @@ abbrev found : Move → Found → Move
 found m none = m
 found m (hit x) = x
 
-pub hit-is : {m x : Move} → hit m ≡ hit x → m ≡ x
+hit-is : {m x : Move} → hit m ≡ hit x → m ≡ x
 hit-is {m} q = ap (found m) q
 
 abbrev IsHit : Found → Type 0
@@ -93,12 +93,12 @@ module _ (m : Move) (level : ℕ) (q : isQuiet (m .form) ≡ false) where
   unfolding find
   alone row b z = ap (λ (x : Bool). pick (not x && eqb (m .kind) (row .kind) && takes (row .view) m) (hit m) none) q ∙ ap (λ (x : Bool). pick (x && takes (row .view) m) (hit m) none) z
 
-  pub sole-hit : (v : List ℕ) → takes v m ≡ true → ownAmong (m ∷ []) level (rowWith (m .kind) level v) ≡ hit m
+  sole-hit : (v : List ℕ) → takes v m ≡ true → ownAmong (m ∷ []) level (rowWith (m .kind) level v) ≡ hit m
   sole-hit v t =
       ap (λ (b : Bool). atLevel b (find (standsFor (rowWith (m .kind) level v)) (m ∷ []))) (eq-eqb level level refl)
       ∙ alone (rowWith (m .kind) level v) true (eq-eqb (m .kind) (m .kind) refl) ∙ ap (λ (b : Bool). pick b (hit m) none) t
 
-  pub sole-none : (row : Row) → (row .kind ≡ m .kind → row .level ≡ level → takes (row .view) m ≡ false) → ownAmong (m ∷ []) level row ≡ none
+  sole-none : (row : Row) → (row .kind ≡ m .kind → row .level ≡ level → takes (row .view) m ≡ false) → ownAmong (m ∷ []) level row ≡ none
   sole-none row f = by (eqb (row .level) level) refl
     where
       kinds : (b : Bool) → eqb (m .kind) (row .kind) ≡ b → row .level ≡ level → find (standsFor row) (m ∷ []) ≡ none

@@ -49,7 +49,7 @@ cells-indexed pool (kind ∷ (level ∷ (start ∷ (many ∷ rows)))) =
     ap (λ (x : List Cell). cellOf pool kind level start many ∷ x) (cells-indexed pool rows ∙ sym (cells-shift pool kind level start many rows 0 (length rows / 4)))
     ∙ ap (cellsFor pool (kind ∷ level ∷ start ∷ many ∷ rows) 0) (sym q)
 
-pub cells-are : (pool rows : List ℕ) → cellsOf pool rows ≡ cellsAt pool rows 0
+cells-are : (pool rows : List ℕ) → cellsOf pool rows ≡ cellsAt pool rows 0
 unfolding cellsAt
 cells-are pool rows = let q : length rows / 4 ≡ length rows / 4 - 0 = omega arith in cells-indexed pool rows ∙ ap (cellsFor pool rows 0) q
 

@@ -1,6 +1,6 @@
 -- A parameter by the kind of its first row: the only move of that kind among the parameters, a pass before it, or the closing.
-use Prim.Native.Nat.{ℕ, _+_, _/_, _≤_, _<_}
-use mathlib.Core.List.{List, [], _∷_, _++_}
+use Prim.Native.Nat.{ℕ, _+_, _/_, _≤_}
+use mathlib.Core.List.{List, [], _∷_}
 use mathlib.Core.Bool.{Bool, true, false, _&&_, not}
 use mathlib.Core.Logic.{_⊎_, inl, inr}
 use mathlib.Core.Path.{_≡_, refl, ap, sym, _∙_, subst}
@@ -11,13 +11,13 @@ use borrow.Author.Tests.{eqb-true}
 use Rattle.meaning.specs.Basics.{pick}
 use Rattle.meaning.specs.Kinds.{agentName}
 use Rattle.meaning.specs.Editions.{State, state, parameters, closed, isQuiet, closing, Move, moves, go}
-use Rattle.meaning.specs.Reading.{levelMost, Row, Found, none, hit, find, tooDeep}
-use Rattle.meaning.specs.Writing.{atLevel, standsFor, wayTo, isPass, Cell, cell, broken, opensOf}
+use Rattle.meaning.specs.Reading.{levelMost, Row, none, hit, find, tooDeep}
+use Rattle.meaning.specs.Writing.{atLevel, standsFor, wayTo, isPass, Cell, cell, broken}
 use Rattle.writer.specs.Edition.{editionOf}
 use Rattle.writer.specs.Laying.{Laid}
-use Rattle.writer.specs.Bodies.{halt, cellsAt, opensNumber}
+use Rattle.writer.specs.Bodies.{cellsAt}
 use Rattle.writer.specs.Rooms.{ofKind, ownAmong, NotAmong}
-use Rattle.writer.specs.Stages.{bodyAt, viewed, rowAhead, NoRow, RowAhead, AheadIs, RowTaken, TakenIs, Onward, StageIs, Beyond, afterNeeded}
+use Rattle.writer.specs.Stages.{viewed, rowAhead, NoRow, RowAhead, AheadIs, RowTaken, TakenIs, Onward, StageIs, Beyond, afterNeeded}
 use Rattle.writer.specs.Parameters.{atParameters, afterOne, afterStage, InParameters, ParameterIs, WayAhead, ClosingAhead, FoundIs}
 use Rattle.writer.specs.declared.ahead.Ahead.{Ahead}
 use Rattle.writer.specs.declared.ahead.Taken.{Taken}
@@ -26,9 +26,9 @@ use Rattle.writer.specs.declared.stage.Stage.{Stage}
 use Rattle.writer.specs.declared.stage.Stage.the-variants as stage
 use Rattle.writer.specs.declared.parameters.Parameter.{Parameter}
 use Rattle.writer.specs.declared.parameters.Parameter.the-variants.{Go, Last, Stuck}
-use Rattle.writer.proofs.Among.{find-kind, nothing-among, level-hit, not-hit, sole-move, same-kind, takes}
+use Rattle.writer.proofs.Among.{find-kind, nothing-among, not-hit, sole-move, same-kind, takes}
 use Rattle.writer.proofs.Openings.{opens-past}
-use Rattle.writer.proofs.Onward.{onward-then, onward-stuck, own-on, stage-then}
+use Rattle.writer.proofs.Onward.{onward-then, onward-stuck, own-on}
 use Rattle.writer.proofs.Stands.{parameters-close, parameters-pass}
 
 -- A row by the only move of its kind

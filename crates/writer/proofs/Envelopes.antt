@@ -25,11 +25,11 @@ sets-all m bs q =
     let e : 0 + length bs ≡ length m = omega arith in
     sets-eq bs m 0 (omega arith) ∙ ap (λ (x : List ℕ). bs ++ x) (ap (λ (k : ℕ). drop k m) e ∙ drop-length m) ∙ append-nil bs
 
-pub laid-all : {m bs m₁ : List ℕ} {p : ℕ} → Laid m 0 bs m₁ p → length m ≡ length bs → m₁ ≡ bs
+laid-all : {m bs m₁ : List ℕ} {p : ℕ} → Laid m 0 bs m₁ p → length m ≡ length bs → m₁ ≡ bs
 laid-all {m} {bs} l q = l .memory ∙ sets-all m bs q
 
 -- identifier and length
-pub head-length : (base : Bool) (many : ℕ) → length (headOf base many) + many ≡ envelopeSize many
+head-length : (base : Bool) (many : ℕ) → length (headOf base many) + many ≡ envelopeSize many
 head-length base many = at (leb (3 + many) 65535)
   where
     at : (b : Bool) → suc (length (pick b (lengthBytes twoBytes (3 + many)) (0 ∷ 0 ∷ lengthBytes fourBytes (7 + many)))) + many ≡ pick b (3 + many) (7 + many)

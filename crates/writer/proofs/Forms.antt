@@ -63,7 +63,7 @@ module _ (l : List Move) (level kind lvl : ℕ) (v : List ℕ) (q : lvl ≡ leve
   own-is : (o : Found) → find (takes v) (ofKind kind l) ≡ o → ownAmong l level (rowWith kind lvl v) ≡ o
   own-is o z = ap (λ (b : Bool). atLevel b (find (standsFor (rowWith kind lvl v)) l)) (eq-eqb lvl level q) ∙ find-kind (rowWith kind lvl v) l ∙ z
 
-  pub picked : (m : Move) {before : List ℕ} {at : ℕ} {after : List ℕ} {p : ℕ} → 3 ≤ kind → find (takes v) (ofKind kind l) ≡ hit m → Laid before at (lead m ++ writeValue (m .form) v) after p → RowTaken l level pool rows i before at after p
+  picked : (m : Move) {before : List ℕ} {at : ℕ} {after : List ℕ} {p : ℕ} → 3 ≤ kind → find (takes v) (ofKind kind l) ≡ hit m → Laid before at (lead m ++ writeValue (m .form) v) after p → RowTaken l level pool rows i before at after p
   picked m k z x =
       record { row = rowWith kind lvl v; move = m; ahead = a; inner = sym (opens-past kind lvl v (omega arith)); stands = own-is (hit m) z; laid = x }
 

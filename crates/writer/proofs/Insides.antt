@@ -1,21 +1,18 @@
 -- The inside of an envelope by its stages: what stands at its front, and its end behind the closing 01, where nothing fits any more.
 use Prim.Native.Nat.{ℕ, suc, _+_, _/_, _%_, _≤_, _<_}
-use mathlib.Core.List.{List, [], _∷_, _++_, append-nil}
+use mathlib.Core.List.{List, [], _∷_, append-nil}
 use mathlib.Core.Bool.{Bool, true, false, not}
 use mathlib.Core.Path.{_≡_, refl, ap, sym, _∙_, subst}
 use lib.Dec.{eqb}
 use lib.ListN.{length}
 use Rattle.meaning.specs.Basics.{pick}
-use Rattle.meaning.specs.Editions.{Edition, State, state, headDate, parameters, closed, outer, moves, shared, own, representations, sharedDate, ownDates}
-use Rattle.meaning.specs.Reading.{none, find}
+use Rattle.meaning.specs.Editions.{Edition, State, state, headDate, closed, outer, representations}
 use Rattle.meaning.specs.Headers.{start}
 use Rattle.meaning.specs.Writing.{Cell, cell, broken, Opens, envelopeRow, innerRow, opensOf, fitRow}
 use Rattle.laws.specs.Fits.{close-once}
 use Rattle.writer.specs.Edition.{editionOf}
 use Rattle.writer.specs.Bodies.{rowCell, Body, halt, body, onBody, sealBody, rowBody, cellBody, bodyOf, cellsAt, opensNumber, openNumber, endsBefore, BodyIs}
-use Rattle.writer.specs.Rooms.{rowsOf, AllLead, Closes}
 use Rattle.writer.specs.Stages.{bodyAt, TakenIs, Onward, StageIs, afterNeeded}
-use Rattle.writer.specs.Parameters.{atParameters}
 use Rattle.writer.specs.declared.ahead.Taken.{Taken}
 use Rattle.writer.specs.declared.stage.Stage.{Stage}
 use Rattle.writer.specs.declared.body.Bodied.the-variants.{Stuck, Ended}

@@ -45,7 +45,7 @@ sets-capped m x cs h = at (ltb x 1048576) refl
     at true q = refl
     at false q = let k = ltb-false x 1048576 q in sets-past m 1048576 cs h ∙ sym (sets-past m x cs (omega arith))
 
-pub sets-append : (m : List ℕ) (at : ℕ) (bs cs : List ℕ) → sets m at (bs ++ cs) ≡ sets (sets m at bs) (at + length bs) cs
+sets-append : (m : List ℕ) (at : ℕ) (bs cs : List ℕ) → sets m at (bs ++ cs) ≡ sets (sets m at bs) (at + length bs) cs
 sets-append m at [] cs = let q : at ≡ at + 0 = omega arith in ap (λ (x : ℕ). sets m x cs) q
 sets-append m at (b ∷ bs) cs =
     let q : suc at + length bs ≡ at + suc (length bs) = omega arith in
@@ -66,7 +66,7 @@ pub laid-none : (m : List ℕ) (at : ℕ) → Layable m at → Laid m at [] m at
 laid-none m at l = record { memory = refl; counted = let q : at ≡ at + 0 = omega arith in capped-id at (l .counted) ∙ ap capped q }
 
 module _ {m : List ℕ} {at : ℕ} {bs m₁ : List ℕ} {p₁ : ℕ} (l : Laid m at bs m₁ p₁) where
-  pub laid-most : p₁ ≤ 1048576
+  laid-most : p₁ ≤ 1048576
   laid-most = omega (arith, l .counted, capped-most (at + length bs))
 
   pub laid-length : length m₁ ≡ length m

@@ -1,12 +1,12 @@
 -- Texts and extras one behind the other: their rooms, step by step.
-use Prim.Native.Nat.{ℕ, _+_, _/_, _≤_, _<_}
+use Prim.Native.Nat.{ℕ, _+_, _/_, _≤_}
 use mathlib.Core.List.{List, [], _∷_}
-use mathlib.Core.Bool.{Bool, true, false, _&&_}
-use mathlib.Core.Path.{_≡_, refl, ap, sym, _∙_, subst}
+use mathlib.Core.Bool.{Bool, false, _&&_}
+use mathlib.Core.Path.{_≡_, refl, ap, sym, subst}
 use lib.Dec.{eqb, ltb}
 use lib.ListN.{length}
 use Rattle.meaning.specs.Kinds.{extraKey}
-use Rattle.meaning.specs.Editions.{Room, State, state, Next, stay, text, noCode, anyValues, on_▸_▸_▸_}
+use Rattle.meaning.specs.Editions.{Room, State, state, stay, text, noCode, anyValues, on_▸_▸_▸_}
 use Rattle.meaning.specs.Reading.{levelMost}
 use Rattle.writer.specs.Edition.{editionOf}
 use Rattle.writer.specs.Laying.{Laid, Layable}

@@ -1,18 +1,18 @@
 -- Stages one behind the other, and the steps that they are made of: a row by its own move, a closing, an optional part left out.
-use Prim.Native.Nat.{ℕ, suc, _+_, _/_, _≤_, _<_}
+use Prim.Native.Nat.{ℕ, _+_, _/_, _≤_, _<_}
 use mathlib.Core.List.{List, [], _∷_, _++_, append-assoc}
-use mathlib.Core.Bool.{Bool, true, false, _&&_, not}
+use mathlib.Core.Bool.{Bool, true, false}
 use mathlib.Core.Path.{_≡_, refl, ap, sym, _∙_, subst}
 use native.Mathlib.Omega.{arith}
 use lib.Dec.{eqb}
 use lib.ListN.{length}
 use Rattle.meaning.specs.Basics.{pick}
 use Rattle.meaning.specs.Editions.{Edition, State, Next, Move, moves, go}
-use Rattle.meaning.specs.Reading.{tooDeep, Row, Found, none, hit, find}
+use Rattle.meaning.specs.Reading.{tooDeep, none, hit, find}
 use Rattle.meaning.specs.Writing.{unfit, fits, lead, atLevel, standsFor, writeValue, Cell, cell, broken}
 use Rattle.writer.specs.Edition.{editionOf}
 use Rattle.writer.specs.Laying.{Laid, Layable}
-use Rattle.writer.specs.Bodies.{Body, halt, body, onBody, rowBody, bodyOf, cellsAt, BodyOnto}
+use Rattle.writer.specs.Bodies.{Body, halt, body, onBody, rowBody, bodyOf, cellsAt}
 use Rattle.writer.specs.Rooms.{rowsOf, ownAmong, NotAmong, AllLead, Closes, Needs}
 use Rattle.writer.specs.Stages.{bodyAt, RowTaken, TakenIs, Onward, StageIs, Beyond, afterNeeded}
 use Rattle.writer.specs.declared.ahead.Taken.{Taken}
@@ -99,7 +99,7 @@ module _ (inD : Bool) (pool rows : List ℕ) {i : ℕ} (st : State) {l : List Mo
 
 -- A row that stands elsewhere
 
-pub not-in-room : (e : Edition) (st : State) (l : List Move) (cs : List Cell) → rowsOf (moves e (st .room)) ≡ l → NotAmong l (st .level) cs → NotAmong (moves e (st .room)) (st .level) cs
+not-in-room : (e : Edition) (st : State) (l : List Move) (cs : List Cell) → rowsOf (moves e (st .room)) ≡ l → NotAmong l (st .level) cs → NotAmong (moves e (st .room)) (st .level) cs
 not-in-room e st l [] q x = tt
 not-in-room e st l (broken ∷ cs) q x = tt
 not-in-room e st l (cell row ∷ cs) q x = ap (atLevel (eqb (row .level) (st .level))) (find-rows row (moves e (st .room)) ∙ ap (find (standsFor row)) q) ∙ x

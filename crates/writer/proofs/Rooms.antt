@@ -2,7 +2,7 @@
 use Prim.Native.Nat.{ℕ}
 use mathlib.Core.List.{List, [], _∷_, _++_}
 use mathlib.Core.Bool.{Bool, true, false}
-use mathlib.Core.Path.{_≡_, refl, ap, sym, subst}
+use mathlib.Core.Path.{_≡_, refl, ap}
 use Rattle.meaning.specs.Basics.{pick}
 use Rattle.meaning.specs.Kinds.{standardRepresentation, ownRepresentation, receivedBy, receivedFrom, receivedId, receivedVia, toOpens, fromOpens, receiverOpens, addressesOpen, address, resolversOpen, comments, payloadLength, payloadEncoding, encryptedOpens, encryptedItem, ownKey, ownValue, behaviourOpens}
 use Rattle.meaning.specs.Editions.{State, state, receivedBegins, headRepresentation, headDate, parameters, ownText, parameterRepresentation, behaviourValue, encryptedTexts, receivedDate, afterDate, afterFrom, afterId, afterVia, receivedExtra, agentList, oneAgent, afterName, addressTexts, afterAddresses, afterResolvers, agentExtra, Next, outer, inner, stay, deeper, listEnds, agentEnds, text, number, opens, noCode, closing, Move, moves, shared, own, representations, anyValues, sharedDate, ownDates, go, on_▸_▸_▸_, pass_▸_}

@@ -2,13 +2,13 @@
 use Prim.Native.Nat.{ℕ, suc, _+_}
 use mathlib.Core.List.{List, [], _∷_, _++_, append-assoc}
 use mathlib.Core.Bool.{Bool, true, false, _||_}
-use mathlib.Core.Path.{_≡_, refl, ap, sym, _∙_}
+use mathlib.Core.Path.{_≡_, refl, ap, _∙_}
 use lib.Dec.{eqb}
 use native.Mathlib.Omega.{arith}
 use Rattle.meaning.specs.Basics.{pick}
 use Rattle.meaning.specs.Editions.{Edition, B, D, State, state, parameters, closed, outer, closing, Move, moves, shared, own, go, pass_▸_}
 use Rattle.meaning.specs.Reading.{isClosed, Row, Found, none, hit, find, orElse}
-use Rattle.meaning.specs.Writing.{Fit, unfit, fits, led, Way, ways, wayOf, wayTo, atLevel, fitBy, place, standsFor, isPass, valid, fitRow, closeBy, close, Cell, cell, broken, Opens, envelopeRow, innerRow, opensOf}
+use Rattle.meaning.specs.Writing.{Fit, unfit, fits, led, Way, ways, wayOf, wayTo, fitBy, place, isPass, fitRow, closeBy, close, Cell, cell, broken, Opens, envelopeRow, innerRow, opensOf}
 use Rattle.laws.specs.Fits.{fit-once, close-once}
 use Rattle.writer.specs.Edition.{editionOf}
 use Rattle.writer.specs.Rooms.{ownAmong, NotAmong, Passes, Closes}
@@ -29,10 +29,10 @@ module _ (e : Edition) (st : State) (row : Row) where
   pub fits-own : {m : Move} → ownMove ≡ hit m → fitRow e st row ≡ place st row m
   fits-own q = by-way (ap (λ (o : Found). ways o passMove) q)
 
-  pub fits-pass : {m : Move} → ownMove ≡ none → passMove ≡ hit m → fitRow e st row ≡ led (m .code ∷ []) (fitRow e (go (m .next) st) row)
+  fits-pass : {m : Move} → ownMove ≡ none → passMove ≡ hit m → fitRow e st row ≡ led (m .code ∷ []) (fitRow e (go (m .next) st) row)
   fits-pass q p = by-way (ap (λ (o : Found). ways o passMove) q ∙ ap (ways none) p)
 
-  pub fits-none : ownMove ≡ none → passMove ≡ none → fitRow e st row ≡ unfit
+  fits-none : ownMove ≡ none → passMove ≡ none → fitRow e st row ≡ unfit
   fits-none q p = by-way (ap (λ (o : Found). ways o passMove) q ∙ ap (ways none) p)
 
 -- in a room whose only pass is a closing, every row is led on by it

@@ -5,19 +5,18 @@ use mathlib.Core.Bool.{Bool, true, false, _&&_}
 use mathlib.Core.Path.{_≡_, refl, ap, sym, _∙_, subst}
 use native.Mathlib.Omega.{arith}
 use native.Mathlib.Numerals.{add-one}
-use lib.Dec.{eqb, ltb}
+use lib.Dec.{eqb}
 use lib.ListN.{length}
 use borrow.Author.Tests.{ne-eqb, lt-ltb, le-ltb}
 use Rattle.meaning.specs.Basics.{pick}
-use Rattle.meaning.specs.Kinds.{agentName, addressesOpen, address, resolversOpen}
-use Rattle.meaning.specs.Editions.{State, state, parameters, agentList, oneAgent, afterName, addressTexts, afterAddresses, afterResolvers, agentExtra, Next, stay, deeper, listEnds, agentEnds, text, opens, closing, Move, moves, shared, own, go, on_▸_▸_▸_, pass_▸_}
-use Rattle.meaning.specs.Reading.{none, hit, find, tooDeep}
+use Rattle.meaning.specs.Editions.{State, state, parameters, agentList, oneAgent, afterName, afterResolvers, stay, deeper, listEnds, agentEnds, closing, Move, go, pass_▸_}
+use Rattle.meaning.specs.Reading.{none, hit, tooDeep}
 use Rattle.writer.specs.Edition.{editionOf}
 use Rattle.writer.specs.Laying.{Laid}
 use Rattle.writer.specs.Bodies.{halt, cellsAt}
-use Rattle.writer.specs.Rooms.{rowsOf, NotAmong, Closes, TextsIn, ExtrasIn}
+use Rattle.writer.specs.Rooms.{NotAmong, Closes, ExtrasIn}
 use Rattle.writer.specs.Stages.{bodyAt, RowTaken, Onward}
-use Rattle.writer.specs.Turns.{extraCode, agentNames, agentsAt, rowsAndLevels, TurnIs}
+use Rattle.writer.specs.Turns.{extraCode, agentNames, agentsAt, TurnIs}
 use Rattle.writer.specs.declared.agents.Turn.{Turn}
 use Rattle.writer.specs.declared.agents.Turn.the-variants.{On, Done, Stuck}
 use Rattle.writer.proofs.Among.{sole-move}

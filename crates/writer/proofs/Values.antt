@@ -4,14 +4,13 @@ use mathlib.Core.Bool.{Bool, true, false, _&&_}
 use mathlib.Core.List.{List, [], _∷_, _++_, append-nil}
 use Prim.Native.Nat.{ℕ, suc, _+_, _-_, _≤_, _<_}
 use native.Mathlib.Omega.{arith}
-use lib.Dec.{T, eqb, leb, ltb}
+use lib.Dec.{T, eqb, leb}
 use lib.ListN.{length, take, getD}
 use lib.Seq.{take-length}
-use borrow.Author.Tests.{ne-eqb, eqb-true, le-leb, leb-false, leb-true}
+use borrow.Author.Tests.{ne-eqb, eqb-true, leb-false, leb-true}
 use Rattle.meaning.specs.Basics.{pick, isEmpty}
-use Rattle.meaning.specs.Bytes.{Taken, took, failed, prefixed, textByte, takeText, textOk, numberOk, takeNumber, dateOk, takeDate, Check, passes, Reach, absolute, relative, dateChecks, blockOk, lengthBytes, oneByte, Width, fewest, past}
-use Rattle.meaning.specs.Editions.{block}
-use Rattle.meaning.specs.Writing.{isOnly, writeValue}
+use Rattle.meaning.specs.Bytes.{Taken, took, failed, prefixed, textByte, takeText, textOk, numberOk, takeNumber, dateOk, takeDate, Check, passes, Reach, absolute, relative, dateChecks}
+use Rattle.meaning.specs.Writing.{isOnly}
 use Rattle.laws.specs.Logic.{is-true}
 use Rattle.laws.specs.From.{from, from-length, from-end, from-cons}
 use Rattle.laws.specs.Values.{Was, text-byte-above, date-in, date-out, number-in, number-out}
@@ -55,14 +54,14 @@ module _ (stage : List ℕ → Taken) (ok : List ℕ → Bool) (into : (v : List
     none-at (took w rest) refusal left e q = let z : _≡_ {A = ℕ} 0 1 = cc q in absurd (omega arith)
     none-at (failed refusal₁ left₁) refusal left e q = not-ok v (λ p. let z : _≡_ {A = ℕ} 0 1 = cc (e, p) in omega arith)
 
-    pub value-whole : {kind back : ℕ} {r : Value} {kd start many after : ℕ} → Valued s end at kind back (stage v) r → r ≡ Is kd start many after → leb end after ≡ ok v
+    value-whole : {kind back : ℕ} {r : Value} {kd start many after : ℕ} → Valued s end at kind back (stage v) r → r ≡ Is kd start many after → leb end after ≡ ok v
     value-whole {many = many} {after = after} a q = by (leb end after) refl (valued-at a q .0)
       where
         by : (b : Bool) → leb end after ≡ b → span 0 (stage v) ≡ spans many (from s after end) → leb end after ≡ ok v
         by true e p = e ∙ sym (whole-at (stage v) many after refl p (leb-true end after e))
         by false e p = e ∙ sym (part-at (stage v) many after refl p (leb-false end after e))
 
-    pub value-refused : {kind back : ℕ} {r : Value} {refusal place : ℕ} → Valued s end at kind back (stage v) r → r ≡ Refused refusal place → false ≡ ok v
+    value-refused : {kind back : ℕ} {r : Value} {refusal place : ℕ} → Valued s end at kind back (stage v) r → r ≡ Refused refusal place → false ≡ ok v
     value-refused a q = sym (none-at (stage v) _ _ refl (valued-refused a q .0))
 
 from-all : (v : List ℕ) → from v 0 (length v) ≡ v
@@ -158,14 +157,3 @@ only-byte c (d ∷ (e ∷ v)) k q = absurd (omega arith)
 pub empty-is : (v : List ℕ) → isEmpty v ≡ eqb (length v) 0
 empty-is [] = refl
 empty-is (b ∷ v) = sym (ne-eqb (suc (length v)) 0 (λ q. omega arith))
-
-pub block-is : (w : Width) (v : List ℕ) (many : ℕ) → length v ≡ many → (leb (fewest w) many && ltb many (past w)) ≡ blockOk w v
-unfolding blockOk
-block-is w v many e = ap (λ (n : ℕ). leb (fewest w) n && ltb n (past w)) (sym e)
-
-pub block-writes : (w : Width) (v : List ℕ) (many : ℕ) → length v ≡ many → lengthBytes w many ++ v ≡ writeValue (block w) v
-unfolding writeValue
-block-writes w v many e = ap (λ (n : ℕ). lengthBytes w n ++ v) (sym e)
-
-pub short-block-is : (v : List ℕ) (many : ℕ) → length v ≡ many → ltb many 256 ≡ blockOk oneByte v
-short-block-is v many e = ap (λ (b : Bool). b && ltb many 256) (sym (le-leb 0 many (omega arith))) ∙ block-is oneByte v many e

@@ -174,7 +174,7 @@ verdict-base n t i o e bs r (cell row ∷ cs) = refl
 
 -- The tally says the same, though its count stops at the limit
 
-pub sized-past : (n i k : ℕ) → 1048576 ≤ k → sized n i k ≡ exceeds i
+sized-past : (n i k : ℕ) → 1048576 ≤ k → sized n i k ≡ exceeds i
 sized-past zero i k h = refl
 sized-past (suc n) i k h = rw (lt-leb (3 + k) 65535 (omega arith), lt-leb (7 + k) 1048576 (omega arith)) refl
 

@@ -13,7 +13,7 @@ use Rattle.meaning.specs.Memory.{laidOver}
 use Rattle.laws.specs.Envelopes.{wrap-length}
 use Rattle.writer.specs.Edition.{editionOf}
 use Rattle.writer.specs.Bodies.{cellsAt, halt, body, openNumber}
-use Rattle.writer.specs.Whole.{needs, verdict, bytesOfPlan, insides, insidesOf, Begins, Writable, EnvelopeWritten}
+use Rattle.writer.specs.Whole.{verdict, bytesOfPlan, insides, insidesOf, Begins, Writable, EnvelopeWritten}
 use Rattle.writer.specs.declared.body.Bodied.{Bodied}
 use Rattle.writer.proofs.Laying.{capped-most}
 use Rattle.writer.proofs.Wholes.{whole-edge, small-count}
@@ -22,7 +22,7 @@ use Rattle.writer.proofs.Passing.{Passes, needs-most, passing-none, pas
 
 -- where the writing stands: before row i and the k-th length, with the bytes so far in front of the output
 pub record Writing (inD : Bool) (pool rows lengths before : List ℕ) (u i k at : ℕ) (output : List ℕ) : Type 0 where
-  pub may-come : ℕ
+  may-come : ℕ
   pub bytes : List ℕ
   pub passes : Passes inD pool rows i may-come at u
   pub noted : Begins (insidesOf (rest inD pool rows i)) (drop k lengths)

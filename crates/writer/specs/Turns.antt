@@ -1,5 +1,5 @@
 -- Agents and parameters: what their stages promise.
-use Prim.Native.Nat.{ℕ, _+_, _*_, _-_, _/_, _≤_, _<_}
+use Prim.Native.Nat.{ℕ, _+_, _*_, _-_, _/_, _≤_}
 use mathlib.Core.List.{List, [], _∷_}
 use mathlib.Core.Bool.{Bool, true, false, _&&_}
 use mathlib.Core.Path.{_≡_}
@@ -7,11 +7,9 @@ use lib.Dec.{eqb}
 use lib.ListN.{length}
 use Rattle.meaning.specs.Basics.{pick}
 use Rattle.meaning.specs.Kinds.{agentName}
-use Rattle.meaning.specs.Editions.{State, state, parameters, agentList, oneAgent, afterName, stay, text, Move, closing, on_▸_▸_▸_}
-use Rattle.meaning.specs.Writing.{Cell, cell, broken, wayTo}
+use Rattle.meaning.specs.Editions.{State, state, parameters, agentList, oneAgent, afterName, stay, text, Move, on_▸_▸_▸_}
 use Rattle.writer.specs.Laying.{Layable}
-use Rattle.writer.specs.Bodies.{halt, cellsAt}
-use Rattle.writer.specs.Rooms.{NotAmong}
+use Rattle.writer.specs.Bodies.{halt}
 use Rattle.writer.specs.Stages.{bodyAt, Onward}
 use Rattle.writer.specs.declared.agents.Turn.{Turn}
 use Rattle.writer.specs.declared.agents.Turn.the-variants.{On, Done, Stuck}

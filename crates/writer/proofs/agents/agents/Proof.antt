@@ -1,6 +1,6 @@
 -- `agents::agents`: turn by turn, until the list of level 1 or the one agent has ended.
 use Prim.Native.Nat.{_/_, _≤_}
-use Rattle.writer.proofs.Laying.{laid-layable, laid-length}
+use Rattle.writer.proofs.Laying.{laid-length}
 use Rattle.writer.proofs.Onward.{onward-layable, onward-none, onward-stuck, onward-then}
 use Rattle.writer.proofs.Turning.{turn-as}
 use Rattle.writer.specs.Laying.{Layable}

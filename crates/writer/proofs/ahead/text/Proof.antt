@@ -1,6 +1,5 @@
 -- `ahead::text`: no row of this kind and level is ahead, or its bytes are text, or they are not.
-use Prim.Native.Nat.{ℕ}
-use Rattle.meaning.specs.Editions.{Next, on_▸_▸_▸_}
+use Rattle.meaning.specs.Editions.{on_▸_▸_▸_}
 use Rattle.meaning.specs.Editions as editions
 use Rattle.meaning.specs.Writing.{valid, writeValue}
 use Rattle.writer.proofs.Laying.{laid-layable, laid-then}

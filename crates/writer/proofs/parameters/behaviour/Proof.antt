@@ -2,7 +2,7 @@
 use Rattle.writer.proofs.Aheads.{taken-as}
 use Rattle.writer.proofs.Laying.{laid-layable}
 use Rattle.writer.proofs.Choosing.{after-first, parameter-row}
-use Rattle.meaning.specs.Editions.{state, parameters, behaviourValue, outer, opens, anyValues, on_▸_▸_▸_}
+use Rattle.meaning.specs.Editions.{state, parameters, behaviourValue, outer, opens, on_▸_▸_▸_}
 use Rattle.meaning.specs.Kinds.{behaviourOpens}
 use Rattle.writer.proofs.Rooms.{behaviour-first, behaviour-value}
 use Rattle.writer.proofs.Onward.{needed-is}

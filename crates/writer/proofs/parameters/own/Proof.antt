@@ -2,13 +2,12 @@
 use Rattle.writer.proofs.Aheads.{taken-as}
 use Rattle.writer.proofs.Laying.{laid-layable}
 use Rattle.writer.proofs.Choosing.{after-first, parameter-row}
-use Rattle.meaning.specs.Editions.{state, parameters, ownText, outer, text, noCode, on_▸_▸_▸_}
-use Rattle.meaning.specs.Kinds.{ownKey, ownValue}
+use Rattle.meaning.specs.Editions.{state, parameters, ownText, outer, text, on_▸_▸_▸_}
+use Rattle.meaning.specs.Kinds.{ownKey}
 use Rattle.writer.proofs.Rooms.{own-first, own-text}
 use Rattle.writer.proofs.Onward.{needed-is}
 use borrow.Author.Needs.{needs}
 use mathlib.Core.Bool.{false}
-use mathlib.Core.List.{[], _∷_}
 use mathlib.Core.Path.{refl}
 use Prim.Native.Nat.{_+_, _/_, _≤_}
 use lib.ListN.{length}

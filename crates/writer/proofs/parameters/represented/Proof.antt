@@ -1,5 +1,5 @@
 -- `parameters::represented`: the code 04 leads to the representation that it needs.
-use Rattle.meaning.specs.Editions.{state, parameters, parameterRepresentation, outer, representations}
+use Rattle.meaning.specs.Editions.{state, parameters, parameterRepresentation, outer}
 use Rattle.writer.proofs.Rooms.{pass-represents, parameter-representation}
 use Rattle.writer.proofs.Choosing.{beyond-one, found-stage, pass-on}
 use Rattle.writer.proofs.Laying.{laid-layable}

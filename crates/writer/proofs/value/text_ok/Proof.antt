@@ -1,6 +1,5 @@
 -- `value::text_ok`: the run of text comes to the end, or it is no text.
 use Rattle.writer.proofs.Values.{text-run}
-use borrow.Author.Needs.{needs}
 use native.Mathlib.Omega.{arith}
 use Rattle.writer.proofs.value.text_ok.Statement.{statement}
 use Rattle.writer.proofs.value.text_ok.Tie as tie
