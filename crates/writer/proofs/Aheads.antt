@@ -43,27 +43,31 @@ ahead-row {pool} {rows} {i} {r} a h = at (a .is)
     at (inl x) = x
     at (inr x) = absurd (h (x .0))
 
+no-row : (P : List Cell → Type 0) → P [] → ((cs : List Cell) → P (broken ∷ cs)) → (cs : List Cell) → NoRow cs → P cs
+no-row P end out [] x = end
+no-row P end out (broken ∷ cs) x = out cs
+no-row P end out (cell row ∷ cs) x = absurd x
+
+-- what holds of the row ahead, and where there is none, holds of the cells
+pub ahead-cells : (P : List Cell → Type 0) {pool rows : List ℕ} {i : ℕ} {r : Ahead} → AheadIs pool rows i r → P [] → ((cs : List Cell) → P (broken ∷ cs)) → P (cell (rowAhead pool r) ∷ cellsAt pool rows (i + 1)) → P (cellsAt pool rows i)
+ahead-cells P {pool} {rows} {i} {r} a end out row = at (a .is)
+  where
+    at : RowAhead pool rows i (rowAhead pool r) ⊎ ((r .kind ≡ 0) × NoRow (cellsAt pool rows i)) → P (cellsAt pool rows i)
+    at (inl x) = subst P (sym (x .cells)) row
+    at (inr x) = no-row P end out (cellsAt pool rows i) (x .1)
+
 -- Of a kind and level
 
 module _ {pool rows : List ℕ} {i : ℕ} {r : Ahead} (kind level : ℕ) (a : AheadIs pool rows i r) where
-  no-row : (cs : List Cell) → NoRow cs → NotOf kind level cs
-  no-row [] y = tt
-  no-row (broken ∷ cs) y = tt
-  no-row (cell row ∷ cs) y = absurd y
-
   pub not-sought : {x : Ahead} → (r .kind ≡ kind → r .level ≡ level → ⊥) → x ≡ nothingAhead → SoughtIs pool rows i kind level x
-  not-sought {x} f q = subst (SoughtIs pool rows i kind level) (sym q) (record { ordered = omega arith; inside = omega arith; short = omega arith; is = inr (refl, at (a .is)) })
-    where
-      at : RowAhead pool rows i (rowAhead pool r) ⊎ ((r .kind ≡ 0) × NoRow (cellsAt pool rows i)) → NotOf kind level (cellsAt pool rows i)
-      at (inl y) = subst (NotOf kind level) (sym (y .cells)) f
-      at (inr y) = no-row (cellsAt pool rows i) (y .1)
+  not-sought {x} f q = subst (SoughtIs pool rows i kind level) (sym q) (record { ordered = omega arith; inside = omega arith; short = omega arith; is = inr (refl, ahead-cells (NotOf kind level) a tt (λ cs. tt) f) })
 
   pub sought : r .kind ≡ kind → r .level ≡ level → SoughtIs pool rows i kind level r
   sought k l = record { ordered = a .ordered; inside = a .inside; short = a .short; is = at (a .is) }
     where
       at : RowAhead pool rows i (rowAhead pool r) ⊎ ((r .kind ≡ 0) × NoRow (cellsAt pool rows i)) → ((r .kind ≡ kind) × RowAhead pool rows i (rowWith kind level (viewed pool r))) ⊎ ((r .kind ≡ 0) × NotOf kind level (cellsAt pool rows i))
       at (inl y) = inl (k, record { within = y .within; cells = y .cells ∙ ap (λ (n : ℕ). cell (rowWith n (r .level) (viewed pool r)) ∷ cellsAt pool rows (i + 1)) k ∙ ap (λ (n : ℕ). cell (rowWith kind n (viewed pool r)) ∷ cellsAt pool rows (i + 1)) l })
-      at (inr y) = inr (y .0, no-row (cellsAt pool rows i) (y .1))
+      at (inr y) = inr (y .0, no-row (NotOf kind level) tt (λ cs. tt) (cellsAt pool rows i) (y .1))
 
 -- What was taken, by the answer
 

@@ -2,7 +2,6 @@
 use Prim.Native.Nat.{ℕ, _+_, _/_, _≤_}
 use mathlib.Core.List.{List, [], _∷_}
 use mathlib.Core.Bool.{Bool, true, false, _&&_, not}
-use mathlib.Core.Logic.{_⊎_, inl, inr}
 use mathlib.Core.Path.{_≡_, refl, ap, sym, _∙_, subst}
 use native.Mathlib.Omega.{arith}
 use lib.Dec.{eqb, ltb}
@@ -12,12 +11,12 @@ use Rattle.meaning.specs.Basics.{pick}
 use Rattle.meaning.specs.Kinds.{agentName}
 use Rattle.meaning.specs.Editions.{State, state, parameters, closed, isQuiet, closing, Move, moves, go}
 use Rattle.meaning.specs.Reading.{levelMost, Row, none, hit, find, tooDeep}
-use Rattle.meaning.specs.Writing.{atLevel, standsFor, wayTo, isPass, Cell, cell, broken}
+use Rattle.meaning.specs.Writing.{atLevel, standsFor, wayTo, isPass, Cell}
 use Rattle.writer.specs.Edition.{editionOf}
 use Rattle.writer.specs.Laying.{Laid}
 use Rattle.writer.specs.Bodies.{cellsAt}
 use Rattle.writer.specs.Rooms.{ofKind, ownAmong, NotAmong}
-use Rattle.writer.specs.Stages.{viewed, rowAhead, NoRow, RowAhead, AheadIs, RowTaken, TakenIs, Onward, StageIs, Beyond, afterNeeded}
+use Rattle.writer.specs.Stages.{viewed, rowAhead, AheadIs, RowTaken, TakenIs, Onward, StageIs, Beyond, afterNeeded}
 use Rattle.writer.specs.Parameters.{atParameters, afterOne, afterStage, InParameters, ParameterIs, WayAhead, ClosingAhead, FoundIs}
 use Rattle.writer.specs.declared.ahead.Ahead.{Ahead}
 use Rattle.writer.specs.declared.ahead.Taken.{Taken}
@@ -26,6 +25,7 @@ use Rattle.writer.specs.declared.stage.Stage.{Stage}
 use Rattle.writer.specs.declared.stage.Stage.the-variants as stage
 use Rattle.writer.specs.declared.parameters.Parameter.{Parameter}
 use Rattle.writer.specs.declared.parameters.Parameter.the-variants.{Go, Last, Stuck}
+use Rattle.writer.proofs.Aheads.{ahead-cells, ahead-row}
 use Rattle.writer.proofs.Among.{find-kind, nothing-among, not-hit, sole-move, same-kind, takes}
 use Rattle.writer.proofs.Openings.{opens-past}
 use Rattle.writer.proofs.Onward.{onward-then, onward-stuck, own-on}
@@ -84,28 +84,10 @@ after-single inD pool rows i m before at t after q d g x e = subst (λ (y : Para
 
 module _ (inD : Bool) (pool rows : List ℕ) (i : ℕ) {r : Ahead} (a : AheadIs pool rows i r) (l : List Move) (is : ofKind (r .kind) (moves (editionOf inD) parameters) ≡ ofKind (r .kind) l) where
   none-there : NotAmong l 0 (cellsAt pool rows i) → NotAmong (moves (editionOf inD) parameters) 0 (cellsAt pool rows i)
-  none-there x = at (a .is)
-    where
-      no-row : (cs : List Cell) → NoRow cs → NotAmong (moves (editionOf inD) parameters) 0 cs
-      no-row [] y = tt
-      no-row (broken ∷ cs) y = tt
-      no-row (cell row ∷ cs) y = absurd y
-
-      at : RowAhead pool rows i (rowAhead pool r) ⊎ ((r .kind ≡ 0) × NoRow (cellsAt pool rows i)) → NotAmong (moves (editionOf inD) parameters) 0 (cellsAt pool rows i)
-      at (inl y) = subst (NotAmong (moves (editionOf inD) parameters) 0) (sym (y .cells)) (ap (atLevel (eqb (r .level) 0)) (same-kind (rowAhead pool r) (moves (editionOf inD) parameters) l is) ∙ subst (NotAmong l 0) (y .cells) x)
-      at (inr y) = no-row (cellsAt pool rows i) (y .1)
+  none-there = ahead-cells (λ (cs : List Cell). NotAmong l 0 cs → NotAmong (moves (editionOf inD) parameters) 0 cs) a (λ x. tt) (λ cs x. tt) (λ x. ap (atLevel (eqb (r .level) 0)) (same-kind (rowAhead pool r) (moves (editionOf inD) parameters) l is) ∙ x)
 
   closing-ahead : wayTo (r .kind) ≡ closing → ClosingAhead (cellsAt pool rows i)
-  closing-ahead w = at (a .is)
-    where
-      no-row : (cs : List Cell) → NoRow cs → ClosingAhead cs
-      no-row [] y = tt
-      no-row (broken ∷ cs) y = tt
-      no-row (cell row ∷ cs) y = absurd y
-
-      at : RowAhead pool rows i (rowAhead pool r) ⊎ ((r .kind ≡ 0) × NoRow (cellsAt pool rows i)) → ClosingAhead (cellsAt pool rows i)
-      at (inl y) = subst ClosingAhead (sym (y .cells)) w
-      at (inr y) = no-row (cellsAt pool rows i) (y .1)
+  closing-ahead w = ahead-cells ClosingAhead a tt (λ cs. tt) w
 
   found-by : (before : List ℕ) (at : ℕ) (p : Parameter) (after : List ℕ) → wayTo (r .kind) ≡ closing → ParameterIs inD l pool rows i before at p after → FoundIs inD pool rows i before at p after
   found-by before at (Go k p) after w x = x
@@ -127,17 +109,14 @@ found-in pool rows i before at q p after x = subst (λ (b : Bool). FoundIs b poo
 -- a row before which the parameter's code stands
 pub way-ahead : (inD : Bool) (pool rows : List ℕ) (i k : ℕ) {r : Ahead} → AheadIs pool rows i r → r .kind ≡ k → 3 ≤ k → ofKind k (moves (editionOf inD) parameters) ≡ [] → WayAhead inD (wayTo k) (cellsAt pool rows i)
 unfolding find
-way-ahead inD pool rows i k {r} a q h is = at (a .is)
+way-ahead inD pool rows i k {r} a q h is =
+    let there = ahead-row a (λ z. omega (arith, sym q ∙ z)) in
+    let none-of : ofKind (r .kind) (moves (editionOf inD) parameters) ≡ [] = ap (λ (n : ℕ). ofKind n (moves (editionOf inD) parameters)) q ∙ is in
+    subst (WayAhead inD (wayTo k)) (sym (there .cells)) (ap wayTo q, sym (opens-past (r .kind) (r .level) (viewed pool r) (omega arith)), ap (atLevel (eqb (r .level) 0)) (same-kind (rowAhead pool r) (moves (editionOf inD) parameters) [] none-of) ∙ level (eqb (r .level) 0))
   where
     level : (b : Bool) → atLevel b none ≡ none
     level true = refl
     level false = refl
-
-    at : RowAhead pool rows i (rowAhead pool r) ⊎ ((r .kind ≡ 0) × NoRow (cellsAt pool rows i)) → WayAhead inD (wayTo k) (cellsAt pool rows i)
-    at (inl y) =
-        let none-of : ofKind (r .kind) (moves (editionOf inD) parameters) ≡ [] = ap (λ (n : ℕ). ofKind n (moves (editionOf inD) parameters)) q ∙ is in
-        subst (WayAhead inD (wayTo k)) (sym (y .cells)) (ap wayTo q, sym (opens-past (r .kind) (r .level) (viewed pool r) (omega arith)), ap (atLevel (eqb (r .level) 0)) (same-kind (rowAhead pool r) (moves (editionOf inD) parameters) [] none-of) ∙ level (eqb (r .level) 0))
-    at (inr y) = absurd (omega (arith, y .0))
 
 pub pass-on : (inD : Bool) (pool rows : List ℕ) (i c : ℕ) {m : Move} {before : List ℕ} {at : ℕ} {after : List ℕ} {p : ℕ} → find (isPass c) (moves (editionOf inD) parameters) ≡ hit m → i ≤ length rows / 4 → WayAhead inD c (cellsAt pool rows i) → Laid before at (m .code ∷ []) after p → Onward inD pool rows i atParameters i (go (m .next) atParameters) before at after p
 pass-on inD pool rows i c {m} q h w l =

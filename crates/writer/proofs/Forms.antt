@@ -2,7 +2,6 @@
 use Prim.Native.Nat.{ℕ, _+_, _-_, _≤_, _<_}
 use mathlib.Core.List.{List, [], _∷_, _++_}
 use mathlib.Core.Bool.{Bool, true, false, _&&_, _||_}
-use mathlib.Core.Logic.{⊎-elim}
 use mathlib.Core.Path.{_≡_, refl, ap, sym, _∙_, subst}
 use native.Mathlib.Omega.{arith}
 use lib.Dec.{T, eqb, leb, ltb, leb→le}
@@ -23,14 +22,14 @@ use Rattle.writer.specs.Laying.{rowWith, one, Laid}
 use Rattle.writer.specs.Bodies.{cellsAt}
 use Rattle.writer.specs.Codes.{dateCode, blockOf}
 use Rattle.writer.specs.Rooms.{ofKind, ownAmong, NotAmong}
-use Rattle.writer.specs.Stages.{NoRow, RowAhead, AheadIs, viewed, rowAhead, NotOf, SoughtIs, RowTaken, TakenIs}
+use Rattle.writer.specs.Stages.{RowAhead, AheadIs, viewed, rowAhead, NotOf, SoughtIs, RowTaken, TakenIs}
 use Rattle.writer.specs.declared.ahead.Ahead.{Ahead}
 use Rattle.writer.specs.declared.ahead.Taken.{Taken}
 use Rattle.writer.specs.declared.ahead.Taken.the-variants.{To, Other}
 use Rattle.writer.proofs.Laying.{laid-as}
 use Rattle.writer.proofs.Values.{date-length, only-byte, only-other, empty-is}
 use Rattle.writer.proofs.Openings.{opens-past}
-use Rattle.writer.proofs.Aheads.{ahead-row}
+use Rattle.writer.proofs.Aheads.{ahead-cells, ahead-row}
 use Rattle.writer.proofs.Among.{takes, find-kind, same-kind, row-none, sought-row}
 
 -- The bytes that a row views
@@ -71,16 +70,11 @@ module _ (l : List Move) (level kind lvl : ℕ) (v : List ℕ) (q : lvl ≡ leve
   unpicked z = row-none l level a (own-is none z)
 
 pub ahead-none : (l : List Move) (level : ℕ) {pool rows : List ℕ} {i : ℕ} {r : Ahead} → AheadIs pool rows i r → (r .level ≡ level → find (takes (viewed pool r)) (ofKind (r .kind) l) ≡ none) → NotAmong l level (cellsAt pool rows i)
-ahead-none l level {pool} {rows} {i} {r} a f = ⊎-elim (λ x. by (eqb (r .level) level) refl x) (λ x. no-row (cellsAt pool rows i) (x .1)) (a .is)
+ahead-none l level {pool} {r = r} a f = ahead-cells (NotAmong l level) a tt (λ cs. tt) (by (eqb (r .level) level) refl)
   where
-    no-row : (cs : List Cell) → NoRow cs → NotAmong l level cs
-    no-row [] x = tt
-    no-row (broken ∷ cs) x = tt
-    no-row (cell row ∷ cs) x = absurd x
-
-    by : (b : Bool) → eqb (r .level) level ≡ b → RowAhead pool rows i (rowAhead pool r) → NotAmong l level (cellsAt pool rows i)
-    by true q x = let z = eqb-true (r .level) level q in unpicked l level (r .kind) (r .level) (viewed pool r) z x (f z)
-    by false q x = row-none l level x (ap (λ (b : Bool). atLevel b (find (standsFor (rowAhead pool r)) l)) q)
+    by : (b : Bool) → eqb (r .level) level ≡ b → atLevel b (find (standsFor (rowAhead pool r)) l) ≡ none
+    by true q = find-kind (rowAhead pool r) l ∙ f (eqb-true (r .level) level q)
+    by false q = refl
 
 -- Moves of a kind that is not ahead change nothing
 
