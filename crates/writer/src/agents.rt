@@ -4,6 +4,7 @@ use crate::ahead::opened;
 use crate::ahead::text;
 use crate::extras::extras;
 use crate::kinds;
+use crate::lay::CLOSING;
 use crate::lay::put;
 use crate::stage::Stage;
 use crate::stage::Step;
@@ -38,7 +39,16 @@ fn addresses(
     requires { ⌜ TakeRequires (now rows) i 17 2 (now output) at ⌝ }
     ensures { λ r. ⌜ ((inD single : Bool) → Onward inD (now (pool .entry)) (now (rows .entry)) i (state afterName level single) (r .row) (state afterAddresses level single) (now (output .entry)) at (now (output .exit)) (r .at)) ⌝ }
 {
-    let t = opened(rows, pool, i, kinds::ADDRESSES_OPEN, level, 2, output, at);
+    let t = opened(
+        rows,
+        pool,
+        i,
+        kinds::ADDRESSES_OPEN,
+        level,
+        0x02,
+        output,
+        at,
+    );
     let Taken::To(p) = t else {
         return Step { row: i, at: at };
     };
@@ -80,9 +90,9 @@ fn extra_code(in_d: bool) -> usize
     ensures { λ r. ⌜ r ≡ Rattle.writer.specs.Turns.extraCode in_d ⌝ }
 {
     if in_d {
-        return 5;
+        return 0x05;
     }
-    4
+    0x04
 }
 
 // The 01 of a list: a parameter's at level 1, deeper the resolvers of the agent above, which ends too.
@@ -102,7 +112,7 @@ fn list_ends(
     if single & (level == 1) {
         return Turn::Stuck(i);
     }
-    let p = put(output, at, 1);
+    let p = put(output, at, CLOSING);
     if level == 1 {
         return Turn::Done { row: i, at: p };
     }
@@ -123,7 +133,7 @@ fn agent(
     requires { ⌜ TurnRequires (now rows) i level (now output) at ⌝ }
     ensures { λ r. ⌜ TurnIs in_d single (now (pool .entry)) (now (rows .entry)) i (agentsAt level single) (rowsAndLevels (now (rows .entry)) i level - 1) (now (output .entry)) at r (now (output .exit)) ⌝ }
 {
-    let t = text(rows, pool, i, kinds::AGENT_NAME, level, 2, output, at);
+    let t = text(rows, pool, i, kinds::AGENT_NAME, level, 0x02, output, at);
     let Taken::To(p) = t else {
         return list_ends(rows, pool, i, level, single, in_d, output, at);
     };
@@ -134,7 +144,7 @@ fn agent(
     let s = addresses(rows, pool, named, level, output, p);
     let k = s.row;
     let q = s.at;
-    let o = opened(rows, pool, k, kinds::RESOLVERS_OPEN, level, 3, output, q);
+    let o = opened(rows, pool, k, kinds::RESOLVERS_OPEN, level, 0x03, output, q);
     let Taken::To(m) = o else {
         return agent_ends(rows, pool, k, level, single, in_d, output, q);
     };

@@ -28,6 +28,9 @@ pub enum Taken {
     Other,
 }
 
+// No byte stands before the value.
+pub const NO_CODE: usize = 256;
+
 // Of kind 0, which stands nowhere, where there is no row or it views past the pool.
 pub fn look_ahead(rows: &[u32], pool: &[u8], i: usize) -> Ahead
     requires { ⌜ i ≤ length (now rows) / 4 ⌝ }
@@ -75,7 +78,7 @@ pub fn look_for(rows: &[u32], pool: &[u8], i: usize, kind: usize, level: usize) 
     r
 }
 
-// A text behind its code, 256 for none.
+// A text behind its code, or behind none.
 pub fn text(
     rows: &[u32],
     pool: &[u8],
@@ -141,7 +144,7 @@ pub fn number(rows: &[u32], pool: &[u8], i: usize, output: &mut [u8], at: usize)
     let end = r.end;
     let bytes = &pool[start..end];
     if number_ok(bytes) {
-        let p = put(output, at, 6);
+        let p = put(output, at, 0x06);
         return Taken::To(copy(bytes, output, p));
     }
     Taken::Other

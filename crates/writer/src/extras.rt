@@ -3,6 +3,7 @@ use crate::ahead::Taken;
 use crate::ahead::text;
 use crate::any::any;
 use crate::kinds;
+use crate::lay::CLOSING;
 use crate::lay::put;
 use crate::stage::Stage;
 ghost use mathlib.Core.Bool.{Bool};
@@ -32,7 +33,7 @@ pub fn extras(
         let Taken::To(q) = t else {
             return Stage::Go {
                 row: i,
-                at: put(output, p, 1),
+                at: put(output, p, CLOSING),
             };
         };
         i += 1;

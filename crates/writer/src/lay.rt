@@ -9,6 +9,9 @@ ghost use Rattle.writer.specs.Laying.{one, Laid, Layable, leadOf, fittin
 
 const MOST: usize = 1048576;
 
+// The byte that ends a list, an agent, a received object, an envelope.
+pub const CLOSING: u8 = 0x01;
+
 pub fn put(output: &mut [u8], at: usize, b: u8) -> usize
     requires { ⌜ Layable (now output) at ⌝ }
     ensures { λ r. ⌜ Laid (now (output .entry)) at (one b) (now (output .exit)) r ⌝ }

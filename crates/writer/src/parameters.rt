@@ -1,5 +1,6 @@
 // "Parameters, any order, repeats allowed", and the 01 behind them.
 use crate::agents::agents;
+use crate::ahead::NO_CODE;
 use crate::ahead::Taken;
 use crate::ahead::look_ahead;
 use crate::ahead::number;
@@ -7,6 +8,7 @@ use crate::ahead::opened;
 use crate::ahead::text;
 use crate::any::any;
 use crate::kinds;
+use crate::lay::CLOSING;
 use crate::lay::put;
 use crate::received::received;
 use crate::representation::representation;
@@ -57,12 +59,15 @@ fn own(rows: &[u32], pool: &[u8], i: usize, output: &mut [u8], at: usize) -> Par
     requires { ⌜ TakeRequires (now rows) i 27 0 (now output) at ⌝ }
     ensures { λ r. ⌜ ((inD : Bool) → ParameterIs inD (on 0x00 ▸ ownKey ▸ Rattle.meaning.specs.Editions.text ▸ outer ownText ∷ []) (now (pool .entry)) (now (rows .entry)) i (now (output .entry)) at r (now (output .exit))) ⌝ }
 {
-    let t = text(rows, pool, i, kinds::OWN_KEY, 0, 0, output, at);
+    let t = text(rows, pool, i, kinds::OWN_KEY, 0, 0x00, output, at);
     let Taken::To(p) = t else {
         return Parameter::Last;
     };
     let k = i + 1;
-    begun(needed(text(rows, pool, k, kinds::OWN_VALUE, 0, 256, output, p), k))
+    begun(needed(
+        text(rows, pool, k, kinds::OWN_VALUE, 0, NO_CODE, output, p),
+        k,
+    ))
 }
 
 // "02 `to`, agent list; 03 `from`, one agent; 09 intended receiver, agent list".
@@ -93,7 +98,7 @@ fn behaviour(rows: &[u32], pool: &[u8], i: usize, output: &mut [u8], at: usize) 
     requires { ⌜ TakeRequires (now rows) i 29 11 (now output) at ⌝ }
     ensures { λ r. ⌜ ((inD : Bool) → ParameterIs inD (on 0x0b ▸ behaviourOpens ▸ opens ▸ outer behaviourValue ∷ []) (now (pool .entry)) (now (rows .entry)) i (now (output .entry)) at r (now (output .exit))) ⌝ }
 {
-    let t = opened(rows, pool, i, kinds::BEHAVIOUR_OPENS, 0, 11, output, at);
+    let t = opened(rows, pool, i, kinds::BEHAVIOUR_OPENS, 0, 0x0b, output, at);
     let Taken::To(p) = t else {
         return Parameter::Last;
     };
@@ -106,7 +111,7 @@ fn encrypted(rows: &[u32], pool: &[u8], i: usize, output: &mut [u8], at: usize) 
     requires { ⌜ TakeRequires (now rows) i 26 8 (now output) at ⌝ }
     ensures { λ r. ⌜ ParameterIs false (on 0x08 ▸ encryptedOpens ▸ opens ▸ outer encryptedTexts ∷ []) (now (pool .entry)) (now (rows .entry)) i (now (output .entry)) at r (now (output .exit)) ⌝ }
 {
-    let t = opened(rows, pool, i, kinds::ENCRYPTED_OPENS, 0, 8, output, at);
+    let t = opened(rows, pool, i, kinds::ENCRYPTED_OPENS, 0, 0x08, output, at);
     let Taken::To(p) = t else {
         return Parameter::Last;
     };
@@ -124,7 +129,7 @@ fn represented(rows: &[u32], pool: &[u8], i: usize, output: &mut [u8], at: usize
     ensures { λ r. ⌜ ((inD : Bool) → WayAhead inD 0x04 (cellsAt (now (pool .entry)) (now (rows .entry)) i) →
         FoundIs inD (now (pool .entry)) (now (rows .entry)) i (now (output .entry)) at r (now (output .exit))) ⌝ }
 {
-    let p = put(output, at, 4);
+    let p = put(output, at, 0x04);
     begun(needed(representation(rows, pool, i, output, p), i))
 }
 
@@ -141,7 +146,7 @@ fn received_in(
     ensures { λ r. ⌜ (WayAhead in_d 0x0a (cellsAt (now (pool .entry)) (now (rows .entry)) i) →
         FoundIs in_d (now (pool .entry)) (now (rows .entry)) i (now (output .entry)) at r (now (output .exit))) ⌝ }
 {
-    let p = put(output, at, 10);
+    let p = put(output, at, 0x0a);
     begun(received(rows, pool, i, in_d, output, p))
 }
 
@@ -160,36 +165,56 @@ fn by_kind(
     let r = look_ahead(rows, pool, i);
     let kind = r.kind;
     match kind {
-        3 => represented(rows, pool, i, output, at),
-        4 => represented(rows, pool, i, output, at),
-        8 => received_in(rows, pool, i, in_d, output, at),
-        12 => agents_in(rows, pool, i, kinds::TO_OPENS, 2, false, in_d, output, at),
-        13 => agents_in(rows, pool, i, kinds::FROM_OPENS, 3, true, in_d, output, at),
-        14 => agents_in(
+        kinds::STANDARD_REPRESENTATION => represented(rows, pool, i, output, at),
+        kinds::OWN_REPRESENTATION => represented(rows, pool, i, output, at),
+        kinds::RECEIVED_BY => received_in(rows, pool, i, in_d, output, at),
+        kinds::TO_OPENS => agents_in(
             rows,
             pool,
             i,
-            kinds::RECEIVER_OPENS,
-            9,
+            kinds::TO_OPENS,
+            0x02,
             false,
             in_d,
             output,
             at,
         ),
-        22 => single(text(rows, pool, i, kinds::COMMENTS, 0, 5, output, at), i),
-        23 => single(number(rows, pool, i, output, at), i),
-        24 => single(
-            text(rows, pool, i, kinds::PAYLOAD_ENCODING, 0, 7, output, at),
+        kinds::FROM_OPENS => agents_in(
+            rows,
+            pool,
+            i,
+            kinds::FROM_OPENS,
+            0x03,
+            true,
+            in_d,
+            output,
+            at,
+        ),
+        kinds::RECEIVER_OPENS => agents_in(
+            rows,
+            pool,
+            i,
+            kinds::RECEIVER_OPENS,
+            0x09,
+            false,
+            in_d,
+            output,
+            at,
+        ),
+        kinds::COMMENTS => single(text(rows, pool, i, kinds::COMMENTS, 0, 0x05, output, at), i),
+        kinds::PAYLOAD_LENGTH => single(number(rows, pool, i, output, at), i),
+        kinds::PAYLOAD_ENCODING => single(
+            text(rows, pool, i, kinds::PAYLOAD_ENCODING, 0, 0x07, output, at),
             i,
         ),
-        25 => {
+        kinds::ENCRYPTED_OPENS => {
             if in_d {
                 return Parameter::Last;
             }
             encrypted(rows, pool, i, output, at)
         }
-        27 => own(rows, pool, i, output, at),
-        29 => behaviour(rows, pool, i, output, at),
+        kinds::OWN_KEY => own(rows, pool, i, output, at),
+        kinds::BEHAVIOUR_OPENS => behaviour(rows, pool, i, output, at),
         _ => Parameter::Last,
     }
 }
@@ -213,7 +238,7 @@ pub fn parameters(
             Parameter::Stuck(j) => return Stage::Stuck(j),
             Parameter::Last => return Stage::Go {
                 row: i,
-                at: put(output, p, 1),
+                at: put(output, p, CLOSING),
             },
             Parameter::Go { row, at: q } => {
                 i = row;

@@ -1,9 +1,11 @@
 // "Received object: by (text), date, then optionally and in this order 02 from, 03 id, 04 via (texts), then in D extras, then 01."
+use crate::ahead::NO_CODE;
 use crate::ahead::Taken;
 use crate::ahead::text;
 use crate::dates::date;
 use crate::extras::extras;
 use crate::kinds;
+use crate::lay::CLOSING;
 use crate::lay::put;
 use crate::stage::Stage;
 use crate::texts::optional;
@@ -23,17 +25,26 @@ fn behind_date(
     requires { ⌜ TakeRequires (now rows) i 9 2 (now output) at ⌝ }
     ensures { λ r. ⌜ StageIs in_d (now (pool .entry)) (now (rows .entry)) i (state afterDate 1 false) (state parameters 0 false) (now (output .entry)) at r (now (output .exit)) ⌝ }
 {
-    let a = optional(rows, pool, i, kinds::RECEIVED_FROM, 1, 2, output, at);
-    let b = optional(rows, pool, a.row, kinds::RECEIVED_ID, 1, 3, output, a.at);
-    let c = optional(rows, pool, b.row, kinds::RECEIVED_VIA, 1, 4, output, b.at);
+    let a = optional(rows, pool, i, kinds::RECEIVED_FROM, 1, 0x02, output, at);
+    let b = optional(rows, pool, a.row, kinds::RECEIVED_ID, 1, 0x03, output, a.at);
+    let c = optional(
+        rows,
+        pool,
+        b.row,
+        kinds::RECEIVED_VIA,
+        1,
+        0x04,
+        output,
+        b.at,
+    );
     let row = c.row;
     let p = c.at;
     if in_d {
-        return extras(rows, pool, row, 1, 5, output, p);
+        return extras(rows, pool, row, 1, 0x05, output, p);
     }
     Stage::Go {
         row: row,
-        at: put(output, p, 1),
+        at: put(output, p, CLOSING),
     }
 }
 
@@ -48,7 +59,7 @@ pub fn received(
     requires { ⌜ TakeRequires (now rows) i 8 256 (now output) at ⌝ }
     ensures { λ r. ⌜ (StageIs in_d (now (pool .entry)) (now (rows .entry)) i (state receivedBegins 0 false) (state parameters 0 false) (now (output .entry)) at r (now (output .exit))) × Beyond i r ⌝ }
 {
-    let t = text(rows, pool, i, kinds::RECEIVED_BY, 0, 256, output, at);
+    let t = text(rows, pool, i, kinds::RECEIVED_BY, 0, NO_CODE, output, at);
     let Taken::To(p) = t else {
         return Stage::Stuck(i);
     };

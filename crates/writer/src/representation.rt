@@ -15,7 +15,16 @@ pub fn representation(rows: &[u32], pool: &[u8], i: usize, output: &mut [u8], at
 {
     let r = look_for(rows, pool, i, kinds::STANDARD_REPRESENTATION, 0);
     if r.kind == 0 {
-        return text(rows, pool, i, kinds::OWN_REPRESENTATION, 0, 0, output, at);
+        return text(
+            rows,
+            pool,
+            i,
+            kinds::OWN_REPRESENTATION,
+            0,
+            0x00,
+            output,
+            at,
+        );
     }
     let start = r.start;
     if r.end - start != 1 {

@@ -1,6 +1,8 @@
 // Texts one behind the other, and a text that may be left out.
+use crate::ahead::NO_CODE;
 use crate::ahead::Taken;
 use crate::ahead::text;
+use crate::lay::CLOSING;
 use crate::lay::put;
 use crate::stage::Step;
 ghost use mathlib.Core.Path.{_≡_};
@@ -9,9 +11,6 @@ ghost use Rattle.meaning.specs.Editions.{Room, State, state};
 ghost use Rattle.writer.specs.Edition.{editionOf};
 ghost use Rattle.writer.specs.Rooms.{TextsIn, OptionalIn};
 ghost use Rattle.writer.specs.Stages.{TakeRequires, Onward};
-
-// No code stands before an item of a list.
-const NO_CODE: usize = 256;
 
 // "In a list of texts, 01 where an item would begin ends the list."
 pub fn texts(
@@ -34,7 +33,7 @@ pub fn texts(
         let Taken::To(q) = t else {
             return Step {
                 row: i,
-                at: put(output, p, 1),
+                at: put(output, p, CLOSING),
             };
         };
         i += 1;
