@@ -3,7 +3,10 @@ use crate::ahead::Taken;
 use crate::ahead::opened;
 use crate::ahead::text;
 use crate::extras::extras;
-use crate::kinds;
+use crate::kinds::ADDRESS;
+use crate::kinds::ADDRESSES_OPEN;
+use crate::kinds::AGENT_NAME;
+use crate::kinds::RESOLVERS_OPEN;
 use crate::lay::CLOSING;
 use crate::lay::put;
 use crate::stage::Stage;
@@ -39,21 +42,12 @@ fn addresses(
     requires { ⌜ TakeRequires (now rows) i 17 2 (now output) at ⌝ }
     ensures { λ r. ⌜ ((inD single : Bool) → Onward inD (now (pool .entry)) (now (rows .entry)) i (state afterName level single) (r .row) (state afterAddresses level single) (now (output .entry)) at (now (output .exit)) (r .at)) ⌝ }
 {
-    let t = opened(
-        rows,
-        pool,
-        i,
-        kinds::ADDRESSES_OPEN,
-        level,
-        0x02,
-        output,
-        at,
-    );
+    let t = opened(rows, pool, i, ADDRESSES_OPEN, level, 0x02, output, at);
     let Taken::To(p) = t else {
         return Step { row: i, at: at };
     };
     let next = i + 1;
-    texts(rows, pool, next, kinds::ADDRESS, level, output, p)
+    texts(rows, pool, next, ADDRESS, level, output, p)
 }
 
 // "extras, 01": the one agent of `from` ends its parameter, any other goes on with its list.
@@ -133,7 +127,7 @@ fn agent(
     requires { ⌜ TurnRequires (now rows) i level (now output) at ⌝ }
     ensures { λ r. ⌜ TurnIs in_d single (now (pool .entry)) (now (rows .entry)) i (agentsAt level single) (rowsAndLevels (now (rows .entry)) i level - 1) (now (output .entry)) at r (now (output .exit)) ⌝ }
 {
-    let t = text(rows, pool, i, kinds::AGENT_NAME, level, 0x02, output, at);
+    let t = text(rows, pool, i, AGENT_NAME, level, 0x02, output, at);
     let Taken::To(p) = t else {
         return list_ends(rows, pool, i, level, single, in_d, output, at);
     };
@@ -144,7 +138,7 @@ fn agent(
     let s = addresses(rows, pool, named, level, output, p);
     let k = s.row;
     let q = s.at;
-    let o = opened(rows, pool, k, kinds::RESOLVERS_OPEN, level, 0x03, output, q);
+    let o = opened(rows, pool, k, RESOLVERS_OPEN, level, 0x03, output, q);
     let Taken::To(m) = o else {
         return agent_ends(rows, pool, k, level, single, in_d, output, q);
     };

@@ -1,6 +1,6 @@
 // The row ahead, and the rows of one form alone: a text, an opening, a number.
 use crate::body::row_at;
-use crate::kinds;
+use crate::kinds::PAYLOAD_LENGTH;
 use crate::lay::copy;
 use crate::lay::put;
 use crate::lay::put_code;
@@ -136,7 +136,7 @@ pub fn number(rows: &[u32], pool: &[u8], i: usize, output: &mut [u8], at: usize)
     requires { ⌜ TakeRequires (now rows) i 23 6 (now output) at ⌝ }
     ensures { λ r. ⌜ ((n : Next) → TakenIs (on 0x06 ▸ payloadLength ▸ Rattle.meaning.specs.Editions.number ▸ n ∷ []) 0 (now (pool .entry)) (now (rows .entry)) i (now (output .entry)) at r (now (output .exit))) ⌝ }
 {
-    let r = look_for(rows, pool, i, kinds::PAYLOAD_LENGTH, 0);
+    let r = look_for(rows, pool, i, PAYLOAD_LENGTH, 0);
     if r.kind == 0 {
         return Taken::Other;
     }

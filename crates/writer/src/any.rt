@@ -2,7 +2,8 @@
 use crate::ahead::Taken;
 use crate::ahead::look_for;
 use crate::ahead::text;
-use crate::kinds;
+use crate::kinds::ANY_BYTES;
+use crate::kinds::ANY_TEXT;
 use crate::lay::copy;
 use crate::lay::put;
 use crate::lay::put_four;
@@ -41,9 +42,9 @@ pub fn any(rows: &[u32], pool: &[u8], i: usize, level: usize, output: &mut [u8],
     requires { ⌜ TakeRequires (now rows) i 20 20 (now output) at ⌝ }
     ensures { λ r. ⌜ ((n : Next) → TakenIs (anyValues n) level (now (pool .entry)) (now (rows .entry)) i (now (output .entry)) at r (now (output .exit))) ⌝ }
 {
-    let r = look_for(rows, pool, i, kinds::ANY_BYTES, level);
+    let r = look_for(rows, pool, i, ANY_BYTES, level);
     if r.kind == 0 {
-        return text(rows, pool, i, kinds::ANY_TEXT, level, 0x14, output, at);
+        return text(rows, pool, i, ANY_TEXT, level, 0x14, output, at);
     }
     let start = r.start;
     let end = r.end;

@@ -1,6 +1,8 @@
 // A date, whose kind and length pick its code.
 use crate::ahead::Taken;
 use crate::ahead::look_ahead;
+use crate::kinds::DATE_ABSOLUTE;
+use crate::kinds::DATE_BACKWARD;
 use crate::lay::copy;
 use crate::lay::put;
 use crate::value::date_ok;
@@ -15,7 +17,7 @@ ghost use Rattle.writer.specs.Stages.{TakeRequires, TakenIs};
 fn code_in_b(kind: usize, designated: bool) -> usize
     ensures { λ r. ⌜ r ≡ codeInB kind designated ⌝ }
 {
-    if kind != 5 {
+    if kind != DATE_ABSOLUTE {
         return 0;
     }
     if designated {
@@ -28,7 +30,7 @@ fn code_in_b(kind: usize, designated: bool) -> usize
 fn code_in_d(kind: usize, designated: bool) -> usize
     ensures { λ r. ⌜ r ≡ codeInD kind designated ⌝ }
 {
-    if (kind < 5) | (7 < kind) {
+    if (kind < DATE_ABSOLUTE) | (DATE_BACKWARD < kind) {
         return 0;
     }
     if designated {
@@ -72,7 +74,7 @@ pub fn date(
     if code == 0 {
         return Taken::Other;
     }
-    if date_ok(bytes, r.kind == 5, designated) {
+    if date_ok(bytes, r.kind == DATE_ABSOLUTE, designated) {
         let p = put(output, at, code as u8);
         return Taken::To(copy(bytes, output, p));
     }

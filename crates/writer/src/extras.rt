@@ -2,7 +2,7 @@
 use crate::ahead::Taken;
 use crate::ahead::text;
 use crate::any::any;
-use crate::kinds;
+use crate::kinds::EXTRA_KEY;
 use crate::lay::CLOSING;
 use crate::lay::put;
 use crate::stage::Stage;
@@ -29,7 +29,7 @@ pub fn extras(
     let mut i = from;
     let mut p = at;
     loop {
-        let t = text(rows, pool, i, kinds::EXTRA_KEY, level, code, output, p);
+        let t = text(rows, pool, i, EXTRA_KEY, level, code, output, p);
         let Taken::To(q) = t else {
             return Stage::Go {
                 row: i,

@@ -3,6 +3,10 @@ pub const STANDARD_REPRESENTATION: usize = 3;
 
 pub const OWN_REPRESENTATION: usize = 4;
 
+pub const DATE_ABSOLUTE: usize = 5;
+
+pub const DATE_BACKWARD: usize = 7;
+
 pub const RECEIVED_BY: usize = 8;
 
 pub const RECEIVED_FROM: usize = 9;

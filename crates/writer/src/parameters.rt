@@ -7,7 +7,20 @@ use crate::ahead::number;
 use crate::ahead::opened;
 use crate::ahead::text;
 use crate::any::any;
-use crate::kinds;
+use crate::kinds::BEHAVIOUR_OPENS;
+use crate::kinds::COMMENTS;
+use crate::kinds::ENCRYPTED_ITEM;
+use crate::kinds::ENCRYPTED_OPENS;
+use crate::kinds::FROM_OPENS;
+use crate::kinds::OWN_KEY;
+use crate::kinds::OWN_REPRESENTATION;
+use crate::kinds::OWN_VALUE;
+use crate::kinds::PAYLOAD_ENCODING;
+use crate::kinds::PAYLOAD_LENGTH;
+use crate::kinds::RECEIVED_BY;
+use crate::kinds::RECEIVER_OPENS;
+use crate::kinds::STANDARD_REPRESENTATION;
+use crate::kinds::TO_OPENS;
 use crate::lay::CLOSING;
 use crate::lay::put;
 use crate::received::received;
@@ -59,15 +72,12 @@ fn own(rows: &[u32], pool: &[u8], i: usize, output: &mut [u8], at: usize) -> Par
     requires { ⌜ TakeRequires (now rows) i 27 0 (now output) at ⌝ }
     ensures { λ r. ⌜ ((inD : Bool) → ParameterIs inD (on 0x00 ▸ ownKey ▸ Rattle.meaning.specs.Editions.text ▸ outer ownText ∷ []) (now (pool .entry)) (now (rows .entry)) i (now (output .entry)) at r (now (output .exit))) ⌝ }
 {
-    let t = text(rows, pool, i, kinds::OWN_KEY, 0, 0x00, output, at);
+    let t = text(rows, pool, i, OWN_KEY, 0, 0x00, output, at);
     let Taken::To(p) = t else {
         return Parameter::Last;
     };
     let k = i + 1;
-    begun(needed(
-        text(rows, pool, k, kinds::OWN_VALUE, 0, NO_CODE, output, p),
-        k,
-    ))
+    begun(needed(text(rows, pool, k, OWN_VALUE, 0, NO_CODE, output, p), k))
 }
 
 // "02 `to`, agent list; 03 `from`, one agent; 09 intended receiver, agent list".
@@ -98,7 +108,7 @@ fn behaviour(rows: &[u32], pool: &[u8], i: usize, output: &mut [u8], at: usize) 
     requires { ⌜ TakeRequires (now rows) i 29 11 (now output) at ⌝ }
     ensures { λ r. ⌜ ((inD : Bool) → ParameterIs inD (on 0x0b ▸ behaviourOpens ▸ opens ▸ outer behaviourValue ∷ []) (now (pool .entry)) (now (rows .entry)) i (now (output .entry)) at r (now (output .exit))) ⌝ }
 {
-    let t = opened(rows, pool, i, kinds::BEHAVIOUR_OPENS, 0, 0x0b, output, at);
+    let t = opened(rows, pool, i, BEHAVIOUR_OPENS, 0, 0x0b, output, at);
     let Taken::To(p) = t else {
         return Parameter::Last;
     };
@@ -111,12 +121,12 @@ fn encrypted(rows: &[u32], pool: &[u8], i: usize, output: &mut [u8], at: usize) 
     requires { ⌜ TakeRequires (now rows) i 26 8 (now output) at ⌝ }
     ensures { λ r. ⌜ ParameterIs false (on 0x08 ▸ encryptedOpens ▸ opens ▸ outer encryptedTexts ∷ []) (now (pool .entry)) (now (rows .entry)) i (now (output .entry)) at r (now (output .exit)) ⌝ }
 {
-    let t = opened(rows, pool, i, kinds::ENCRYPTED_OPENS, 0, 0x08, output, at);
+    let t = opened(rows, pool, i, ENCRYPTED_OPENS, 0, 0x08, output, at);
     let Taken::To(p) = t else {
         return Parameter::Last;
     };
     let k = i + 1;
-    let s = texts(rows, pool, k, kinds::ENCRYPTED_ITEM, 0, output, p);
+    let s = texts(rows, pool, k, ENCRYPTED_ITEM, 0, output, p);
     Parameter::Go {
         row: s.row,
         at: s.at,
@@ -165,56 +175,26 @@ fn by_kind(
     let r = look_ahead(rows, pool, i);
     let kind = r.kind;
     match kind {
-        kinds::STANDARD_REPRESENTATION => represented(rows, pool, i, output, at),
-        kinds::OWN_REPRESENTATION => represented(rows, pool, i, output, at),
-        kinds::RECEIVED_BY => received_in(rows, pool, i, in_d, output, at),
-        kinds::TO_OPENS => agents_in(
-            rows,
-            pool,
-            i,
-            kinds::TO_OPENS,
-            0x02,
-            false,
-            in_d,
-            output,
-            at,
-        ),
-        kinds::FROM_OPENS => agents_in(
-            rows,
-            pool,
-            i,
-            kinds::FROM_OPENS,
-            0x03,
-            true,
-            in_d,
-            output,
-            at,
-        ),
-        kinds::RECEIVER_OPENS => agents_in(
-            rows,
-            pool,
-            i,
-            kinds::RECEIVER_OPENS,
-            0x09,
-            false,
-            in_d,
-            output,
-            at,
-        ),
-        kinds::COMMENTS => single(text(rows, pool, i, kinds::COMMENTS, 0, 0x05, output, at), i),
-        kinds::PAYLOAD_LENGTH => single(number(rows, pool, i, output, at), i),
-        kinds::PAYLOAD_ENCODING => single(
-            text(rows, pool, i, kinds::PAYLOAD_ENCODING, 0, 0x07, output, at),
+        STANDARD_REPRESENTATION => represented(rows, pool, i, output, at),
+        OWN_REPRESENTATION => represented(rows, pool, i, output, at),
+        RECEIVED_BY => received_in(rows, pool, i, in_d, output, at),
+        TO_OPENS => agents_in(rows, pool, i, TO_OPENS, 0x02, false, in_d, output, at),
+        FROM_OPENS => agents_in(rows, pool, i, FROM_OPENS, 0x03, true, in_d, output, at),
+        RECEIVER_OPENS => agents_in(rows, pool, i, RECEIVER_OPENS, 0x09, false, in_d, output, at),
+        COMMENTS => single(text(rows, pool, i, COMMENTS, 0, 0x05, output, at), i),
+        PAYLOAD_LENGTH => single(number(rows, pool, i, output, at), i),
+        PAYLOAD_ENCODING => single(
+            text(rows, pool, i, PAYLOAD_ENCODING, 0, 0x07, output, at),
             i,
         ),
-        kinds::ENCRYPTED_OPENS => {
+        ENCRYPTED_OPENS => {
             if in_d {
                 return Parameter::Last;
             }
             encrypted(rows, pool, i, output, at)
         }
-        kinds::OWN_KEY => own(rows, pool, i, output, at),
-        kinds::BEHAVIOUR_OPENS => behaviour(rows, pool, i, output, at),
+        OWN_KEY => own(rows, pool, i, output, at),
+        BEHAVIOUR_OPENS => behaviour(rows, pool, i, output, at),
         _ => Parameter::Last,
     }
 }

@@ -4,7 +4,10 @@ use crate::ahead::Taken;
 use crate::ahead::text;
 use crate::dates::date;
 use crate::extras::extras;
-use crate::kinds;
+use crate::kinds::RECEIVED_BY;
+use crate::kinds::RECEIVED_FROM;
+use crate::kinds::RECEIVED_ID;
+use crate::kinds::RECEIVED_VIA;
 use crate::lay::CLOSING;
 use crate::lay::put;
 use crate::stage::Stage;
@@ -25,18 +28,9 @@ fn behind_date(
     requires { ⌜ TakeRequires (now rows) i 9 2 (now output) at ⌝ }
     ensures { λ r. ⌜ StageIs in_d (now (pool .entry)) (now (rows .entry)) i (state afterDate 1 false) (state parameters 0 false) (now (output .entry)) at r (now (output .exit)) ⌝ }
 {
-    let a = optional(rows, pool, i, kinds::RECEIVED_FROM, 1, 0x02, output, at);
-    let b = optional(rows, pool, a.row, kinds::RECEIVED_ID, 1, 0x03, output, a.at);
-    let c = optional(
-        rows,
-        pool,
-        b.row,
-        kinds::RECEIVED_VIA,
-        1,
-        0x04,
-        output,
-        b.at,
-    );
+    let a = optional(rows, pool, i, RECEIVED_FROM, 1, 0x02, output, at);
+    let b = optional(rows, pool, a.row, RECEIVED_ID, 1, 0x03, output, a.at);
+    let c = optional(rows, pool, b.row, RECEIVED_VIA, 1, 0x04, output, b.at);
     let row = c.row;
     let p = c.at;
     if in_d {
@@ -59,7 +53,7 @@ pub fn received(
     requires { ⌜ TakeRequires (now rows) i 8 256 (now output) at ⌝ }
     ensures { λ r. ⌜ (StageIs in_d (now (pool .entry)) (now (rows .entry)) i (state receivedBegins 0 false) (state parameters 0 false) (now (output .entry)) at r (now (output .exit))) × Beyond i r ⌝ }
 {
-    let t = text(rows, pool, i, kinds::RECEIVED_BY, 0, NO_CODE, output, at);
+    let t = text(rows, pool, i, RECEIVED_BY, 0, NO_CODE, output, at);
     let Taken::To(p) = t else {
         return Stage::Stuck(i);
     };

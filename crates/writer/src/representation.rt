@@ -2,7 +2,8 @@
 use crate::ahead::Taken;
 use crate::ahead::look_for;
 use crate::ahead::text;
-use crate::kinds;
+use crate::kinds::OWN_REPRESENTATION;
+use crate::kinds::STANDARD_REPRESENTATION;
 use crate::lay::put;
 ghost use mathlib.Core.Path.{_≡_};
 ghost use Rattle.meaning.specs.Editions.{Next, representations};
@@ -13,18 +14,9 @@ pub fn representation(rows: &[u32], pool: &[u8], i: usize, output: &mut [u8], at
     requires { ⌜ TakeRequires (now rows) i 4 0 (now output) at ⌝ }
     ensures { λ r. ⌜ ((n : Next) → TakenIs (representations n) 0 (now (pool .entry)) (now (rows .entry)) i (now (output .entry)) at r (now (output .exit))) ⌝ }
 {
-    let r = look_for(rows, pool, i, kinds::STANDARD_REPRESENTATION, 0);
+    let r = look_for(rows, pool, i, STANDARD_REPRESENTATION, 0);
     if r.kind == 0 {
-        return text(
-            rows,
-            pool,
-            i,
-            kinds::OWN_REPRESENTATION,
-            0,
-            0x00,
-            output,
-            at,
-        );
+        return text(rows, pool, i, OWN_REPRESENTATION, 0, 0x00, output, at);
     }
     let start = r.start;
     if r.end - start != 1 {
