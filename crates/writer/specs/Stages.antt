@@ -68,6 +68,12 @@ pub record RowTaken (l : List Move) (level : ℕ) (pool rows : List ℕ) (i : �
   pub stands : ownAmong l level row ≡ hit move
   pub laid : Laid before at (lead move ++ writeValue (move .form) (row .view)) after p
 
+-- what a stage asks: the row ahead is one of the table or its end, and bytes can be laid
+pub record Ready (rows : List ℕ) (i : ℕ) (part : List ℕ) (at : ℕ) : Type 0 where
+  pub inside : i ≤ length rows / 4
+  pub layable : Layable part at
+
+-- and what one asks that is told its row's kind and code
 pub record TakeRequires (rows : List ℕ) (i kind code : ℕ) (part : List ℕ) (at : ℕ) : Type 0 where
   pub inside : i ≤ length rows / 4
   pub inner : 3 ≤ kind

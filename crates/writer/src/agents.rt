@@ -18,7 +18,7 @@ ghost use Prim.Native.Nat.{_-_};
 ghost use Rattle.meaning.specs.Editions.{state, afterName, afterAddresses, afterResolvers, parameters};
 ghost use Rattle.writer.specs.Bodies.{cellsAt};
 ghost use Rattle.writer.specs.Rooms.{NotAmong};
-ghost use Rattle.writer.specs.Stages.{TakeRequires, Onward, StageIs};
+ghost use Rattle.writer.specs.Stages.{Ready, Onward, StageIs};
 ghost use Rattle.writer.specs.Turns.{agentNames, agentsAt, TurnRequires, TurnIs, rowsAndLevels};
 
 // Where a list of agents goes on, at which level; where the whole list has ended; or the row that fits nowhere.
@@ -39,7 +39,7 @@ fn addresses(
     output: &mut [u8],
     at: usize,
 ) -> Step
-    requires { ⌜ TakeRequires (now rows) i 17 2 (now output) at ⌝ }
+    requires { ⌜ Ready (now rows) i (now output) at ⌝ }
     ensures { λ r. ⌜ ((inD single : Bool) → Onward inD (now (pool .entry)) (now (rows .entry)) i (state afterName level single) (r .row) (state afterAddresses level single) (now (output .entry)) at (now (output .exit)) (r .at)) ⌝ }
 {
     let t = opened(rows, pool, i, ADDRESSES_OPEN, level, 0x02, output, at);
@@ -159,7 +159,7 @@ pub fn agents(
     output: &mut [u8],
     at: usize,
 ) -> Stage
-    requires { ⌜ TakeRequires (now rows) from 15 2 (now output) at ⌝ }
+    requires { ⌜ Ready (now rows) from (now output) at ⌝ }
     ensures { λ r. ⌜ StageIs in_d (now (pool .entry)) (now (rows .entry)) from (agentsAt 1 single) (state parameters 0 false) (now (output .entry)) at r (now (output .exit)) ⌝ }
 {
     let mut i = from;

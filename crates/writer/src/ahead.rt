@@ -12,7 +12,7 @@ ghost use Prim.Native.Nat.{_+_, _/_, _≤_};
 ghost use lib.ListN.{length};
 ghost use Rattle.meaning.specs.Kinds.{payloadLength};
 ghost use Rattle.meaning.specs.Editions.{Next, opens, on_▸_▸_▸_};
-ghost use Rattle.writer.specs.Stages.{AheadIs, nothingAhead, SoughtIs, TakeRequires, TakenIs};
+ghost use Rattle.writer.specs.Stages.{Ready, AheadIs, nothingAhead, SoughtIs, TakeRequires, TakenIs};
 
 // Kind and level, and where the bytes begin and end.
 pub struct Ahead {
@@ -133,7 +133,7 @@ pub fn opened(
 
 // "06 payload length, number".
 pub fn number(rows: &[u32], pool: &[u8], i: usize, output: &mut [u8], at: usize) -> Taken
-    requires { ⌜ TakeRequires (now rows) i 23 6 (now output) at ⌝ }
+    requires { ⌜ Ready (now rows) i (now output) at ⌝ }
     ensures { λ r. ⌜ ((n : Next) → TakenIs (on 0x06 ▸ payloadLength ▸ Rattle.meaning.specs.Editions.number ▸ n ∷ []) 0 (now (pool .entry)) (now (rows .entry)) i (now (output .entry)) at r (now (output .exit))) ⌝ }
 {
     let r = look_for(rows, pool, i, PAYLOAD_LENGTH, 0);

@@ -14,7 +14,7 @@ ghost use lib.ListN.{length};
 ghost use Rattle.meaning.specs.Editions.{Next, anyValues};
 ghost use Rattle.writer.specs.Laying.{Layable, Laid};
 ghost use Rattle.writer.specs.Codes.{blockOf};
-ghost use Rattle.writer.specs.Stages.{TakeRequires, TakenIs};
+ghost use Rattle.writer.specs.Stages.{Ready, TakenIs};
 
 // "16, 17, 19 with a length of 1, 2, 4 bytes .. and that many bytes": the shortest that it has room in.
 fn block(bytes: &[u8], output: &mut [u8], at: usize) -> usize
@@ -39,7 +39,7 @@ fn block(bytes: &[u8], output: &mut [u8], at: usize) -> usize
 
 // "Any-value: 14 and a text, or .. that many bytes".
 pub fn any(rows: &[u32], pool: &[u8], i: usize, level: usize, output: &mut [u8], at: usize) -> Taken
-    requires { ⌜ TakeRequires (now rows) i 20 20 (now output) at ⌝ }
+    requires { ⌜ Ready (now rows) i (now output) at ⌝ }
     ensures { λ r. ⌜ ((n : Next) → TakenIs (anyValues n) level (now (pool .entry)) (now (rows .entry)) i (now (output .entry)) at r (now (output .exit))) ⌝ }
 {
     let r = look_for(rows, pool, i, ANY_BYTES, level);

@@ -11,7 +11,7 @@ ghost use mathlib.Core.List.{_++_};
 ghost use Rattle.meaning.specs.Editions.{Next, sharedDate, ownDates};
 ghost use Rattle.writer.specs.Edition.{editionOf};
 ghost use Rattle.writer.specs.Codes.{codeInB, codeInD, dateCode};
-ghost use Rattle.writer.specs.Stages.{TakeRequires, TakenIs};
+ghost use Rattle.writer.specs.Stages.{Ready, TakenIs};
 
 // "Codes in B: 20 absolute, 21 absolute with designator."
 fn code_in_b(kind: usize, designated: bool) -> usize
@@ -59,7 +59,7 @@ pub fn date(
     output: &mut [u8],
     at: usize,
 ) -> Taken
-    requires { ⌜ TakeRequires (now rows) i 5 32 (now output) at ⌝ }
+    requires { ⌜ Ready (now rows) i (now output) at ⌝ }
     ensures { λ r. ⌜ ((n : Next) → TakenIs (sharedDate n ++ ownDates (editionOf in_d) n) level (now (pool .entry)) (now (rows .entry)) i (now (output .entry)) at r (now (output .exit))) ⌝ }
 {
     let r = look_ahead(rows, pool, i);

@@ -35,7 +35,7 @@ ghost use Prim.Native.Nat.{_≤_};
 ghost use Rattle.meaning.specs.Kinds.{ownKey, behaviourOpens, encryptedOpens};
 ghost use Rattle.meaning.specs.Editions.{state, ownText, behaviourValue, encryptedTexts, closed, outer, opens, on_▸_▸_▸_};
 ghost use Rattle.writer.specs.Bodies.{cellsAt};
-ghost use Rattle.writer.specs.Stages.{TakeRequires, StageIs};
+ghost use Rattle.writer.specs.Stages.{Ready, TakeRequires, StageIs};
 ghost use Rattle.writer.specs.Parameters.{atParameters, agentsNext, AgentsIn, afterOne, afterStage, ParameterIs, WayAhead, FoundIs};
 
 // The row ahead and the place behind a parameter; none begins here; or the row that fits nowhere.
@@ -69,7 +69,7 @@ fn begun(s: Stage) -> Parameter
 
 // "00 own key text, value text".
 fn own(rows: &[u32], pool: &[u8], i: usize, output: &mut [u8], at: usize) -> Parameter
-    requires { ⌜ TakeRequires (now rows) i 27 0 (now output) at ⌝ }
+    requires { ⌜ Ready (now rows) i (now output) at ⌝ }
     ensures { λ r. ⌜ ((inD : Bool) → ParameterIs inD (on 0x00 ▸ ownKey ▸ Rattle.meaning.specs.Editions.text ▸ outer ownText ∷ []) (now (pool .entry)) (now (rows .entry)) i (now (output .entry)) at r (now (output .exit))) ⌝ }
 {
     let t = text(rows, pool, i, OWN_KEY, 0, 0x00, output, at);
@@ -105,7 +105,7 @@ fn agents_in(
 
 // "0B transport behaviour, an any-value".
 fn behaviour(rows: &[u32], pool: &[u8], i: usize, output: &mut [u8], at: usize) -> Parameter
-    requires { ⌜ TakeRequires (now rows) i 29 11 (now output) at ⌝ }
+    requires { ⌜ Ready (now rows) i (now output) at ⌝ }
     ensures { λ r. ⌜ ((inD : Bool) → ParameterIs inD (on 0x0b ▸ behaviourOpens ▸ opens ▸ outer behaviourValue ∷ []) (now (pool .entry)) (now (rows .entry)) i (now (output .entry)) at r (now (output .exit))) ⌝ }
 {
     let t = opened(rows, pool, i, BEHAVIOUR_OPENS, 0, 0x0b, output, at);
@@ -118,7 +118,7 @@ fn behaviour(rows: &[u32], pool: &[u8], i: usize, output: &mut [u8], at: usize) 
 
 // "08 encrypted, texts then 01 (B only)".
 fn encrypted(rows: &[u32], pool: &[u8], i: usize, output: &mut [u8], at: usize) -> Parameter
-    requires { ⌜ TakeRequires (now rows) i 26 8 (now output) at ⌝ }
+    requires { ⌜ Ready (now rows) i (now output) at ⌝ }
     ensures { λ r. ⌜ ParameterIs false (on 0x08 ▸ encryptedOpens ▸ opens ▸ outer encryptedTexts ∷ []) (now (pool .entry)) (now (rows .entry)) i (now (output .entry)) at r (now (output .exit)) ⌝ }
 {
     let t = opened(rows, pool, i, ENCRYPTED_OPENS, 0, 0x08, output, at);
@@ -135,7 +135,7 @@ fn encrypted(rows: &[u32], pool: &[u8], i: usize, output: &mut [u8], at: usize) 
 
 // "04 representation".
 fn represented(rows: &[u32], pool: &[u8], i: usize, output: &mut [u8], at: usize) -> Parameter
-    requires { ⌜ TakeRequires (now rows) i 4 0 (now output) at ⌝ }
+    requires { ⌜ Ready (now rows) i (now output) at ⌝ }
     ensures { λ r. ⌜ ((inD : Bool) → WayAhead inD 0x04 (cellsAt (now (pool .entry)) (now (rows .entry)) i) →
         FoundIs inD (now (pool .entry)) (now (rows .entry)) i (now (output .entry)) at r (now (output .exit))) ⌝ }
 {
@@ -152,7 +152,7 @@ fn received_in(
     output: &mut [u8],
     at: usize,
 ) -> Parameter
-    requires { ⌜ TakeRequires (now rows) i 8 10 (now output) at ⌝ }
+    requires { ⌜ Ready (now rows) i (now output) at ⌝ }
     ensures { λ r. ⌜ (WayAhead in_d 0x0a (cellsAt (now (pool .entry)) (now (rows .entry)) i) →
         FoundIs in_d (now (pool .entry)) (now (rows .entry)) i (now (output .entry)) at r (now (output .exit))) ⌝ }
 {
@@ -169,7 +169,7 @@ fn by_kind(
     output: &mut [u8],
     at: usize,
 ) -> Parameter
-    requires { ⌜ TakeRequires (now rows) i 3 0 (now output) at ⌝ }
+    requires { ⌜ Ready (now rows) i (now output) at ⌝ }
     ensures { λ r. ⌜ FoundIs in_d (now (pool .entry)) (now (rows .entry)) i (now (output .entry)) at r (now (output .exit)) ⌝ }
 {
     let r = look_ahead(rows, pool, i);
@@ -207,7 +207,7 @@ pub fn parameters(
     output: &mut [u8],
     at: usize,
 ) -> Stage
-    requires { ⌜ TakeRequires (now rows) from 3 0 (now output) at ⌝ }
+    requires { ⌜ Ready (now rows) from (now output) at ⌝ }
     ensures { λ r. ⌜ StageIs in_d (now (pool .entry)) (now (rows .entry)) from atParameters (state closed 0 false) (now (output .entry)) at r (now (output .exit)) ⌝ }
 {
     let mut i = from;

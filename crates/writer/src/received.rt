@@ -15,7 +15,7 @@ use crate::texts::optional;
 ghost use mathlib.Core.Path.{_≡_};
 ghost use mathlib.Core.Bool.{false};
 ghost use Rattle.meaning.specs.Editions.{state, receivedBegins, afterDate, parameters};
-ghost use Rattle.writer.specs.Stages.{TakeRequires, StageIs, Beyond};
+ghost use Rattle.writer.specs.Stages.{Ready, StageIs, Beyond};
 
 fn behind_date(
     rows: &[u32],
@@ -25,7 +25,7 @@ fn behind_date(
     output: &mut [u8],
     at: usize,
 ) -> Stage
-    requires { ⌜ TakeRequires (now rows) i 9 2 (now output) at ⌝ }
+    requires { ⌜ Ready (now rows) i (now output) at ⌝ }
     ensures { λ r. ⌜ StageIs in_d (now (pool .entry)) (now (rows .entry)) i (state afterDate 1 false) (state parameters 0 false) (now (output .entry)) at r (now (output .exit)) ⌝ }
 {
     let a = optional(rows, pool, i, RECEIVED_FROM, 1, 0x02, output, at);
@@ -50,7 +50,7 @@ pub fn received(
     output: &mut [u8],
     at: usize,
 ) -> Stage
-    requires { ⌜ TakeRequires (now rows) i 8 256 (now output) at ⌝ }
+    requires { ⌜ Ready (now rows) i (now output) at ⌝ }
     ensures { λ r. ⌜ (StageIs in_d (now (pool .entry)) (now (rows .entry)) i (state receivedBegins 0 false) (state parameters 0 false) (now (output .entry)) at r (now (output .exit))) × Beyond i r ⌝ }
 {
     let t = text(rows, pool, i, RECEIVED_BY, 0, NO_CODE, output, at);

@@ -7,11 +7,11 @@ use crate::kinds::STANDARD_REPRESENTATION;
 use crate::lay::put;
 ghost use mathlib.Core.Path.{_≡_};
 ghost use Rattle.meaning.specs.Editions.{Next, representations};
-ghost use Rattle.writer.specs.Stages.{TakeRequires, TakenIs};
+ghost use Rattle.writer.specs.Stages.{Ready, TakenIs};
 
 // "Representation: 10, 11 or 12, or 00 and a text".
 pub fn representation(rows: &[u32], pool: &[u8], i: usize, output: &mut [u8], at: usize) -> Taken
-    requires { ⌜ TakeRequires (now rows) i 4 0 (now output) at ⌝ }
+    requires { ⌜ Ready (now rows) i (now output) at ⌝ }
     ensures { λ r. ⌜ ((n : Next) → TakenIs (representations n) 0 (now (pool .entry)) (now (rows .entry)) i (now (output .entry)) at r (now (output .exit))) ⌝ }
 {
     let r = look_for(rows, pool, i, STANDARD_REPRESENTATION, 0);

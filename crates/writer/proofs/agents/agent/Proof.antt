@@ -48,7 +48,7 @@ add-named c = search needs
 addresses-requires : tie.Need-addresses-requires
 addresses-requires c κs =
     let taken = taken-as _ _ _ _ _ _ _ _ (c .before .before .before .t .given .1) (c .before .before .before .before .before .before .before .text .ensures (stay afterName)) in
-    record { inside = omega (arith, taken .ahead .within); inner = omega arith; coded = omega arith; layable = laid-layable (taken .laid) (c .before .before .before .before .before .before .before .before .before .before .before .before .pre .layable) }
+    record { inside = omega (arith, taken .ahead .within); layable = laid-layable (taken .laid) (c .before .before .before .before .before .before .before .before .before .before .before .before .pre .layable) }
 
 opened-requires : tie.Need-opened-requires
 opened-requires c κs =

@@ -37,7 +37,7 @@ date-requires : tie.Need-date-requires
 date-requires c κs =
     let a = c .before .before .before .before .before .before .before .before .before .before .before .before .before .args in
     let first = represented (a .in-d) (a .pool .now) (a .rows .now) (a .i) (a .output .now) 0 (c .before .before .before .before .before .before .before .representation .result) _ (c .before .before .before .before .before .before .before .representation .ensures (outer headDate)) (c .before .before .before .before .before .before .before .before .before .if1 .taken) (c .before .before .before .before .needed .ensures) (c .before .before .s2 .given .1) in
-    record { inside = first .inside; inner = omega arith; coded = omega arith; layable = onward-layable first (record { counted = omega arith; small = c .before .before .before .before .before .before .before .before .before .before .before .before .before .pre .1 }) }
+    record { inside = first .inside; layable = onward-layable first (record { counted = omega arith; small = c .before .before .before .before .before .before .before .before .before .before .before .before .before .pre .1 }) }
 
 needed-requires-2 : tie.Need-needed-requires-2
 needed-requires-2 c κs =

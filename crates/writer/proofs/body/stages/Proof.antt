@@ -23,7 +23,7 @@ parameters-requires : tie.Need-parameters-requires
 parameters-requires c κs =
     let a = c .before .before .before .before .before .before .before .before .before .before .before .args in
     let front = stage-as (a .in-d) (a .pool .now) (a .rows .now) (a .i) (start (a .base)) atParameters (a .output .now) 0 _ (c .before .before .s2 .given .1) (c .before .before .before .before .before .before .front .ensures) in
-    record { inside = front .inside; inner = omega arith; coded = omega arith; layable = onward-layable front (record { counted = omega arith; small = c .before .before .before .before .before .before .before .before .before .before .before .pre .1 }) }
+    record { inside = front .inside; layable = onward-layable front (record { counted = omega arith; small = c .before .before .before .before .before .before .before .before .before .before .before .pre .1 }) }
 
 same-length : tie.Need-same-length
 same-length c = search needs

@@ -55,7 +55,7 @@ add-i c = search needs
 any-requires : tie.Need-any-requires Inv-loop μ-loop
 any-requires c κs =
     let taken = taken-as _ _ _ _ _ _ _ _ (c .before .before .t .given .1) (c .before .before .before .before .before .before .text .ensures listEnds) in
-    record { inside = omega (arith, taken .ahead .within); inner = omega arith; coded = omega arith; layable = laid-layable (taken .laid) (c .before .before .before .before .before .before .before .before .loop .inv .1) }
+    record { inside = omega (arith, taken .ahead .within); layable = laid-layable (taken .laid) (c .before .before .before .before .before .before .before .before .loop .inv .1) }
 
 enum-known-v : tie.Need-enum-known-v Inv-loop μ-loop
 enum-known-v c = search needs

@@ -31,7 +31,7 @@ add-k c = search needs
 agents-requires : tie.Need-agents-requires
 agents-requires c κs =
     let first = taken-as _ _ _ _ _ _ _ _ (c .before .before .t .given .1) (c .before .before .before .before .before .before .opened .ensures (agentsNext (c .before .before .before .before .before .before .before .before .before .before .before .args .one))) in
-    record { inside = omega (arith, first .ahead .within); inner = omega arith; coded = omega arith; layable = laid-layable (first .laid) (c .before .before .before .before .before .before .before .before .before .before .before .pre .layable) }
+    record { inside = omega (arith, first .ahead .within); layable = laid-layable (first .laid) (c .before .before .before .before .before .before .before .before .before .before .before .pre .layable) }
 
 begun-requires : tie.Need-begun-requires
 begun-requires c κs = search needs

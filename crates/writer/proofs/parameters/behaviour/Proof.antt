@@ -36,7 +36,7 @@ add-k c = search needs
 any-requires : tie.Need-any-requires
 any-requires c κs =
     let first = taken-as _ _ _ _ _ _ _ _ (c .before .before .t .given .1) (c .before .before .before .before .before .before .opened .ensures (outer behaviourValue)) in
-    record { inside = omega (arith, first .ahead .within); inner = omega arith; coded = omega arith; layable = laid-layable (first .laid) (c .before .before .before .before .before .before .before .before .before .before .before .pre .layable) }
+    record { inside = omega (arith, first .ahead .within); layable = laid-layable (first .laid) (c .before .before .before .before .before .before .before .before .before .before .before .pre .layable) }
 
 needed-requires : tie.Need-needed-requires
 needed-requires c κs =

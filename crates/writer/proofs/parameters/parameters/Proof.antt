@@ -25,7 +25,7 @@ loop-holds : tie.Need-loop-holds Inv-loop μ-loop
 loop-holds c = let pre = c .before .before .before .pre in (pre .inside, pre .layable, refl, onward-none (c .before .before .before .args .in-d) _ _ atParameters (pre .inside) (pre .layable))
 
 by-kind-requires : tie.Need-by-kind-requires Inv-loop μ-loop
-by-kind-requires c κs = record { inside = c .before .loop .inv .0; inner = omega arith; coded = omega arith; layable = c .before .loop .inv .1 }
+by-kind-requires c κs = record { inside = c .before .loop .inv .0; layable = c .before .loop .inv .1 }
 
 enum-known-r : tie.Need-enum-known-r Inv-loop μ-loop
 enum-known-r c = search needs

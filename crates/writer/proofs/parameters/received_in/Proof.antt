@@ -5,7 +5,6 @@ use Rattle.writer.proofs.Laying.{laid-layable}
 use Rattle.writer.proofs.Onward.{stage-then}
 use Rattle.writer.specs.Parameters.{atParameters}
 use borrow.Author.Needs.{needs}
-use native.Mathlib.Omega.{arith}
 use Rattle.writer.proofs.parameters.received_in.Statement.{statement}
 use Rattle.writer.proofs.parameters.received_in.Tie as tie
 
@@ -13,7 +12,7 @@ put-requires : tie.Need-put-requires
 put-requires c κs = c .before .before .before .before .pre .layable
 
 received-requires : tie.Need-received-requires
-received-requires c κs = record { inside = c .before .before .before .before .before .before .before .before .pre .inside; inner = omega arith; coded = omega arith; layable = laid-layable (c .before .before .before .put .ensures) (c .before .before .before .before .before .before .before .before .pre .layable) }
+received-requires c κs = record { inside = c .before .before .before .before .before .before .before .before .pre .inside; layable = laid-layable (c .before .before .before .put .ensures) (c .before .before .before .before .before .before .before .before .pre .layable) }
 
 begun-requires : tie.Need-begun-requires
 begun-requires c κs = search needs

@@ -7,7 +7,6 @@ use Rattle.writer.proofs.Onward.{needed-is, stage-then}
 use Rattle.writer.specs.Parameters.{atParameters}
 use borrow.Author.Needs.{needs}
 use mathlib.Core.Bool.{false}
-use native.Mathlib.Omega.{arith}
 use Rattle.writer.proofs.parameters.represented.Statement.{statement}
 use Rattle.writer.proofs.parameters.represented.Tie as tie
 
@@ -15,7 +14,7 @@ put-requires : tie.Need-put-requires
 put-requires c κs = c .before .before .before .before .pre .layable
 
 representation-requires : tie.Need-representation-requires
-representation-requires c κs = record { inside = c .before .before .before .before .before .before .before .before .pre .inside; inner = omega arith; coded = omega arith; layable = laid-layable (c .before .before .before .put .ensures) (c .before .before .before .before .before .before .before .before .pre .layable) }
+representation-requires c κs = record { inside = c .before .before .before .before .before .before .before .before .pre .inside; layable = laid-layable (c .before .before .before .put .ensures) (c .before .before .before .before .before .before .before .before .pre .layable) }
 
 needed-requires : tie.Need-needed-requires
 needed-requires c κs = search needs

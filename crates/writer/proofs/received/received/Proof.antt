@@ -33,7 +33,7 @@ add-named c = search needs
 date-requires : tie.Need-date-requires
 date-requires c κs =
     let by = taken-as _ _ _ _ _ _ _ _ (c .before .before .t .given .1) (c .before .before .before .before .before .before .text .ensures (inner receivedDate)) in
-    record { inside = omega (arith, by .ahead .within); inner = omega arith; coded = omega arith; layable = laid-layable (by .laid) (c .before .before .before .before .before .before .before .before .before .before .before .pre .layable) }
+    record { inside = omega (arith, by .ahead .within); layable = laid-layable (by .laid) (c .before .before .before .before .before .before .before .before .before .before .before .pre .layable) }
 
 enum-known-d : tie.Need-enum-known-d
 enum-known-d c = search needs
@@ -61,7 +61,7 @@ behind-date-requires : tie.Need-behind-date-requires
 behind-date-requires c κs =
     let by = taken-as _ _ _ _ _ _ _ _ (c .before .before .before .before .before .before .before .before .before .t .given .1) (c .before .before .before .before .before .before .before .before .before .before .before .before .before .text .ensures (inner receivedDate)) in
     let dated = taken-as _ _ _ _ _ _ _ _ (c .before .before .d .given .1) (c .before .before .before .before .before .before .date .ensures (stay afterDate)) in
-    record { inside = omega (arith, dated .ahead .within); inner = omega arith; coded = omega arith; layable = laid-layable (dated .laid) (laid-layable (by .laid) (c .before .before .before .before .before .before .before .before .before .before .before .before .before .before .before .before .before .before .pre .layable)) }
+    record { inside = omega (arith, dated .ahead .within); layable = laid-layable (dated .laid) (laid-layable (by .laid) (c .before .before .before .before .before .before .before .before .before .before .before .before .before .before .before .before .before .before .pre .layable)) }
 
 same-length-3 : tie.Need-same-length-3
 same-length-3 c = search needs
