@@ -5,11 +5,12 @@ use mathlib.Core.Bool.{Bool, true, false, _&&_}
 use mathlib.Core.Path.{_≡_, refl, ap, sym, _∙_}
 use native.Mathlib.Numerals.{add-one}
 use native.Mathlib.Omega.{arith}
-use borrow.Author.Tests.{eq-eqb, ne-eqb}
+use borrow.Author.Tests.{eq-eqb, ne-eqb, le-leb, leb-true}
 use lib.Dec.{eqb, leb}
 use lib.ListN.{length, getD}
 use Rattle.meaning.specs.Basics.{pick}
-use Rattle.meaning.specs.Bytes.{Check, half, letter, isDigit, twoDigits, pairWithin, passes, dateChecks, takeDate}
+use Rattle.meaning.specs.Bytes.{Check, half, letter, lastDay, isDigit, twoDigits, pairWithin, passes, dateChecks, takeDate}
+use Rattle.meaning.specs.Plain.{pairByte}
 use Rattle.meaning.specs.Editions.{Edition, B, D, known, unknown, labelOf, Next, date, on_▸_▸_▸_}
 use Rattle.meaning.specs.Reading.{look, hit, none}
 use Rattle.laws.specs.From.{from, from-length, from-end, from-cons}
@@ -18,6 +19,7 @@ use Rattle.values.specs.declared.date.Form.the-variants.{Dated, Unknown}
 use Rattle.values.specs.Stages.{Span, span, spans, misses, Bears}
 use Rattle.values.specs.Dates.{reaching, dateLength, absoluteCheck, pairCheck, checkAt, earlier, datesOf, DateCode}
 use Rattle.values.specs.Answers.{span-prefixed}
+use Rattle.values.proofs.Logic.{both-hold}
 
 -- the checks of n bytes from byte j on
 abbrev checksFrom : Bool → ℕ → ℕ → List Check
@@ -75,9 +77,45 @@ module _ (s : List ℕ) (end : ℕ) (at : ℕ) (isAbsolute : Bool) (many : ℕ) 
           let w : earlier s at (j + 1) ≡ b ∷ earlier s at j = rw (add-one j) refl in
           rw (one-more, from-cons s (at + j) end g l, sym is ∙ q) (span-prefixed j b onward ∙ rw (w, p) refl)
 
--- the code's tests of a byte are its check
-pub within-is : (least most b : ℕ) {x y : Bool} {two : ℕ} → two ≡ twoDigits b → x ≡ isDigit (b / 16) → y ≡ isDigit (b % 16) → (x && y && leb least two && leb two most) ≡ pairWithin least most b
-within-is least most b p q r = rw (p, q, r) refl
+pub day-small : (before : List ℕ) {day : ℕ} → day ≡ lastDay before → day ≤ 99
+unfolding lastDay
+day-small before q = omega arith
+
+-- the code's tests of a byte are its check: the bytes of two digits are in the order of what they say
+alike : (x y : Bool) → (x ≡ true → y ≡ true) → (y ≡ true → x ≡ true) → x ≡ y
+alike true y f g = sym (f refl)
+alike false true f g = g refl
+alike false false f g = refl
+
+module _ (least most b : ℕ) (h : b < 256) (l : least ≤ 99) (m : most ≤ 99) where
+  ordered : (isDigit (b % 16) && leb (pairByte least) b && leb b (pairByte most)) ≡ true → pairWithin least most b ≡ true
+  ordered q =
+      let (to-first, is-last) = both-hold (isDigit (b % 16) && leb (pairByte least) b) (leb b (pairByte most)) q in
+      let (is-digit, is-first) = both-hold (isDigit (b % 16)) (leb (pairByte least) b) to-first in
+      let (from-one, to-ten) = both-hold (leb 1 (b % 16)) (leb (b % 16) 10) is-digit in
+      let a = leb-true 1 (b % 16) from-one in
+      let c = leb-true (b % 16) 10 to-ten in
+      let d = leb-true (pairByte least) b is-first in
+      let e = leb-true b (pairByte most) is-last in
+      rw (le-leb 1 (b / 16) (omega arith), le-leb (b / 16) 10 (omega arith), from-one, to-ten, le-leb least (twoDigits b) (omega arith), le-leb (twoDigits b) most (omega arith)) refl
+
+  said : pairWithin least most b ≡ true → (isDigit (b % 16) && leb (pairByte least) b && leb b (pairByte most)) ≡ true
+  said q =
+      let (to-least, is-most) = both-hold (isDigit (b / 16) && isDigit (b % 16) && leb least (twoDigits b)) (leb (twoDigits b) most) q in
+      let (digits, is-least) = both-hold (isDigit (b / 16) && isDigit (b % 16)) (leb least (twoDigits b)) to-least in
+      let (high, low) = both-hold (isDigit (b / 16)) (isDigit (b % 16)) digits in
+      let (high-one, high-ten) = both-hold (leb 1 (b / 16)) (leb (b / 16) 10) high in
+      let (low-one, low-ten) = both-hold (leb 1 (b % 16)) (leb (b % 16) 10) low in
+      let a = leb-true 1 (b / 16) high-one in
+      let c = leb-true (b / 16) 10 high-ten in
+      let d = leb-true 1 (b % 16) low-one in
+      let e = leb-true (b % 16) 10 low-ten in
+      let f = leb-true least (twoDigits b) is-least in
+      let g = leb-true (twoDigits b) most is-most in
+      rw (low-one, low-ten, le-leb (pairByte least) b (omega arith), le-leb b (pairByte most) (omega arith)) refl
+
+  pub within-is : {x : Bool} {first last : ℕ} → first ≡ pairByte least → last ≡ pairByte most → x ≡ isDigit (b % 16) → (x && leb first b && leb b last) ≡ pairWithin least most b
+  within-is p q r = rw (p, q, r) (alike (isDigit (b % 16) && leb (pairByte least) b && leb b (pairByte most)) (pairWithin least most b) ordered said)
 
 module _ (s : List ℕ) (at j : ℕ) (isAbsolute : Bool) {b : ℕ} (is : b ≡ getD s (at + j) 0) {r : Bool} where
   pub check-padded : j ≡ 8 → ((before : List ℕ) → r ≡ passes half before b) → r ≡ passes (checkAt isAbsolute j) (earlier s at j) (getD s (at + j) 0)

@@ -4,8 +4,8 @@ use crate::BYTE_NEEDED;
 use crate::DATE_WRONG;
 use crate::Value;
 use crate::digits::is_digit;
-use crate::digits::two_digits;
 use crate::digits::wide;
+use crate::encode::pair_byte;
 use crate::kinds::DATE_ABSOLUTE;
 use crate::kinds::DATE_BACKWARD;
 use crate::kinds::DATE_FORWARD;
@@ -144,13 +144,14 @@ fn last_day(s: &[u8], at: usize) -> u32
     31
 }
 
-// Two digits between two bounds.
+// Two digits between two bounds. Coded digits stand in the order of the digits: the byte is held against the bounds' bytes.
 fn within(b: u32, least: u32, most: u32) -> bool
-    requires { ⌜ b < 256 ⌝ }
+    requires { ⌜ (b < 256) × (least ≤ 99) × (most ≤ 99) ⌝ }
     ensures { λ r. ⌜ r ≡ pairWithin least most b ⌝ }
 {
-    let two = two_digits(b);
-    is_digit(b / 16) & is_digit(b % 16) & (least <= two) & (two <= most)
+    let first = wide(pair_byte(least));
+    let last = wide(pair_byte(most));
+    is_digit(b % 16) & (first <= b) & (b <= last)
 }
 
 // A digit and four zero bits.

@@ -153,7 +153,7 @@ fn ten_bytes(date: Date) -> [u8; 10]
     ]
 }
 
-fn pair_byte(x: u32) -> u8
+pub fn pair_byte(x: u32) -> u8
     requires { ⌜ x ≤ 99 ⌝ }
     ensures { λ r. ⌜ r ≡ pairByte x ⌝ }
 {

@@ -1,8 +1,10 @@
 -- `date::in_calendar`: the check of each byte by its number.
 use mathlib.Core.Path.{refl, _∙_}
 use borrow.Author.Needs.{needs}
+use native.Mathlib.Omega.{arith}
 use borrow.Author.Tests.{ne-eqb}
 use Rattle.meaning.specs.Bytes.{passes}
+use Rattle.values.proofs.Dates.{day-small}
 use Rattle.values.proofs.date.in_calendar.Statement.{statement}
 use Rattle.values.proofs.date.in_calendar.Tie as tie
 
@@ -13,7 +15,7 @@ last-day-requires : tie.Need-last-day-requires
 last-day-requires c κs = search needs
 
 within-requires-2 : tie.Need-within-requires-2
-within-requires-2 c κs = search needs
+within-requires-2 c κs = (c .before .before .before .pre .1, omega arith, day-small _ (c .last-day .ensures))
 
 within-requires-3 : tie.Need-within-requires-3
 within-requires-3 c κs = search needs
