@@ -28,7 +28,7 @@ use Rattle.writer.specs.declared.parameters.Parameter.the-variants.{Go, 
 use Rattle.writer.proofs.Aheads.{ahead-cells, ahead-row}
 use Rattle.writer.proofs.Among.{find-kind, nothing-among, not-hit, sole-move, same-kind, takes}
 use Rattle.writer.proofs.Openings.{opens-past}
-use Rattle.writer.proofs.Onward.{onward-then, onward-stuck, own-on}
+use Rattle.writer.proofs.Onward.{leading, onward-then, onward-stuck, own-on}
 use Rattle.writer.proofs.Stands.{parameters-close, parameters-pass}
 
 -- A row by the only move of its kind
@@ -77,7 +77,7 @@ pub after-single : (inD : Bool) (pool rows : List ℕ) (i : ℕ) (m : Move) (bef
 after-single inD pool rows i m before at t after q d g x e = subst (λ (y : Parameter). ParameterIs inD (m ∷ []) pool rows i before at y after) (sym e) (by t x)
   where
     by : (t : Taken) → TakenIs (m ∷ []) 0 pool rows i before at t after → ParameterIs inD (m ∷ []) pool rows i before at (afterOne i t) after
-    by (To p) y = (subst (λ (s : State). Onward inD pool rows i atParameters (i + 1) s before at after p) g (parameter-row inD pool rows m q d y), omega arith)
+    by (To p) y = (leading g (parameter-row inD pool rows m q d y), omega arith)
     by Other y = y
 
 -- The row ahead, by its kind
@@ -145,9 +145,6 @@ parameters-end inD pool rows i x w h l =
 
 pub found-as : (inD : Bool) (pool rows : List ℕ) (i : ℕ) (before : List ℕ) (at : ℕ) (after : List ℕ) {r r₁ : Parameter} → r ≡ r₁ → FoundIs inD pool rows i before at r after → FoundIs inD pool rows i before at r₁ after
 found-as inD pool rows i before at after q f = subst (λ (x : Parameter). FoundIs inD pool rows i before at x after) q f
-
-pub leading : {inD : Bool} {pool rows : List ℕ} {i : ℕ} {st : State} {k : ℕ} {st₁ st₂ : State} {before : List ℕ} {at : ℕ} {after : List ℕ} {p : ℕ} → st₁ ≡ st₂ → Onward inD pool rows i st k st₁ before at after p → Onward inD pool rows i st k st₂ before at after p
-leading {inD} {pool} {rows} {i} {st} {k} {before = before} {at = at} {after = after} {p = p} q a = subst (λ (s : State). Onward inD pool rows i st k s before at after p) q a
 
 pub beyond-one : (i : ℕ) (t : Taken) {s : Stage} → s ≡ afterNeeded i t → Beyond i s
 beyond-one i t q = subst (Beyond i) (sym q) (by t)

@@ -13,7 +13,7 @@ use Rattle.writer.specs.Laying.{Laid, Layable}
 use Rattle.writer.specs.Bodies.{cellsAt, halt}
 use Rattle.writer.specs.Rooms.{NotAmong, TextsIn, ExtrasIn}
 use Rattle.writer.specs.Stages.{bodyAt, RowTaken, Onward}
-use Rattle.writer.proofs.Onward.{taken-on, close-on, lost-on}
+use Rattle.writer.proofs.Onward.{leading, taken-on, close-on, lost-on}
 
 -- memory that a row which stands elsewhere left as it was
 pub laid-from : {before after : List ℕ} {at : ℕ} {bytes m : List ℕ} {p : ℕ} → after ≡ before → Laid after at bytes m p → Laid before at bytes m p
@@ -31,12 +31,12 @@ shallow-kind kind level q = ap (λ (b : Bool). b && ltb levelMost level) q
 module _ (inD : Bool) (pool rows : List ℕ) {i : ℕ} {room : Room} {kind level : ℕ} {single : Bool} {st₁ : State} (t : TextsIn (editionOf inD) room kind level single st₁) {before : List ℕ} {at : ℕ} {after : List ℕ} {p : ℕ} where
   pub item-on : RowTaken (on noCode ▸ kind ▸ text ▸ t .item ∷ []) level pool rows i before at after p → Onward inD pool rows i (state room level single) (i + 1) (state room level single) before at after p
   item-on x =
-      subst (λ (s : State). Onward inD pool rows i (state room level single) (i + 1) s before at after p) (t .again)
+      leading (t .again)
       (taken-on inD pool rows (state room level single) x (t .item) (t .rows) (refl, shallow-kind kind level (t .shallow), tt))
 
   pub texts-end : NotAmong (on noCode ▸ kind ▸ text ▸ t .item ∷ []) level (cellsAt pool rows i) → i ≤ length rows / 4 → Laid before at (1 ∷ []) after p → Onward inD pool rows i (state room level single) i st₁ before at after p
   texts-end x h l =
-      subst (λ (s : State). Onward inD pool rows i (state room level single) i s before at after p) (t .leads)
+      leading (t .leads)
       (close-on inD pool rows (state room level single) (t .rows) x (t .closes) h l)
 
 module _ (inD : Bool) (pool rows : List ℕ) {i : ℕ} {room : Room} {level : ℕ} {single : Bool} {code : ℕ} {st₁ : State} (t : ExtrasIn (editionOf inD) room level single code st₁) where
@@ -50,6 +50,6 @@ module _ (inD : Bool) (pool rows : List ℕ) {i : ℕ} {room : Room} {level : �
   value-lost x = lost-on inD pool rows (state (t .value) level single) (t .values) x (t .lost)
 
   pub extras-end : {before : List ℕ} {at : ℕ} {after : List ℕ} {p : ℕ} → NotAmong (on code ▸ extraKey ▸ text ▸ stay (t .value) ∷ []) level (cellsAt pool rows i) → i ≤ length rows / 4 → Laid before at (1 ∷ []) after p → Onward inD pool rows i (state room level single) i st₁ before at after p
-  extras-end {before} {at} {after} {p} x h l =
-      subst (λ (s : State). Onward inD pool rows i (state room level single) i s before at after p) (t .leads)
+  extras-end x h l =
+      leading (t .leads)
       (close-on inD pool rows (state room level single) (t .rows) x (t .closes) h l)

@@ -58,6 +58,10 @@ pub beyond : (inD : Bool) (pool rows : List ℕ) (k : ℕ) (st st₁ : State) (m
 beyond inD pool rows k st st₁ m at (Go n p) m₁ h s = omega (arith, s .later)
 beyond inD pool rows k st st₁ m at (Stuck j) m₁ h s = tt
 
+-- to the same state, said otherwise
+pub leading : {inD : Bool} {pool rows : List ℕ} {i : ℕ} {st : State} {k : ℕ} {st₁ st₂ : State} {before : List ℕ} {at : ℕ} {after : List ℕ} {p : ℕ} → st₁ ≡ st₂ → Onward inD pool rows i st k st₁ before at after p → Onward inD pool rows i st k st₂ before at after p
+leading {inD} {pool} {rows} {i} {st} {k} {before = before} {at = at} {after = after} {p = p} q a = subst (λ (s : State). Onward inD pool rows i st k s before at after p) q a
+
 -- the same by the answer
 pub stage-as : (inD : Bool) (pool rows : List ℕ) (i : ℕ) (st st₁ : State) (before : List ℕ) (at : ℕ) (after : List ℕ) {r r₁ : Stage} → r ≡ r₁ → StageIs inD pool rows i st st₁ before at r after → StageIs inD pool rows i st st₁ before at r₁ after
 stage-as inD pool rows i st st₁ before at after q s = subst (λ (x : Stage). StageIs inD pool rows i st st₁ before at x after) q s

@@ -21,7 +21,7 @@ use Rattle.writer.specs.declared.agents.Turn.{Turn}
 use Rattle.writer.specs.declared.agents.Turn.the-variants.{On, Done, Stuck}
 use Rattle.writer.proofs.Among.{sole-move}
 use Rattle.writer.proofs.Rooms.{agent-extras, agent-names, list-closes, one-agent}
-use Rattle.writer.proofs.Onward.{onward-then, onward-stuck, taken-on, taken-deep, close-on, lost-on}
+use Rattle.writer.proofs.Onward.{leading, onward-then, onward-stuck, taken-on, taken-deep, close-on, lost-on}
 
 -- the code is what the edition says
 pub extras-coded : (inD : Bool) (level : ℕ) (single : Bool) {code : ℕ} → code ≡ extraCode inD → ExtrasIn (editionOf inD) afterResolvers level single code (go agentEnds (state afterResolvers level single))
@@ -41,10 +41,10 @@ ends-listed level single q = ap (λ (b : Bool). pick b (state parameters 0 false
 
 module _ {inD : Bool} {pool rows : List ℕ} {i : ℕ} {st : State} {k : ℕ} (level : ℕ) (single : Bool) {before : List ℕ} {at : ℕ} {after : List ℕ} {p : ℕ} (a : Onward inD pool rows i st k (go agentEnds (state afterResolvers level single)) before at after p) where
   pub agent-done : (single && eqb level 1) ≡ true → Onward inD pool rows i st k (state parameters 0 false) before at after p
-  agent-done q = subst (λ (s : State). Onward inD pool rows i st k s before at after p) (ends-single level single q) a
+  agent-done q = leading (ends-single level single q) a
 
   pub agent-listed : (single && eqb level 1) ≡ false → Onward inD pool rows i st k (agentsAt level single) before at after p
-  agent-listed q = subst (λ (s : State). Onward inD pool rows i st k s before at after p) (ends-listed level single q) a
+  agent-listed q = leading (ends-listed level single q) a
 
 -- resolvers stand one level deeper, in a list
 resolvers-at : (level : ℕ) (single : Bool) → 1 ≤ level → state agentList (suc level) single ≡ agentsAt (level + 1) single
@@ -57,7 +57,7 @@ resolvers-at level single h =
     at false = refl
 
 pub resolvers-on : {inD : Bool} {pool rows : List ℕ} {i : ℕ} {st : State} {k : ℕ} (level : ℕ) (single : Bool) {before : List ℕ} {at : ℕ} {after : List ℕ} {p : ℕ} → 1 ≤ level → Onward inD pool rows i st k (state agentList (suc level) single) before at after p → Onward inD pool rows i st k (agentsAt (level + 1) single) before at after p
-resolvers-on {inD} {pool} {rows} {i} {st} {k} level single {before} {at} {after} {p} h a = subst (λ (s : State). Onward inD pool rows i st k s before at after p) (resolvers-at level single h) a
+resolvers-on level single h a = leading (resolvers-at level single h) a
 
 upper : (level : ℕ) (single : Bool) → 2 ≤ level → go listEnds (state agentList level single) ≡ state afterResolvers (level - 1) single
 upper zero single h = absurd (omega arith)
@@ -86,10 +86,10 @@ module _ (inD : Bool) (pool rows : List ℕ) {i : ℕ} (level : ℕ) (single : B
     list-on q h l = close-on inD pool rows (agentsAt level single) (agent-names inD (single && eqb level 1)) x (subst (λ (b : Bool). Closes (editionOf inD) (pick b oneAgent agentList) (hit (pass closing ▸ listEnds))) (sym q) (list-closes inD)) h l
 
     pub list-done : {before : List ℕ} {at : ℕ} {after : List ℕ} {p : ℕ} → (single && eqb level 1) ≡ false → level ≡ 1 → i ≤ length rows / 4 → Laid before at (1 ∷ []) after p → Onward inD pool rows i (agentsAt level single) i (state parameters 0 false) before at after p
-    list-done {before} {at} {after} {p} q e h l = subst (λ (s : State). Onward inD pool rows i (agentsAt level single) i s before at after p) (first level single e) (list-on q h l)
+    list-done q e h l = leading (first level single e) (list-on q h l)
 
     pub list-up : {before : List ℕ} {at : ℕ} {after : List ℕ} {p : ℕ} → (single && eqb level 1) ≡ false → 2 ≤ level → i ≤ length rows / 4 → Laid before at (1 ∷ []) after p → Onward inD pool rows i (agentsAt level single) i (state afterResolvers (level - 1) single) before at after p
-    list-up {before} {at} {after} {p} q e h l = subst (λ (s : State). Onward inD pool rows i (agentsAt level single) i s before at after p) (upper level single e) (list-on q h l)
+    list-up q e h l = leading (upper level single e) (list-on q h l)
 
 -- Turns
 

@@ -1,4 +1,4 @@
--- Agents and parameters: what their stages promise.
+-- What the stages of agents promise: turns of a list, each an agent or the end of one.
 use Prim.Native.Nat.{ℕ, _+_, _*_, _-_, _/_, _≤_}
 use mathlib.Core.List.{List, [], _∷_}
 use mathlib.Core.Bool.{Bool, true, false, _&&_}

@@ -1,7 +1,8 @@
 -- `parameters::agents_in`: its row, and the agents behind it.
 use Rattle.writer.proofs.Aheads.{taken-as}
 use Rattle.writer.proofs.Laying.{laid-layable}
-use Rattle.writer.proofs.Choosing.{after-first, leading, parameter-row}
+use Rattle.writer.proofs.Choosing.{after-first, parameter-row}
+use Rattle.writer.proofs.Onward.{leading}
 use Rattle.meaning.specs.Editions.{opens, on_▸_▸_▸_}
 use Rattle.writer.proofs.Rooms.{agents-begin}
 use Rattle.writer.specs.Parameters.{agentsNext}
