@@ -183,14 +183,17 @@ shared agentExtra = anyValues (stay afterResolvers)
 shared closed = []
 
 -- "Extra: code 04 in B, 05 in D; key text; any-value"
+abbrev pub extraCode : Edition → ℕ
+extraCode B = 0x04
+extraCode D = 0x05
+
 abbrev pub agentExtras : Edition → List Move
-agentExtras B = on 0x04 ▸ extraKey ▸ text ▸ stay agentExtra ∷ []
-agentExtras D = on 0x05 ▸ extraKey ▸ text ▸ stay agentExtra ∷ []
+agentExtras e = on extraCode e ▸ extraKey ▸ text ▸ stay agentExtra ∷ []
 
 -- "Received object: .. then in D extras"
 abbrev pub receivedExtras : Edition → List Move
 receivedExtras B = []
-receivedExtras D = on 0x05 ▸ extraKey ▸ text ▸ stay receivedExtra ∷ []
+receivedExtras D = on extraCode D ▸ extraKey ▸ text ▸ stay receivedExtra ∷ []
 
 -- "08 encrypted, texts then 01 (B only)"
 abbrev pub ownParameters : Edition → List Move

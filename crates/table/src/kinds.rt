@@ -1,4 +1,4 @@
-// Document 01, "The table": what a row's kind says.
+// Document 01, "The table": what a row's kind says. Nowhere else in the code does a kind stand as a number.
 pub const EXTENSION_OPENS: u32 = 1;
 
 pub const BASE_OPENS: u32 = 2;

@@ -1,0 +1,8 @@
+-- Codes that depend on the edition.
+use Prim.Native.Nat.{ℕ}
+use Rattle.meaning.specs.Editions.{Edition, B, D, extraCode}
+
+-- a received object's extras; B has none, and 257 is neither a byte nor the absence of a code
+abbrev pub receivedExtraCode : Edition → ℕ
+receivedExtraCode B = 257
+receivedExtraCode D = extraCode D

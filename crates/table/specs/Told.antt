@@ -1,0 +1,16 @@
+-- The code's edition, and what a reading is told, as `meaning` has them.
+use Rattle.meaning.specs.Editions.{Edition, Label}
+use Rattle.meaning.specs.Editions as meaning
+use Rattle.table.specs.declared.told.Edition as declared
+use Rattle.table.specs.declared.told.Edition.the-variants.{B, D}
+use Rattle.table.specs.declared.told.Label as label
+use Rattle.table.specs.declared.told.Label.the-variants.{Known, Unknown}
+
+abbrev pub editionOf : declared.Edition → Edition
+editionOf B = meaning.B
+editionOf D = meaning.D
+
+-- what each case of a label says
+abbrev pub labelIs : label.Label → Label
+labelIs (Known e) = meaning.known (editionOf e)
+labelIs Unknown = meaning.unknown
