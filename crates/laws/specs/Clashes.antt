@@ -12,7 +12,8 @@ use borrow.Author.Tests.{lt-leb}
 use Rattle.meaning.specs.Basics.{pick, every}
 use Rattle.meaning.specs.Bytes.{Taken, took, failed, prefixed, isDigit, twoDigits, Check, pair, day, half, letter, lastDay, pairWithin, passes, Reach, absolute, relative, anyPair, dateChecks, takeDate, dateOk}
 use Rattle.meaning.specs.Kinds.{agentName}
-use Rattle.meaning.specs.Editions.{Edition, B, D, Room, State, Next, outer, inner, innerOne, stay, deeper, listEnds, agentEnds, go, Form, text, date, number, block, itself, opens, quiet, Move, noCode, moves}
+use Rattle.meaning.specs.Told.{Edition, B, D}
+use Rattle.meaning.specs.Editions.{Room, State, Next, outer, inner, innerOne, stay, deeper, listEnds, agentEnds, go, Form, text, date, number, block, itself, opens, quiet, Move, noCode, moves}
 use Rattle.meaning.specs.Reading.{Row, takeValue, Found, none, hit, find, hasCode, look, isClosed, strange, tooDeep, fails, next, step, stepMove, fault, withRows, inside}
 use Rattle.meaning.specs.Writing.{valid, writeValue}
 use Rattle.laws.specs.Logic.{left-of, right-of, both, either, is-false}

@@ -8,7 +8,8 @@ use native.Mathlib.Omega.{arith}
 use lib.Dec.{T, ltb→lt}
 use borrow.Author.Tests.{eqb-true}
 use Rattle.meaning.specs.Basics.{pick, every}
-use Rattle.meaning.specs.Editions.{Edition, State, Move, noCode, moves}
+use Rattle.meaning.specs.Told.{Edition}
+use Rattle.meaning.specs.Editions.{State, Move, noCode, moves}
 use Rattle.meaning.specs.Reading.{Row, seen, hasCode, look, withRows}
 use Rattle.meaning.specs.Writing.{writeValue, fits, fitRow, close}
 use Rattle.laws.specs.Logic.{either}

@@ -12,7 +12,8 @@ use lib.Seq.{take-append-seam, drop-append-seam}
 use borrow.Author.Tests.{ne-eqb, le-ltb, leb-true, leb-false}
 use Rattle.meaning.specs.Basics.{pick}
 use Rattle.meaning.specs.Bytes.{counted, highFirst, twoBytes, fourBytes, lengthBytes}
-use Rattle.meaning.specs.Editions.{Edition, State}
+use Rattle.meaning.specs.Told.{Edition}
+use Rattle.meaning.specs.Editions.{State}
 use Rattle.meaning.specs.Reading.{Row, Seen, rowOf, done, inside}
 use Rattle.meaning.specs.Headers.{Placed, placedRow, placed, meant, Answer, refused, accepted, behind, envelopeMost, opening, start, Onward, ends, envelope, shortLeast, longLeast, sized, header}
 use Rattle.meaning.specs.Writing.{fits, isShort, envelopeSize, withinLimit, envelopeLength, wrap}

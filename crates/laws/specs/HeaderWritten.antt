@@ -11,7 +11,8 @@ use lib.ListN.{take-append-drop}
 use borrow.Author.Tests.{eqb-true, le-leb, lt-leb, ltb-false}
 use Rattle.meaning.specs.Basics.{pick}
 use Rattle.meaning.specs.Bytes.{highFirst}
-use Rattle.meaning.specs.Editions.{Edition, State}
+use Rattle.meaning.specs.Told.{Edition}
+use Rattle.meaning.specs.Editions.{State}
 use Rattle.meaning.specs.Reading.{Row, Seen, rowOf, Out, dry, fault, done, inside}
 use Rattle.meaning.specs.Headers.{Placed, placedRow, placed, meant, Answer, refused, accepted, behind, envelopeMost, opening, start, ends, envelope, shortLeast, longLeast, longForm, sized, Identifier, extension, base, neither, identifierOf, identified, seventeenth, header}
 use Rattle.meaning.specs.Writing.{fits, envelopeSize, withinLimit, envelopeLength, wrap}

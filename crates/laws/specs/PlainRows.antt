@@ -11,7 +11,8 @@ use lib.ListN.{length}
 use Rattle.meaning.specs.Basics.{every}
 use Rattle.meaning.specs.Bytes.{Reach, absolute, relative, dateChecks}
 use Rattle.meaning.specs.Kinds.{dateAbsolute, dateForward, dateBackward, extraKey, encryptedOpens, agentName}
-use Rattle.meaning.specs.Editions.{Edition, B, D, Room, State, Next, outer, inner, innerOne, stay, deeper, listEnds, agentEnds, go, Form, text, date, number, block, itself, opens, quiet, isQuiet, Move, noCode, moves, shared, own}
+use Rattle.meaning.specs.Told.{Edition, B, D}
+use Rattle.meaning.specs.Editions.{Room, State, Next, outer, inner, innerOne, stay, deeper, listEnds, agentEnds, go, Form, text, date, number, block, itself, opens, quiet, isQuiet, Move, noCode, moves, shared, own}
 use Rattle.meaning.specs.Reading.{Row, Found, none, hit, find, hasCode, look, isClosed, strange, next, step}
 use Rattle.meaning.specs.Writing.{valid, fits, fitRow}
 use Rattle.laws.specs.Logic.{left-of, right-of, is-false}

@@ -10,7 +10,8 @@ use lib.ListN.{length}
 use borrow.Author.Tests.{eqb-false}
 use Rattle.meaning.specs.Basics.{pick}
 use Rattle.meaning.specs.Bytes.{Taken, took, failed}
-use Rattle.meaning.specs.Editions.{Edition, State, go, Form, text, date, number, block, itself, opens, quiet, isQuiet, Move, noCode, moves}
+use Rattle.meaning.specs.Told.{Edition}
+use Rattle.meaning.specs.Editions.{State, go, Form, text, date, number, block, itself, opens, quiet, isQuiet, Move, noCode, moves}
 use Rattle.meaning.specs.Reading.{Seen, rowOf, takeValue, seenBy, Found, none, hit, hasCode, look, isClosed, strange, tooDeep, Step, fails, over, next, stepTaken, valueFrom, stepMove, step, Out, dry, fault, done, withRows, onward, run, inside}
 use Rattle.meaning.specs.Writing.{valid, writeValue, wayOf, fits, lead, fitRow, close}
 use Rattle.laws.specs.Logic.{is-true, areBytes, other-bytes, bytes-behind}

@@ -9,7 +9,8 @@ use lib.ListN.{length, take, drop, length-drop}
 use borrow.Author.Tests.{ltb-false}
 use Rattle.meaning.specs.Basics.{pick}
 use Rattle.meaning.specs.Bytes.{Taken, took, failed, prefixed, textByte, takeText, Check, passes, takeDate, dateChecks, Turn, stop, more, wrong, turn, afterTurn, takeNumber, Count, counted, short, highFirst, Width, bytesOf, tooWide, takeBytes, blockOf, takeBlock}
-use Rattle.meaning.specs.Editions.{Edition, State, Form, text, date, number, block, itself, opens, quiet, Move, moves}
+use Rattle.meaning.specs.Told.{Edition}
+use Rattle.meaning.specs.Editions.{State, Form, text, date, number, block, itself, opens, quiet, Move, moves}
 use Rattle.meaning.specs.Reading.{Seen, takeValue, Found, none, hit, look, isClosed, strange, tooDeep, Step, fails, over, next, stepTaken, valueFrom, stepMove, step, Out, dry, fault, done, withRows, onward, run, inside}
 use Rattle.meaning.specs.Headers.{Placed, placedRow, placed, Answer, refused, accepted, behind, envelopeMost, opening, start, ends, envelope, shortLeast, longLeast, longForm, sized, Identifier, extension, base, neither, identifierOf, identified, seventeenth, header}
 use Rattle.laws.specs.Tables.{allRooms, each-room}

@@ -10,7 +10,7 @@ use lib.ListN.{length, take, length-append}
 use lib.Seq.{take-append-seam}
 use borrow.Author.Tests.{le-leb}
 use Rattle.meaning.specs.Basics.{pick, every}
-use Rattle.meaning.specs.Editions.{Edition, B, D, Label, known, unknown, labelOf}
+use Rattle.meaning.specs.Told.{Edition, B, D, Label, known, unknown, labelOf}
 use Rattle.meaning.specs.Reading.{Row}
 use Rattle.meaning.specs.Headers.{Placed, meant, accepted, header, envelopesMost, labelled, read}
 use Rattle.meaning.specs.Writing.{Cell, cell, broken, headerOf, Plan, stuck, plan, Limit, fine, exceeds, limits, written, unwritten, limited, planned, writeRows, writtenUnder}

@@ -10,7 +10,8 @@ use lib.Seq.{take-append-seam, drop-append-seam}
 use borrow.Author.Tests.{eqb-true}
 use Rattle.meaning.specs.Basics.{pick}
 use Rattle.meaning.specs.Bytes.{lengthBytes}
-use Rattle.meaning.specs.Editions.{Edition, State, Form, text, date, number, block, itself, opens, quiet, isQuiet, noCode}
+use Rattle.meaning.specs.Told.{Edition}
+use Rattle.meaning.specs.Editions.{State, Form, text, date, number, block, itself, opens, quiet, isQuiet, noCode}
 use Rattle.meaning.specs.Reading.{Seen, seen, reachBack, hasCode, Step, fails, over, next, step, done, onward, run, inside}
 use Rattle.meaning.specs.Headers.{Placed, placed}
 use Rattle.meaning.specs.Writing.{isOnly, valid, writeValue, lead}

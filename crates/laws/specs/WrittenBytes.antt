@@ -9,7 +9,8 @@ use lib.ListN.{length, take, drop}
 use borrow.Author.Tests.{eqb-false, leb-true}
 use Rattle.meaning.specs.Basics.{pick, every}
 use Rattle.meaning.specs.Bytes.{Width, oneByte, twoBytes, fourBytes, fewest, past, lengthBytes, blockOk}
-use Rattle.meaning.specs.Editions.{Edition, Room, State, Form, text, date, number, block, itself, opens, quiet, isQuiet, Move, noCode, moves, shared, own}
+use Rattle.meaning.specs.Told.{Edition}
+use Rattle.meaning.specs.Editions.{Room, State, Form, text, date, number, block, itself, opens, quiet, isQuiet, Move, noCode, moves, shared, own}
 use Rattle.meaning.specs.Reading.{Row, hasCode}
 use Rattle.meaning.specs.Headers.{envelopeMost}
 use Rattle.meaning.specs.Writing.{valid, writeValue, fits, lead, fitRow, close, Cell, cell, broken, isShort, withinLimit, envelopeLength, wrap}

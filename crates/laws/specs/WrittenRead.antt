@@ -9,7 +9,8 @@ use lib.ListN.{length}
 use borrow.Author.Tests.{eqb-true}
 use Rattle.meaning.specs.Basics.{pick}
 use Rattle.meaning.specs.Bytes.{took, textByte, textOk}
-use Rattle.meaning.specs.Editions.{Edition, State, go, Form, text, date, number, block, itself, opens, quiet, isQuiet, Move, noCode, closing, moves}
+use Rattle.meaning.specs.Told.{Edition}
+use Rattle.meaning.specs.Editions.{State, go, Form, text, date, number, block, itself, opens, quiet, isQuiet, Move, noCode, closing, moves}
 use Rattle.meaning.specs.Reading.{Row, Seen, seen, rowOf, takeValue, reachBack, seenBy, hasCode, isClosed, tooDeep, next, step, done, withRows, inside}
 use Rattle.meaning.specs.Writing.{valid, writeValue, Fit, unfit, fits, led, fitRow, close}
 use Rattle.laws.specs.Logic.{left-of}

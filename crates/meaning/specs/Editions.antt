@@ -5,19 +5,9 @@ use mathlib.Core.List.{List, [], _∷_, _++_}
 use mathlib.Core.Bool.{Bool, true, false, _&&_}
 use lib.Dec.{eqb}
 use Rattle.meaning.specs.Basics.{pick}
+use Rattle.meaning.specs.Told.{Edition, B, D}
 use Rattle.meaning.specs.Bytes.{Reach, absolute, relative, Width, oneByte, twoBytes, fourBytes}
 use Rattle.meaning.specs.Kinds.{standardRepresentation, ownRepresentation, dateAbsolute, dateForward, dateBackward, receivedBy, receivedFrom, receivedId, receivedVia, toOpens, fromOpens, receiverOpens, agentName, addressesOpen, address, resolversOpen, extraKey, anyText, anyBytes, comments, payloadLength, payloadEncoding, encryptedOpens, encryptedItem, ownKey, ownValue, behaviourOpens}
-
--- "Editions are numbered 1 (B) and 2 (D)"
-pub data Edition : Type 0 where
-  B D : Edition
-
-pub data Label : Type 0 where
-  known : Edition → Label
-  unknown : Label
-
-abbrev pub labelOf : ℕ → Label
-labelOf n = pick (eqb n 1) (known B) (pick (eqb n 2) (known D) unknown)
 
 pub data Room : Type 0 where
   receivedBegins headRepresentation headDate parameters ownText parameterRepresentation behaviourValue encryptedTexts : Room

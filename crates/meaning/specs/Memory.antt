@@ -5,7 +5,7 @@ use mathlib.Core.List.{List, [], _∷_, _++_}
 use lib.Dec.{leb}
 use lib.ListN.{length, take, drop}
 use Rattle.meaning.specs.Basics.{pick}
-use Rattle.meaning.specs.Editions.{labelOf}
+use Rattle.meaning.specs.Told.{labelOf}
 use Rattle.meaning.specs.Headers.{Placed, Answer, refused, accepted, read}
 use Rattle.meaning.specs.Writing.{Cell, cell, broken, Written, written, unwritten, writtenUnder}
 

@@ -5,7 +5,8 @@ use mathlib.Core.Path.{_≡_, refl, ap, _∙_}
 use native.Mathlib.Omega.{arith}
 use borrow.Author.Tests.{ne-eqb}
 use Rattle.meaning.specs.Kinds.{agentName, addressesOpen, address, resolversOpen, extraKey}
-use Rattle.meaning.specs.Editions.{Edition, B, D, agentList, oneAgent, afterName, addressTexts, afterAddresses, afterResolvers, agentExtra, state, stay, deeper, listEnds, agentEnds, listEnd, go, text, opens, closing, anyValues, on_▸_▸_▸_, pass_▸_, shared, own, moves}
+use Rattle.meaning.specs.Told.{Edition, B, D}
+use Rattle.meaning.specs.Editions.{agentList, oneAgent, afterName, addressTexts, afterAddresses, afterResolvers, agentExtra, state, stay, deeper, listEnds, agentEnds, listEnd, go, text, opens, closing, anyValues, on_▸_▸_▸_, pass_▸_, shared, own, moves}
 use Rattle.meaning.specs.Reading.{none, hit, find, look}
 use Rattle.laws.specs.Tables.{here, there}
 use Rattle.laws.specs.Lookups.{look-uncoded}

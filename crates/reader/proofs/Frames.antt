@@ -8,7 +8,7 @@ use lib.ListN.{length, getD, take, drop}
 use lib.Seq.{take-all}
 use borrow.Author.Tests.{lt-ltb, le-ltb, ne-eqb}
 use Rattle.meaning.specs.Bytes.{counted, short, highFirst}
-use Rattle.meaning.specs.Editions.{Edition}
+use Rattle.meaning.specs.Told.{Edition}
 use Rattle.meaning.specs.Headers.{Answer, refused, envelopeMost, Onward, envelope, shortLeast, longLeast, sized, neither, identifierOf, header}
 use Rattle.laws.specs.From.{from, from-length, from-end, from-cons, from-drop}
 use Rattle.reader.specs.declared.frame.Frame.{Frame}

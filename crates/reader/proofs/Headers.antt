@@ -8,7 +8,8 @@ use lib.Dec.{eqb}
 use lib.ListN.{length, length-append, length-map}
 use borrow.Author.Tests.{eq-eqb, ne-eqb, eqb-true}
 use Rattle.meaning.specs.Basics.{pick}
-use Rattle.meaning.specs.Editions.{Edition, state, closed, shared, own, moves}
+use Rattle.meaning.specs.Told.{Edition}
+use Rattle.meaning.specs.Editions.{state, closed, shared, own, moves}
 use Rattle.meaning.specs.Reading.{Seen, look, find, stepMove, step, Out, dry, fault, done, onward, inside}
 use Rattle.meaning.specs.Headers.{Placed, placedRow, placed, Answer, refused, accepted, behind, opening, start, Onward, ends}
 use Rattle.laws.specs.From.{from, from-length}

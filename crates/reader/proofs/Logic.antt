@@ -10,7 +10,8 @@ use lib.ListN.{length, length-append}
 use Rattle.meaning.specs.Bytes.{Taken, took, failed}
 use Rattle.meaning.specs.Kinds.{agentName}
 use Rattle.meaning.specs.Basics.{pick}
-use Rattle.meaning.specs.Editions.{Edition, B, D, known, unknown, labelOf, State, go, Move, isQuiet}
+use Rattle.meaning.specs.Told.{Edition, B, D, known, unknown, labelOf}
+use Rattle.meaning.specs.Editions.{State, go, Move, isQuiet}
 use Rattle.meaning.specs.Reading.{Seen, seen, reachBack, levelMost, stepTaken, step, Out, dry, fault, done, withRows, onward, inside}
 use Rattle.laws.specs.From.{from}
 use Rattle.laws.specs.Steps.{inside-onward, loud-seen}

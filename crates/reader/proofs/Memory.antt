@@ -9,7 +9,7 @@ use lib.Dec.{leb}
 use lib.ListN.{length, set, take, drop, length-append, length-drop}
 use lib.Seq.{take-all}
 use borrow.Author.Tests.{le-leb, lt-leb, ne-eqb}
-use Rattle.meaning.specs.Editions.{Edition, B, D, known, labelOf}
+use Rattle.meaning.specs.Told.{Edition, B, D, known, labelOf}
 use Rattle.meaning.specs.Headers.{Placed, Answer, refused, accepted, envelopesMost, header, read}
 use Rattle.meaning.specs.Memory.{numbersOf, tableOf, roomOf, laidOver, readAnswer, readRows}
 use Rattle.meaning.specs.Payload.{partStart, partEnd, partBytes, payloadStart, payloadEnd, payloadBytes}

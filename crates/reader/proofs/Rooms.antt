@@ -10,7 +10,8 @@ use borrow.Author.Tests.{ne-eqb}
 use Rattle.meaning.specs.Basics.{pick}
 use Rattle.meaning.specs.Bytes.{Taken, took, failed}
 use Rattle.meaning.specs.Kinds.{agentName, receivedBy, receivedFrom, receivedId, receivedVia, extraKey, encryptedOpens, encryptedItem, ownValue}
-use Rattle.meaning.specs.Editions.{Edition, B, D, Room, receivedBegins, receivedDate, parameters, ownText, behaviourValue, encryptedTexts, afterDate, afterFrom, afterId, afterVia, receivedExtra, State, state, Next, outer, inner, innerOne, stay, deeper, listEnds, agentEnds, go, text, opens, Move, noCode, anyValues, on_▸_▸_▸_, shared, own, moves}
+use Rattle.meaning.specs.Told.{Edition, B, D}
+use Rattle.meaning.specs.Editions.{Room, receivedBegins, receivedDate, parameters, ownText, behaviourValue, encryptedTexts, afterDate, afterFrom, afterId, afterVia, receivedExtra, State, state, Next, outer, inner, innerOne, stay, deeper, listEnds, agentEnds, go, text, opens, Move, noCode, anyValues, on_▸_▸_▸_, shared, own, moves}
 use Rattle.meaning.specs.Reading.{seenBy, takeValue, Found, none, hit, find, orElse, hasCode, look, isClosed, strange, next, stepTaken, valueFrom, stepMove, step}
 use Rattle.laws.specs.Tables.{here, there}
 use Rattle.laws.specs.Lookups.{look-uncoded}

@@ -3,7 +3,7 @@ use Prim.Native.Nat.{ℕ, _+_, _-_, _≤_}
 use mathlib.Core.List.{List}
 use mathlib.Core.Path.{_≡_, _∙_}
 use lib.ListN.{length}
-use Rattle.meaning.specs.Editions.{Edition}
+use Rattle.meaning.specs.Told.{Edition}
 use Rattle.meaning.specs.Headers.{envelopeMost, envelopesMost, header}
 use Rattle.reader.specs.declared.Stage.the-variants.{Go, Refused}
 use Rattle.reader.specs.declared.envelope.Envelope.{Envelope}

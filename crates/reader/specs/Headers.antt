@@ -6,7 +6,7 @@ use mathlib.Core.Path.{_≡_}
 use lib.Dec.{eqb}
 use lib.ListN.{length, getD}
 use Rattle.meaning.specs.Basics.{pick}
-use Rattle.meaning.specs.Editions.{Edition}
+use Rattle.meaning.specs.Told.{Edition}
 use Rattle.meaning.specs.Reading.{inside}
 use Rattle.meaning.specs.Headers.{Placed, placedRow, Answer, refused, accepted, behind, envelopeMost, envelopesMost, opening, start, Onward, ends, Identifier, identifierOf, header}
 use Rattle.meaning.specs.Headers as meaning

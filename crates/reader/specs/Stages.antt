@@ -9,7 +9,8 @@ use lib.ListN.{length, set}
 use Rattle.meaning.specs.Basics.{pick}
 use Rattle.meaning.specs.Bytes.{takeText, takeNumber}
 use Rattle.meaning.specs.Kinds.{agentName, payloadLength, extraKey}
-use Rattle.meaning.specs.Editions.{Edition, B, D, known, labelOf, parameters, State, state, Next, go, Move, text, noCode, closing, anyValues, moves, on_▸_▸_▸_, pass_▸_}
+use Rattle.meaning.specs.Told.{Edition, B, D, known, labelOf}
+use Rattle.meaning.specs.Editions.{parameters, State, state, Next, go, Move, text, noCode, closing, anyValues, moves, on_▸_▸_▸_, pass_▸_}
 use Rattle.meaning.specs.Reading.{Seen, Out, dry, fault, done, inside, step, look, none, hit, isClosed, strange}
 use Rattle.meaning.specs.Memory.{rowWidth}
 use Rattle.laws.specs.From.{from}

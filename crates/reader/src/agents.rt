@@ -10,7 +10,8 @@ ghost use mathlib.Core.Path.{_≡_};
 ghost use mathlib.Core.Bool.{Bool, true, false};
 ghost use Prim.Native.Nat.{_-_, _≤_};
 ghost use Rattle.meaning.specs.Kinds.{agentName};
-ghost use Rattle.meaning.specs.Editions.{Edition, known, labelOf, state, go, agentEnds, listEnds, agentList, oneAgent, afterName, afterAddresses, afterResolvers, parameters};
+ghost use Rattle.meaning.specs.Told.{Edition, known, labelOf};
+ghost use Rattle.meaning.specs.Editions.{state, go, agentEnds, listEnds, agentList, oneAgent, afterName, afterAddresses, afterResolvers, parameters};
 ghost use Rattle.reader.specs.Stages.{Ready, Known, StateRead, TextRead, InList, agentExtraCode};
 
 // "Extra: code 04 in B, 05 in D."

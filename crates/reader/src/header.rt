@@ -4,7 +4,7 @@ use crate::envelope::Envelope;
 use crate::envelope::read_envelope;
 use values::Allows;
 ghost use mathlib.Core.Path.{_≡_};
-ghost use Rattle.meaning.specs.Editions.{Edition, known, labelOf};
+ghost use Rattle.meaning.specs.Told.{Edition, known, labelOf};
 ghost use Rattle.reader.specs.Stages.{Known};
 ghost use Rattle.reader.specs.Headers.{HeaderRead};
 

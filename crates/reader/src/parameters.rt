@@ -13,7 +13,8 @@ ghost use mathlib.Core.Path.{_≡_};
 ghost use mathlib.Core.Bool.{true, false};
 ghost use Prim.Native.Nat.{_+_, _<_};
 ghost use Rattle.meaning.specs.Kinds.{ownKey, fromOpens, behaviourOpens, encryptedOpens};
-ghost use Rattle.meaning.specs.Editions.{Edition, known, labelOf, state, parameters, ownText, agentList, oneAgent, behaviourValue, encryptedTexts, closed};
+ghost use Rattle.meaning.specs.Told.{Edition, known, labelOf};
+ghost use Rattle.meaning.specs.Editions.{state, parameters, ownText, agentList, oneAgent, behaviourValue, encryptedTexts, closed};
 ghost use Rattle.reader.specs.Stages.{Ready, Known, StateRead, TextRead, OpenedRead, ParameterRead, Peeked, NoCode};
 
 // "00 own key text, value text", after the code.

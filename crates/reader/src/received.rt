@@ -6,7 +6,8 @@ use crate::texts;
 use values::Allows;
 ghost use mathlib.Core.Path.{_≡_};
 ghost use mathlib.Core.Bool.{false};
-ghost use Rattle.meaning.specs.Editions.{Edition, known, labelOf, state, receivedBegins, afterDate, parameters};
+ghost use Rattle.meaning.specs.Told.{Edition, known, labelOf};
+ghost use Rattle.meaning.specs.Editions.{state, receivedBegins, afterDate, parameters};
 ghost use Rattle.reader.specs.Stages.{Ready, Known, StateRead, receivedExtraCode};
 
 // The code of a received object's extras; B has none, and 257 is no byte.

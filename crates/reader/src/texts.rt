@@ -7,7 +7,8 @@ use crate::rows;
 ghost use mathlib.Core.Path.{_≡_};
 ghost use Prim.Native.Nat.{_<_};
 ghost use Rattle.meaning.specs.Kinds.{extraKey};
-ghost use Rattle.meaning.specs.Editions.{Edition, State, anyValues};
+ghost use Rattle.meaning.specs.Told.{Edition};
+ghost use Rattle.meaning.specs.Editions.{State, anyValues};
 ghost use Rattle.reader.specs.Stages.{Ready, StateRead, TextRead, Texts, Optional, Extras, Shaped};
 
 // "In a list of texts, 01 where an item would begin ends the list."

@@ -1,6 +1,6 @@
 -- The code's edition, and what a reading is told, as `meaning` has them.
-use Rattle.meaning.specs.Editions.{Edition, Label}
-use Rattle.meaning.specs.Editions as meaning
+use Rattle.meaning.specs.Told.{Edition, Label}
+use Rattle.meaning.specs.Told as meaning
 use Rattle.table.specs.declared.told.Edition as declared
 use Rattle.table.specs.declared.told.Edition.the-variants.{B, D}
 use Rattle.table.specs.declared.told.Label as label

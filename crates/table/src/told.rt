@@ -1,6 +1,6 @@
 // "Editions are numbered 1 (B) and 2 (D)."
 ghost use mathlib.Core.Path.{_≡_};
-ghost use Rattle.meaning.specs.Editions.{labelOf};
+ghost use Rattle.meaning.specs.Told.{labelOf};
 ghost use Rattle.table.specs.Told.{labelIs};
 
 pub enum Edition {

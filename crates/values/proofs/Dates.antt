@@ -11,7 +11,8 @@ use lib.ListN.{length, getD}
 use Rattle.meaning.specs.Basics.{pick}
 use Rattle.meaning.specs.Bytes.{Check, half, letter, lastDay, isDigit, twoDigits, pairWithin, passes, dateChecks, takeDate}
 use Rattle.meaning.specs.Plain.{pairByte}
-use Rattle.meaning.specs.Editions.{Edition, B, D, known, unknown, labelOf, Next, date, on_▸_▸_▸_}
+use Rattle.meaning.specs.Told.{Edition, B, D, known, unknown, labelOf}
+use Rattle.meaning.specs.Editions.{Next, date, on_▸_▸_▸_}
 use Rattle.meaning.specs.Reading.{look, hit, none}
 use Rattle.laws.specs.From.{from, from-length, from-end, from-cons}
 use Rattle.values.specs.declared.date.Form.{Form}

@@ -7,7 +7,8 @@ use lib.Dec.{eqb}
 use lib.ListN.{getD}
 use Rattle.meaning.specs.Basics.{pick}
 use Rattle.meaning.specs.Bytes.{Check, pair, day, half, letter, anyPair, Reach, absolute, relative}
-use Rattle.meaning.specs.Editions.{Edition, Next, Move, date, sharedDate, ownDates, on_▸_▸_▸_}
+use Rattle.meaning.specs.Told.{Edition}
+use Rattle.meaning.specs.Editions.{Next, Move, date, sharedDate, ownDates, on_▸_▸_▸_}
 use Rattle.meaning.specs.Reading.{look, none, hit}
 use Rattle.values.specs.declared.date.Form.{Form}
 use Rattle.values.specs.declared.date.Form.the-variants.{Dated, Unknown}

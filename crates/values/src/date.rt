@@ -14,7 +14,7 @@ ghost use mathlib.Core.List.{List, []};
 ghost use Prim.Native.Nat.{ℕ, _+_, _≤_, _<_};
 ghost use lib.ListN.{length, getD};
 ghost use Rattle.meaning.specs.Bytes.{pairWithin, passes, half, letter, lastDay, dateChecks, takeDate};
-ghost use Rattle.meaning.specs.Editions.{Edition, B, D, known, labelOf};
+ghost use Rattle.meaning.specs.Told.{Edition, B, D, known, labelOf};
 ghost use Rattle.laws.specs.From.{from};
 ghost use Rattle.values.specs.Stages.{Inside, Valued, Coded};
 ghost use Rattle.values.specs.Dates.{reaching, absoluteCheck, checkAt, earlier, dateLength, DateCode, datesOf};

@@ -8,7 +8,7 @@ use lib.Dec.{eqb, leb}
 use lib.ListN.{length, getD}
 use borrow.Author.Tests.{le-leb, lt-leb, eq-eqb, ne-eqb}
 use Rattle.meaning.specs.Basics.{pick}
-use Rattle.meaning.specs.Editions.{B, D, known, unknown, labelOf}
+use Rattle.meaning.specs.Told.{B, D, known, unknown, labelOf}
 use Rattle.meaning.specs.Writing.{Cell, broken, Envelope, Plan, stuck, plan, wholePlan, headerOf, Limit, fine, exceeds, limits, Written, written, unwritten, limited, planned, writeRows}
 use Rattle.meaning.specs.Memory.{cellOf, cellsOf, reply, laidOver, write, writeAnswer, writeOutput}
 use Rattle.writer.specs.Bodies.{rowCell, cellsFor, cellsAt}

@@ -9,7 +9,8 @@ use lib.ListN.{length, take, drop}
 use lib.Dec.{eqb}
 use borrow.Author.Tests.{le-leb, lt-leb, eq-eqb, ne-eqb}
 use Rattle.meaning.specs.Basics.{pick}
-use Rattle.meaning.specs.Editions.{Edition, State}
+use Rattle.meaning.specs.Told.{Edition}
+use Rattle.meaning.specs.Editions.{State}
 use Rattle.meaning.specs.Reading.{Row}
 use Rattle.meaning.specs.Writing.{fitRow, Cell, cell, broken, Opens, envelopeRow, innerRow, opensOf}
 use Rattle.meaning.specs.Memory.{cellOf}

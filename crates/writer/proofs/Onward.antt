@@ -7,7 +7,8 @@ use native.Mathlib.Omega.{arith}
 use lib.Dec.{eqb}
 use lib.ListN.{length}
 use Rattle.meaning.specs.Basics.{pick}
-use Rattle.meaning.specs.Editions.{Edition, State, Next, Move, moves, go}
+use Rattle.meaning.specs.Told.{Edition}
+use Rattle.meaning.specs.Editions.{State, Next, Move, moves, go}
 use Rattle.meaning.specs.Reading.{tooDeep, none, hit, find}
 use Rattle.meaning.specs.Writing.{unfit, fits, lead, atLevel, standsFor, writeValue, Cell, cell, broken}
 use Rattle.writer.specs.Edition.{editionOf}

@@ -7,7 +7,8 @@ use native.Mathlib.Omega.{arith}
 use lib.Dec.{eqb}
 use lib.ListN.{length}
 use Rattle.meaning.specs.Basics.{pick}
-use Rattle.meaning.specs.Editions.{Edition, Room, State, state, Next, outer, inner, innerOne, stay, deeper, listEnds, agentEnds, isQuiet, closing, Move, moves, go}
+use Rattle.meaning.specs.Told.{Edition}
+use Rattle.meaning.specs.Editions.{Room, State, state, Next, outer, inner, innerOne, stay, deeper, listEnds, agentEnds, isQuiet, closing, Move, moves, go}
 use Rattle.meaning.specs.Reading.{isClosed, tooDeep, Row, Found, none, hit, find, orElse}
 use Rattle.meaning.specs.Writing.{unfit, fits, led, Way, byOwn, byPass, nowhere, ways, wayOf, wayTo, fitBy, close, closeBy, Opens, envelopeRow, innerRow, lead, atLevel, standsFor, isPass, writeValue, fitRow, Cell, cell, broken, opensOf}
 use Rattle.laws.specs.Fits.{fit-once, close-once}

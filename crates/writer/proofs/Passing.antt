@@ -6,7 +6,7 @@ use mathlib.Core.Path.{_≡_, refl, ap, sym, _∙_}
 use native.Mathlib.Omega.{arith}
 use lib.Dec.{eqb}
 use lib.ListN.{length}
-use Rattle.meaning.specs.Editions.{Edition}
+use Rattle.meaning.specs.Told.{Edition}
 use Rattle.meaning.specs.Headers.{start}
 use Rattle.meaning.specs.Writing.{Cell, cell, broken, Opens, envelopeRow, innerRow, opensOf, Envelope, envelopeAt, Plan, stuck, plan, newPlan, planOf, envelopeSize, headerOf, Limit, fine, exceeds, limits}
 use Rattle.writer.specs.Edition.{editionOf}

@@ -6,7 +6,8 @@ use mathlib.Core.Path.{_≡_, refl, ap, _∙_}
 use lib.Dec.{eqb}
 use native.Mathlib.Omega.{arith}
 use Rattle.meaning.specs.Basics.{pick}
-use Rattle.meaning.specs.Editions.{Edition, B, D, State, state, parameters, closed, outer, closing, Move, moves, shared, own, go, pass_▸_}
+use Rattle.meaning.specs.Told.{Edition, B, D}
+use Rattle.meaning.specs.Editions.{State, state, parameters, closed, outer, closing, Move, moves, shared, own, go, pass_▸_}
 use Rattle.meaning.specs.Reading.{isClosed, Row, Found, none, hit, find, orElse}
 use Rattle.meaning.specs.Writing.{Fit, unfit, fits, led, Way, ways, wayOf, wayTo, fitBy, place, isPass, fitRow, closeBy, close, Cell, cell, broken, Opens, envelopeRow, innerRow, opensOf}
 use Rattle.laws.specs.Fits.{fit-once, close-once}

@@ -6,7 +6,8 @@ use mathlib.Core.Path.{_≡_}
 use lib.Dec.{eqb}
 use lib.ListN.{length, getD}
 use Rattle.meaning.specs.Basics.{pick}
-use Rattle.meaning.specs.Editions.{Edition, State}
+use Rattle.meaning.specs.Told.{Edition}
+use Rattle.meaning.specs.Editions.{State}
 use Rattle.meaning.specs.Reading.{Row}
 use Rattle.meaning.specs.Writing.{Fit, unfit, fits, fitRow, close, Cell, cell, broken, Opens, envelopeRow, innerRow, opensOf}
 use Rattle.meaning.specs.Memory.{cellOf}

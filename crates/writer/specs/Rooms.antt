@@ -6,7 +6,8 @@ use mathlib.Core.Path.{_≡_}
 use lib.Dec.{eqb}
 use Rattle.meaning.specs.Basics.{pick}
 use Rattle.meaning.specs.Kinds.{agentName, extraKey}
-use Rattle.meaning.specs.Editions.{Edition, State, state, Room, Next, stay, text, isQuiet, noCode, closing, Move, moves, anyValues, go, on_▸_▸_▸_, pass_▸_}
+use Rattle.meaning.specs.Told.{Edition}
+use Rattle.meaning.specs.Editions.{State, state, Room, Next, stay, text, isQuiet, noCode, closing, Move, moves, anyValues, go, on_▸_▸_▸_, pass_▸_}
 use Rattle.meaning.specs.Reading.{isClosed, tooDeep, Row, Found, none, hit, find}
 use Rattle.meaning.specs.Writing.{atLevel, standsFor, isPass, Cell, cell, broken}
 

@@ -8,7 +8,8 @@ use borrow.Author.Needs.{needs}
 use borrow.Author.Tests.{le-ltb, lt-ltb}
 use lib.Dec.{ltb}
 use lib.ListN.{length}
-use Rattle.meaning.specs.Editions.{B, Edition, State, afterAddresses, afterName, afterResolvers, agentList, deeper, known, labelOf, listEnds, on_▸_▸_▸_, state, stay, text}
+use Rattle.meaning.specs.Told.{B, Edition, known, labelOf}
+use Rattle.meaning.specs.Editions.{State, afterAddresses, afterName, afterResolvers, agentList, deeper, listEnds, on_▸_▸_▸_, state, stay, text}
 use Rattle.meaning.specs.Kinds.{agentName, resolversOpen}
 use Rattle.meaning.specs.Reading.{levelMost}
 use Rattle.laws.specs.Envelopes.{before}

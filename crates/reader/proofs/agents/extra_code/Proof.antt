@@ -1,6 +1,6 @@
 -- `agents::extra_code`: the edition by its number.
 use mathlib.Core.Path.{_≡_, refl}
-use Rattle.meaning.specs.Editions.{Edition}
+use Rattle.meaning.specs.Told.{Edition}
 use Rattle.reader.specs.Stages.{agentExtraCode}
 use Rattle.reader.proofs.Logic.{known-b, known-d}
 use Rattle.reader.proofs.agents.extra_code.Statement.{statement}

@@ -4,7 +4,8 @@ use mathlib.Core.Bool.{false}
 use mathlib.Core.Path.{_∙_, refl}
 use native.Mathlib.Omega.{arith}
 use borrow.Author.Needs.{needs}
-use Rattle.meaning.specs.Editions.{B, addressTexts, afterAddresses, afterName, parameters, state, stay}
+use Rattle.meaning.specs.Told.{B}
+use Rattle.meaning.specs.Editions.{addressTexts, afterAddresses, afterName, parameters, state, stay}
 use Rattle.meaning.specs.Kinds.{addressesOpen}
 use Rattle.reader.specs.Stages.{source}
 use Rattle.reader.proofs.AgentRooms.{address-texts, name-addresses, name-else}

@@ -2,7 +2,8 @@
 use mathlib.Core.Bool.{false}
 use mathlib.Core.Path.{refl}
 use borrow.Author.Needs.{needs}
-use Rattle.meaning.specs.Editions.{B, Edition, headDate, headRepresentation, moves, outer, own, parameters, representations, shared, state}
+use Rattle.meaning.specs.Told.{B, Edition}
+use Rattle.meaning.specs.Editions.{headDate, headRepresentation, moves, outer, own, parameters, representations, shared, state}
 use Rattle.laws.specs.Envelopes.{before}
 use Rattle.values.specs.Dates.{datesOf}
 use Rattle.reader.specs.Stages.{Shaped}

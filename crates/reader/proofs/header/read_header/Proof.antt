@@ -5,7 +5,7 @@ use mathlib.Core.Path.{_∙_, _≡_, ap, refl, sym}
 use native.Mathlib.Omega.{arith}
 use borrow.Author.Needs.{needs}
 use lib.ListN.{length}
-use Rattle.meaning.specs.Editions.{Edition, known, labelOf}
+use Rattle.meaning.specs.Told.{Edition, known, labelOf}
 use Rattle.meaning.specs.Headers.{envelopeMost, envelopesMost, header}
 use Rattle.reader.specs.Headers.{finish, headerAt}
 use Rattle.reader.specs.Stages.{headerMost}

@@ -3,7 +3,8 @@ use mathlib.Core.Bool.{false}
 use mathlib.Core.Path.{_∙_, refl}
 use native.Mathlib.Omega.{arith}
 use borrow.Author.Needs.{needs}
-use Rattle.meaning.specs.Editions.{B, outer, ownText, parameters, state}
+use Rattle.meaning.specs.Told.{B}
+use Rattle.meaning.specs.Editions.{outer, ownText, parameters, state}
 use Rattle.meaning.specs.Kinds.{ownValue}
 use Rattle.laws.specs.Envelopes.{before}
 use Rattle.reader.specs.Stages.{source}

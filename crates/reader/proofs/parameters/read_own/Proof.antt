@@ -5,7 +5,8 @@ use mathlib.Core.Path.{_≡_, refl}
 use native.Mathlib.Nat.{le-refl}
 use native.Mathlib.Omega.{arith}
 use borrow.Author.Needs.{needs}
-use Rattle.meaning.specs.Editions.{B, Edition, encryptedTexts, outer, parameters, state}
+use Rattle.meaning.specs.Told.{B, Edition}
+use Rattle.meaning.specs.Editions.{encryptedTexts, outer, parameters, state}
 use Rattle.meaning.specs.Kinds.{encryptedOpens}
 use Rattle.reader.specs.Stages.{ParameterRead, source}
 use Rattle.reader.proofs.Logic.{known-b, known-d}

@@ -3,7 +3,8 @@ use mathlib.Core.Bool.{false}
 use mathlib.Core.Path.{refl}
 use native.Mathlib.Omega.{arith}
 use borrow.Author.Needs.{needs}
-use Rattle.meaning.specs.Editions.{Edition, agentList, behaviourValue, inner, innerOne, moves, oneAgent, outer, own, ownText, parameterRepresentation, parameters, receivedBegins, representations, shared, state}
+use Rattle.meaning.specs.Told.{Edition}
+use Rattle.meaning.specs.Editions.{agentList, behaviourValue, inner, innerOne, moves, oneAgent, outer, own, ownText, parameterRepresentation, parameters, receivedBegins, representations, shared, state}
 use Rattle.meaning.specs.Kinds.{behaviourOpens, comments, fromOpens, ownKey, payloadEncoding, payloadLength, receiverOpens, toOpens}
 use Rattle.meaning.specs.Reading.{find, look}
 use Rattle.reader.specs.Stages.{Shaped, source}

@@ -6,7 +6,8 @@ use native.Mathlib.Nat.{le-refl}
 use native.Mathlib.Omega.{arith}
 use borrow.Author.Needs.{needs}
 use lib.ListN.{length}
-use Rattle.meaning.specs.Editions.{Edition, closed, closing, known, labelOf, moves, outer, own, parameters, pass_▸_, shared, state}
+use Rattle.meaning.specs.Told.{Edition, known, labelOf}
+use Rattle.meaning.specs.Editions.{closed, closing, moves, outer, own, parameters, pass_▸_, shared, state}
 use Rattle.meaning.specs.Reading.{find, hit, look}
 use Rattle.laws.specs.Envelopes.{before}
 use Rattle.reader.specs.Stages.{runAt, source}

@@ -3,7 +3,8 @@ use mathlib.Core.Bool.{false}
 use mathlib.Core.Path.{_∙_, sym}
 use native.Mathlib.Omega.{arith}
 use borrow.Author.Needs.{needs}
-use Rattle.meaning.specs.Editions.{B, Edition, afterDate, afterFrom, afterId, afterVia, parameters, receivedExtra, state}
+use Rattle.meaning.specs.Told.{B, Edition}
+use Rattle.meaning.specs.Editions.{afterDate, afterFrom, afterId, afterVia, parameters, receivedExtra, state}
 use Rattle.reader.specs.Stages.{StateRead}
 use Rattle.reader.proofs.Rooms.{from-optional, id-optional, received-code, received-extras, via-optional}
 use Rattle.reader.proofs.Stages.{begun, handed, moved-to, ready-to, went}

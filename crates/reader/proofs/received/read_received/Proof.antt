@@ -3,7 +3,8 @@ use mathlib.Core.Bool.{false}
 use mathlib.Core.Path.{_≡_, refl}
 use native.Mathlib.Omega.{arith}
 use borrow.Author.Needs.{needs}
-use Rattle.meaning.specs.Editions.{B, Edition, afterDate, inner, known, labelOf, receivedBegins, receivedDate, state}
+use Rattle.meaning.specs.Told.{B, Edition, known, labelOf}
+use Rattle.meaning.specs.Editions.{afterDate, inner, receivedBegins, receivedDate, state}
 use Rattle.meaning.specs.Kinds.{receivedBy}
 use Rattle.reader.specs.Stages.{StateRead, source}
 use Rattle.reader.proofs.Rooms.{by-look, date-room}

@@ -1,7 +1,8 @@
 -- `texts::extra`: the key's stage, then the any-value's.
 use mathlib.Core.Bool.{false}
 use borrow.Author.Needs.{needs}
-use Rattle.meaning.specs.Editions.{B, parameters, state}
+use Rattle.meaning.specs.Told.{B}
+use Rattle.meaning.specs.Editions.{parameters, state}
 use Rattle.laws.specs.Envelopes.{before}
 use Rattle.reader.proofs.Stages.{begun, handed, moved-to, went}
 use Rattle.reader.proofs.texts.extra.Statement.{statement}

@@ -7,7 +7,8 @@ use native.Mathlib.Nat.{le-refl}
 use native.Mathlib.Omega.{arith}
 use borrow.Author.Needs.{needs}
 use lib.ListN.{length}
-use Rattle.meaning.specs.Editions.{B, Edition, State, afterResolvers, agentExtra, go, state}
+use Rattle.meaning.specs.Told.{B, Edition}
+use Rattle.meaning.specs.Editions.{State, afterResolvers, agentExtra, go, state}
 use Rattle.meaning.specs.Kinds.{extraKey}
 use Rattle.laws.specs.Envelopes.{before}
 use Rattle.reader.specs.Stages.{Extras, Peeked, Ran, runAt, source, textAt}

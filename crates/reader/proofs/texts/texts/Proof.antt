@@ -6,7 +6,8 @@ use native.Mathlib.Nat.{le-refl}
 use native.Mathlib.Omega.{arith}
 use borrow.Author.Needs.{needs}
 use lib.ListN.{length}
-use Rattle.meaning.specs.Editions.{B, Edition, State, go, parameters, state}
+use Rattle.meaning.specs.Told.{B, Edition}
+use Rattle.meaning.specs.Editions.{State, go, parameters, state}
 use Rattle.reader.specs.Stages.{Ran, Texts, runAt, source, textAt}
 use Rattle.reader.proofs.Logic.{not-deep}
 use Rattle.reader.proofs.Stages.{arrives, begun, going, handed, moved-to, went}
