@@ -3,5 +3,6 @@ pub mod codes;
 pub mod kinds;
 pub mod limits;
 pub mod refusals;
+pub mod reply;
 pub mod rows;
 pub mod told;
