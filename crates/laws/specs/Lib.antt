@@ -1,6 +1,7 @@
 -- Laws of the meaning, each file by those before it.
 pub mod Logic
 pub mod From
+pub mod HighFirst
 pub mod Rows
 pub mod Values
 pub mod Tables

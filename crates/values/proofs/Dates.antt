@@ -20,7 +20,7 @@ use Rattle.values.specs.declared.date.Form.the-variants.{Dated, Unknown}
 use Rattle.values.specs.Stages.{Span, span, spans, misses, Bears}
 use Rattle.values.specs.Dates.{reaching, dateLength, absoluteCheck, pairCheck, checkAt, earlier, datesOf, DateCode}
 use Rattle.values.specs.Answers.{span-prefixed}
-use Rattle.values.proofs.Logic.{both-hold}
+use Rattle.laws.specs.Logic.{both-hold}
 
 -- the checks of n bytes from byte j on
 abbrev checksFrom : Bool → ℕ → ℕ → List Check
@@ -135,17 +135,6 @@ check-absolute j b before h a = a ∙ rw h refl
 pub check-relative : (j b : ℕ) (before : List ℕ) {isAbsolute r : Bool} → isAbsolute ≡ false → r ≡ pairWithin 0 99 b → r ≡ passes (pairCheck isAbsolute j) before b
 unfolding passes
 check-relative j b before h a = a ∙ rw h refl
-
--- the edition behind a number
-pub edition-b : (n : ℕ) (e : Edition) → n ≡ 1 → labelOf n ≡ known e → e ≡ B
-edition-b n e h q = let z : labelOf n ≡ known B = rw (eq-eqb n 1 h) refl in cc
-
-other-edition : (z : Bool) (e : Edition) → pick z (known D) unknown ≡ known e → e ≡ D
-other-edition true e q = cc
-other-edition false e q = let z : _≡_ {A = ℕ} 0 1 = cc in absurd (omega arith)
-
-pub edition-d : (n : ℕ) (e : Edition) → (n ≡ 1 → ⊥) → labelOf n ≡ known e → e ≡ D
-edition-d n e h q = other-edition (eqb n 2) e (rw (ne-eqb n 1 h) at q)
 
 module _ (e : Edition) (code : ℕ) {r : Form} (a : DateCode e code r) where
   pub dated-at : {kind : ℕ} {isAbsolute designated : Bool} → r ≡ Dated kind isAbsolute designated

@@ -2,6 +2,6 @@
 pub mod Stages
 pub mod Answers
 pub mod Numbers
+pub mod Counting
 pub mod Dates
 pub mod Blocks
-pub mod Plain
