@@ -11,9 +11,9 @@ use Rattle.meaning.specs.Editions.{shared, own, moves}
 use Rattle.meaning.specs.Reading.{takeValue, find, look, stepMove, step, run, inside}
 use Rattle.meaning.specs.Headers.{envelope, header, read}
 use Rattle.meaning.specs.Writing.{valid, writeValue, wayOf, fit, fitRow, closeWithin, close, planOf, writeRows}
-use Rattle.meaning.specs.Memory.{cellsOf, laidOver, write, readAnswer, readRows, writeAnswer, writeOutput}
+use Rattle.meaning.specs.Memory.{row, cellsOf, laidOver, write, readAnswer, readRows, writeAnswer, writeOutput}
 use Rattle.meaning.specs.Plain.{digitsWithin, digitsOf, packed, decodeNumber, numberDecoded, numberBytes, numberEncoded, dateOf, decodeDate, dateDecoded, dateInRange, dateEncoded}
-use Rattle.meaning.specs.Cases.{hex, aDate, baseWith, baseRows, replyIs, outcomeIs}
+use Rattle.meaning.specs.Cases.{hex, aDate, baseWith, inMemory, baseRows, replyIs, outcomeIs}
 use Rattle.laws.specs.Logic.{areBytes}
 use Rattle.laws.specs.Ties.{plainTable}
 use Rattle.reader.specs.declared.Answer as reader
@@ -49,10 +49,10 @@ isWritten edition rows bytes count = replyIs 0 bytes count (writeAnswer edition 
 
 -- an encrypted list, which D lacks, and a forward date, which B lacks
 abbrev encrypted : List ℕ
-encrypted = baseRows 5 9 (25 ∷ 0 ∷ 14 ∷ 0 ∷ [])
+encrypted = inMemory (baseRows 5 9 (row 25 0 14 0 ∷ []))
 
 abbrev forwarded : List ℕ
-forwarded = baseRows 6 9 []
+forwarded = inMemory (baseRows 6 9 [])
 
 -- 42, and the header's date
 abbrev areCoded : Bool
@@ -60,7 +60,7 @@ areCoded =
     outcomeIs 0 2 (numberEncoded 42 2) && outcomeIs 0 2 (numberDecoded (hex 0x1_53_00)) && outcomeIs 0 9 (dateEncoded 5 (dateOf aDate) 9) && outcomeIs 0 9 (dateDecoded 5 aDate)
 
 pub premises : T (
-    areBytes aHeader && isRead 1 && isRead 2 && isWritten 1 (baseRows 5 9 []) 15 3 && isWritten 2 (baseRows 5 9 []) 15 3 && plainTable (baseRows 5 9 []) aHeader &&
+    areBytes aHeader && isRead 1 && isRead 2 && isWritten 1 (inMemory (baseRows 5 9 [])) 15 3 && isWritten 2 (inMemory (baseRows 5 9 [])) 15 3 && plainTable (inMemory (baseRows 5 9 [])) aHeader &&
     isWritten 1 encrypted 17 4 && not (plainTable encrypted aHeader) && isWritten 2 forwarded 15 3 && not (plainTable forwarded aHeader) && areCoded
     )
 unfolding textByte takeText textOk turn takeNumber numberOk lastDay passes takeDate dateOk highFirst tooWide takeBytes blockOf takeBlock blockOk shared own moves takeValue find look stepMove step run inside envelope header read valid writeValue wayOf fit fitRow closeWithin close planOf writeRows cellsOf laidOver write readAnswer readRows writeAnswer writeOutput digitsWithin digitsOf packed decodeNumber numberDecoded numberBytes numberEncoded decodeDate dateDecoded dateInRange dateEncoded

@@ -12,7 +12,7 @@ use Rattle.meaning.specs.Told.{Edition, Label, B, D, known, unknown, labelOf, t
 use Rattle.meaning.specs.Reading.{Row}
 use Rattle.meaning.specs.Headers.{Placed, meant, refused, accepted, header, envelopesMost, labelled, read}
 use Rattle.meaning.specs.Writing.{Cell, cell, wholePlan, written, unwritten, writeRows}
-use Rattle.meaning.specs.Memory.{tableOf, cellsOf, write}
+use Rattle.meaning.specs.Memory.{row, tableOf, cellsOf, write}
 use Rattle.laws.specs.Logic.{areBytes}
 use Rattle.laws.specs.Views.{AllIn, view-part}
 use Rattle.laws.specs.Envelopes.{header-read, header-crosses, CrossHeader}
@@ -25,7 +25,7 @@ use Rattle.meaning.specs.Reading.{takeValue, find, look, stepMove, step, run, i
 use Rattle.meaning.specs.Headers.{Answer, envelope}
 use Rattle.meaning.specs.Writing.{Written, valid, writeValue, wayOf, fit, fitRow, closeWithin, close, planOf}
 use Rattle.meaning.specs.Plain.{decoded, decodeNumber, numberValue, numberBytes, Date, dateOf, dateBytes, decodeDate, dateInRange}
-use Rattle.meaning.specs.Cases.{hex, baseWith, baseRows}
+use Rattle.meaning.specs.Cases.{hex, baseWith, inMemory, baseRows}
 use Rattle.laws.specs.Refusals.{refused-shape as header-refused}
 use Rattle.laws.specs.RowCounts.{table-few, length-meant}
 use Rattle.laws.specs.WriterRefusals.{WriterRefusal, writer-refusal}
@@ -164,14 +164,14 @@ aHeader = baseWith 0x0f 0x20 (hex 0x1_01)
 
 -- an encrypted list, which D lacks, and a forward date, which B lacks
 abbrev encrypted : List ℕ
-encrypted = baseRows 5 9 (25 ∷ 0 ∷ 14 ∷ 0 ∷ [])
+encrypted = inMemory (baseRows 5 9 (row 25 0 14 0 ∷ []))
 
 abbrev forwarded : List ℕ
-forwarded = baseRows 6 9 []
+forwarded = inMemory (baseRows 6 9 [])
 
 pub premises : T (
-    wasAccepted (read 1 aHeader) && wasAccepted (read 2 aHeader) && wasWritten (write 1 (baseRows 5 9 []) aHeader 15) && wasWritten (write 2 (baseRows 5 9 []) aHeader 15) &&
-    plainTable (baseRows 5 9 []) aHeader && wasWritten (write 1 encrypted aHeader 17) && not (plainTable encrypted aHeader) && wasWritten (write 2 forwarded aHeader 15) && not (plainTable forwarded aHeader)
+    wasAccepted (read 1 aHeader) && wasAccepted (read 2 aHeader) && wasWritten (write 1 (inMemory (baseRows 5 9 [])) aHeader 15) && wasWritten (write 2 (inMemory (baseRows 5 9 [])) aHeader 15) &&
+    plainTable (inMemory (baseRows 5 9 [])) aHeader && wasWritten (write 1 encrypted aHeader 17) && not (plainTable encrypted aHeader) && wasWritten (write 2 forwarded aHeader 15) && not (plainTable forwarded aHeader)
     )
 unfolding textByte takeText textOk turn takeNumber numberOk lastDay passes takeDate dateOk highFirst tooWide takeBytes blockOf takeBlock blockOk shared own moves takeValue find look stepMove step run inside envelope header read valid writeValue wayOf fit fitRow closeWithin close planOf writeRows cellsOf write
 premises = tt
