@@ -95,7 +95,7 @@ ahead-row {pool} {rows} {i} {r} a h = at (a .is)
     at (inl x) = x
     at (inr x) = absurd (h (x .0))
 
-no-row : (P : List Cell → Type 0) → P [] → ((cs : List Cell) → P (broken ∷ cs)) → (cs : List Cell) → NoRow cs → P cs
+pub no-row : (P : List Cell → Type 0) → P [] → ((cs : List Cell) → P (broken ∷ cs)) → (cs : List Cell) → NoRow cs → P cs
 no-row P end out [] x = end
 no-row P end out (broken ∷ cs) x = out cs
 no-row P end out (cell row ∷ cs) x = absurd x

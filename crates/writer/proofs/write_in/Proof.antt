@@ -26,7 +26,7 @@ refusal-requires-2 c κs = search needs
 returns : tie.Need-returns
 returns c =
     let a = c .before .before .before .before .before .before .before .before .before .before .before .args in
-    too-short (a .in-d) (a .pool .now) (a .rows .now) (a .output .now) (c .before .before .before .before .before .before .check .ensures) (c .before .before .before .c2 .given .1) (c .before .if1 .taken) (c .refusal2 .ensures)
+    too-short (editionOf (a .edition)) (a .pool .now) (a .rows .now) (a .output .now) (c .before .before .before .before .before .before .check .ensures) (c .before .before .before .c2 .given .1) (c .before .if1 .taken) (c .refusal2 .ensures)
 
 slice-aggregate-put-all : tie.Need-slice-aggregate-put-all
 slice-aggregate-put-all c = search needs
@@ -35,12 +35,12 @@ put-all-requires : tie.Need-put-all-requires
 put-all-requires c κs =
     let a = c .before .before .before .before .before .before .before .before .before .before .before .before .args in
     let k = c .before .before .before .before .before .before .before .check in
-    writable (a .in-d) (a .pool .now) (a .rows .now) (a .output .now) (k .ensures) (c .before .before .before .before .c2 .given .1) (k .kept .1 .1 .1 .0) (c .before .before .if1 .left)
+    writable (editionOf (a .edition)) (a .pool .now) (a .rows .now) (a .output .now) (k .ensures) (c .before .before .before .before .c2 .given .1) (k .kept .1 .1 .1 .0) (c .before .before .if1 .left)
 
 returns-2 : tie.Need-returns-2
 returns-2 c =
     let a = c .before .before .before .before .before .before .before .before .before .before .args in
-    refuses (a .in-d) (a .pool .now) (a .rows .now) (a .output .now) (c .before .before .before .before .before .check .ensures) (c .before .before .c .given .1) (c .refusal .ensures)
+    refuses (editionOf (a .edition)) (a .pool .now) (a .rows .now) (a .output .now) (c .before .before .before .before .before .check .ensures) (c .before .before .c .given .1) (c .refusal .ensures)
 
 same-length : tie.Need-same-length
 same-length c = search needs
@@ -48,7 +48,7 @@ same-length c = search needs
 returns-3 : tie.Need-returns-3
 returns-3 c =
     let a = c .before .before .before .before .before .before .before .before .before .before .before .before .before .before .before .args in
-    accepts (a .in-d) (a .pool .now) (a .rows .now) (a .output .now) (c .before .before .before .before .before .before .before .before .before .before .check .ensures) (c .before .before .before .before .before .before .before .c2 .given .1) (c .before .before .before .before .before .if1 .left) (c .before .before .put-all .ensures)
+    accepts (editionOf (a .edition)) (a .pool .now) (a .rows .now) (a .output .now) (c .before .before .before .before .before .before .before .before .before .before .check .ensures) (c .before .before .before .before .before .before .before .c2 .given .1) (c .before .before .before .before .before .if1 .left) (c .before .before .put-all .ensures)
 
 pub write-in-spec : {M : Type 1} → statement M
 write-in-spec =
