@@ -12,13 +12,12 @@ use borrow.Author.Tests.{le-leb, lt-leb}
 use Rattle.meaning.specs.Basics.{pick}
 use Rattle.meaning.specs.Bytes.{lengthBytes, twoBytes, fourBytes}
 use Rattle.meaning.specs.Writing.{Cell, envelopeSize, wrap}
-use Rattle.write_rows.specs.Laying.{one, capped, Laid}
+use Rattle.write_rows.specs.Laying.{one, capped, Laid, laid-as}
 use Rattle.write_rows.specs.Bodies.{Body, halt, body}
 use Rattle.write_inside.specs.Insides.{BodyIs}
 use Rattle.write_envelopes.specs.Whole.{Measured, identifierOf, headOf, EnvelopeWritten}
 use Rattle.write_inside.specs.declared.body.Bodied.{Bodied}
 use Rattle.write_inside.specs.declared.body.Bodied.the-variants.{Stuck, Ended}
-use Rattle.write_rows.specs.Laying.{laid-as}
 
 -- a part that is filled whole
 sets-all : (m bs : List ℕ) → length m ≡ length bs → sets m 0 bs ≡ bs

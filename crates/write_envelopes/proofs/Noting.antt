@@ -1,22 +1,22 @@
 -- The lengths that the check notes: those so far and those of the plan from here on are all, unless a limit is passed.
-use Prim.Native.Nat.{ℕ, zero, suc, _+_, _-_, _≤_, _<_}
+use Prim.Native.Nat.{ℕ, zero, suc, _-_, _≤_, _<_}
 use mathlib.Core.List.{List, [], _∷_, _++_, append-assoc, append-nil}
-use mathlib.Core.Bool.{Bool}
 use mathlib.Core.Path.{_≡_, ap, sym, _∙_}
 use native.Mathlib.Omega.{arith}
 use lib.ListN.{length, take, drop, set, length-append, length-set}
 use lib.Seq.{set-split, take-at, length-take-le}
 use borrow.Author.Tests.{eq-eqb, ne-eqb}
 use Rattle.meaning.specs.Writing.{Envelope, Plan, wholePlan, Limit, fine}
-use Rattle.table.specs.Told.{editionOf}
 use Rattle.laws.specs.Rows.{cellsAt}
+use Rattle.meaning.specs.Told.{Edition}
+use Rattle.meaning.specs.Headers.{envelopesMost}
 use Rattle.write_inside.specs.Insides.{openNumber}
 use Rattle.write_envelopes.specs.Whole.{bad, needs, verdict, sized, limitOf, checkedOf, envelopesOf, insides, insidesOf, Begins, CheckedAs}
 use Rattle.write_envelopes.specs.declared.measure.Checked.{Checked}
 use Rattle.write_envelopes.specs.declared.measure.Sizes.{Sizes}
 use Rattle.write_envelopes.proofs.Wholes.{whole-edge, small-count}
 use Rattle.write_envelopes.proofs.Checking.{rest, here, Ends}
-use Rattle.write_envelopes.proofs.Passing.{Passes, never, still-fine, passing-fine, passing-extension, passing-base}
+use Rattle.write_envelopes.proofs.Passing.{Passing, never, still-fine, passing-fine, passing-extension, passing-base}
 
 -- where the check refuses, no length has to be noted
 pub checked-bad : (p : Plan) {r : Checked} {lengths : List ℕ} {answer place : ℕ} → verdict envelopesMost 0 fine p ≡ bad answer place → r ≡ checkedOf (bad answer place) → CheckedAs p r lengths
@@ -54,7 +54,7 @@ module _ (edition : Edition) (pool rows : List ℕ) where
     abbrev k : ℕ
     k = envelopesMost - t .left
 
-    passes : (u : ℕ) → passed u → Passes edition pool rows i (t .left) (t .total) u
+    passes : (u : ℕ) → passed u → Passing edition pool rows i (t .left) (t .total) u
     passes u p =
         let w = sym v ∙ p in
         let f = still-fine (t .left) (t .total) u (limitOf (t .over) (t .first)) (rest edition pool rows i) w in
@@ -69,18 +69,18 @@ module _ (edition : Edition) (pool rows : List ℕ) where
     noted-here u p vs e =
         a .so-far u p ∙ ap (λ (x : List ℕ). take k lengths ++ x) (e ∙ ap (λ (x : ℕ). x ∷ insides vs) (sym (counts u p .1))) ∙ sym (append-assoc (take k lengths) (many ∷ []) (insides vs))
 
-    pub noting-on : {left : ℕ} → left ≡ t .left - 1 → (n ≡ 2 → ⊥) → Noting left row (set lengths k many)
+    pub noting-on : {left : ℕ} → left ≡ t .left - 1 → (n ≡ baseOpens → ⊥) → Noting left row (set lengths k many)
     noting-on {left} l two =
         record {
           long = length-set lengths k many ∙ a .long;
           so-far = λ u p.
               let (c, m) = counts u p in
               let j : suc k ≡ envelopesMost - left = omega (arith, a .long) in
-              noted-here u p (envelopesOf (rest edition pool rows row)) (ap insides (passing-extension (passes u p) q h (z .1) (ne-eqb n 2 two)))
+              noted-here u p (envelopesOf (rest edition pool rows row)) (ap insides (passing-extension (passes u p) q h (z .1) (ne-eqb n baseOpens two)))
               ∙ ap (λ (x : List ℕ). x ++ insidesOf (rest edition pool rows row)) (sym (set-front lengths k many c) ∙ ap (λ (x : ℕ). take x (set lengths k many)) j);
         }
 
-    pub noting-ends : n ≡ 2 → (u : ℕ) → passed u → Begins (insidesOf all) (set lengths k many)
+    pub noting-ends : n ≡ baseOpens → (u : ℕ) → passed u → Begins (insidesOf all) (set lengths k many)
     noting-ends two u p =
-        let e = noted-here u p [] (ap insides (passing-base (passes u p) q h (z .1) (eq-eqb n 2 two))) in
+        let e = noted-here u p [] (ap insides (passing-base (passes u p) q h (z .1) (eq-eqb n baseOpens two))) in
         (drop (suc k) lengths, set-parts lengths k many (counts u p .0) ∙ ap (λ (x : List ℕ). x ++ drop (suc k) lengths) (sym (e ∙ append-nil (take k lengths ++ (many ∷ [])))))

@@ -9,7 +9,6 @@ use lib.ListN.{length}
 use Rattle.meaning.specs.Told.{Edition}
 use Rattle.meaning.specs.Headers.{start}
 use Rattle.meaning.specs.Writing.{Cell, cell, broken, Opens, envelopeRow, innerRow, opensOf, Envelope, envelopeAt, Plan, stuck, plan, newPlan, planOf, envelopeSize, headerOf, Limit, fine, exceeds, limits}
-use Rattle.table.specs.Told.{editionOf}
 use Rattle.laws.specs.Rows.{cellsAt}
 use Rattle.write_rows.specs.Bodies.{Body, halt, body}
 use Rattle.write_inside.specs.Insides.{openNumber}
@@ -64,19 +63,19 @@ end-fine t u r (exceeds j) [] q = never q
 end-fine t u r o (c ∷ cs) q = never q
 
 -- the rows from row i on pass: m envelopes may still come, t bytes are needed so far and u in all
-pub record Passes (edition : Edition) (pool rows : List ℕ) (i m t u : ℕ) : Type 0 where
+pub record Passing (edition : Edition) (pool rows : List ℕ) (i m t u : ℕ) : Type 0 where
   pub is : verdict m t fine (rest edition pool rows i) ≡ needs u
 
-module _ {edition : Edition} {pool rows : List ℕ} {i m t u : ℕ} (v : Passes edition pool rows i m t u) {n : ℕ} (q : n ≡ openNumber (cellsAt pool rows i)) where
+module _ {edition : Edition} {pool rows : List ℕ} {i m t u : ℕ} (v : Passing edition pool rows i m t u) {n : ℕ} (q : n ≡ openNumber (cellsAt pool rows i)) where
   pub passing-none : {A : Type 0} → n ≡ 0 → A
   passing-none z = never (ap (verdict m t fine) (sym (rest-none edition pool rows i q z)) ∙ v .is)
 
   module _ (h : n ≡ 0 → ⊥) where
-    passes-here : verdict m t fine (newPlan i (eqb n 2) [] (fromBody edition (eqb n 2) (here edition pool rows i q h))) ≡ needs u
+    passes-here : verdict m t fine (newPlan i (eqb n baseOpens) [] (fromBody edition (eqb n baseOpens) (here edition pool rows i q h))) ≡ needs u
     passes-here = ap (verdict m t fine) (sym (rest-opens edition pool rows i q h)) ∙ v .is
 
     pub passing-stuck : {A : Type 0} {j : ℕ} → here edition pool rows i q h ≡ halt j → A
-    passing-stuck e = never (ap (λ (b : Body). verdict m t fine (newPlan i (eqb n 2) [] (fromBody edition (eqb n 2) b))) (sym e) ∙ passes-here)
+    passing-stuck e = never (ap (λ (b : Body). verdict m t fine (newPlan i (eqb n baseOpens) [] (fromBody edition (eqb n baseOpens) b))) (sym e) ∙ passes-here)
 
     pub passing-body : (bytes : List ℕ) × (row : ℕ) × (cells : List Cell) × (here edition pool rows i q h ≡ body bytes row cells)
     passing-body = at (here edition pool rows i q h) refl
@@ -86,42 +85,42 @@ module _ {edition : Edition} {pool rows : List ℕ} {i m t u : ℕ} (v : Passes 
         at (body bytes row cells) e = (bytes, row, cells, e)
 
     module _ {bytes : List ℕ} {row : ℕ} {cells : List Cell} (z : here edition pool rows i q h ≡ body bytes row cells) where
-      opens-at : (b : Bool) → eqb n 2 ≡ b → rest edition pool rows i ≡ newPlan i b [] (edge edition b bytes row cells)
+      opens-at : (b : Bool) → eqb n baseOpens ≡ b → rest edition pool rows i ≡ newPlan i b [] (edge edition b bytes row cells)
       opens-at b e =
-          rest-opens edition pool rows i q h ∙ ap (λ (x : Body). newPlan i (eqb n 2) [] (fromBody edition (eqb n 2) x)) z
+          rest-opens edition pool rows i q h ∙ ap (λ (x : Body). newPlan i (eqb n baseOpens) [] (fromBody edition (eqb n baseOpens) x)) z
           ∙ ap (λ (b : Bool). newPlan i b [] (edge edition b bytes row cells)) e
 
-      passes-at : (b : Bool) → eqb n 2 ≡ b → verdict m t fine (newPlan i b [] (edge edition b bytes row cells)) ≡ needs u
+      passes-at : (b : Bool) → eqb n baseOpens ≡ b → verdict m t fine (newPlan i b [] (edge edition b bytes row cells)) ≡ needs u
       passes-at b e = ap (verdict m t fine) (sym (opens-at b e)) ∙ v .is
 
-      extension-passes : eqb n 2 ≡ false → (verdict (m - 1) (t + envelopeSize (length bytes)) fine (edge edition false [] row cells) ≡ needs u) × (sized m i (length bytes) ≡ fine)
+      extension-passes : eqb n baseOpens ≡ false → (verdict (m - 1) (t + envelopeSize (length bytes)) fine (edge edition false [] row cells) ≡ needs u) × (sized m i (length bytes) ≡ fine)
       extension-passes e =
           let w = sym (verdict-extension m t i fine edition bytes row cells) ∙ passes-at false e in
           let f = still-fine (m - 1) (t + envelopeSize (length bytes)) u (sized m i (length bytes)) (edge edition false [] row cells) w in
           (ap (λ (o : Limit). verdict (m - 1) (t + envelopeSize (length bytes)) o (edge edition false [] row cells)) (sym f) ∙ w, f)
 
-      base-passes : eqb n 2 ≡ true → endVerdict cells row (t + envelopeSize (length bytes)) (sized m i (length bytes)) ≡ needs u
+      base-passes : eqb n baseOpens ≡ true → endVerdict cells row (t + envelopeSize (length bytes)) (sized m i (length bytes)) ≡ needs u
       base-passes e = sym (verdict-base m t i fine edition bytes row cells) ∙ passes-at true e
 
-      pub passing-on : eqb n 2 ≡ false → verdict (m - 1) (t + envelopeSize (length bytes)) fine (edge edition false [] row cells) ≡ needs u
+      pub passing-on : eqb n baseOpens ≡ false → verdict (m - 1) (t + envelopeSize (length bytes)) fine (edge edition false [] row cells) ≡ needs u
       passing-on e = extension-passes e .0
 
       pub passing-fine : (sized m i (length bytes) ≡ fine) × (t + envelopeSize (length bytes) ≤ u)
-      passing-fine = at (eqb n 2) refl
+      passing-fine = at (eqb n baseOpens) refl
         where
-          at : (b : Bool) → eqb n 2 ≡ b → (sized m i (length bytes) ≡ fine) × (t + envelopeSize (length bytes) ≤ u)
+          at : (b : Bool) → eqb n baseOpens ≡ b → (sized m i (length bytes) ≡ fine) × (t + envelopeSize (length bytes) ≤ u)
           at true e = let (f, g) = end-fine (t + envelopeSize (length bytes)) u row (sized m i (length bytes)) cells (base-passes e) in (f, omega arith)
           at false e = (extension-passes e .1, needs-most (m - 1) (t + envelopeSize (length bytes)) u (edge edition false [] row cells) (passing-on e))
 
-      pub passing-extension : eqb n 2 ≡ false → envelopesOf (rest edition pool rows i) ≡ envelopeAt i false bytes ∷ envelopesOf (edge edition false [] row cells)
+      pub passing-extension : eqb n baseOpens ≡ false → envelopesOf (rest edition pool rows i) ≡ envelopeAt i false bytes ∷ envelopesOf (edge edition false [] row cells)
       passing-extension e = ap envelopesOf (opens-at false e) ∙ extension-first (m - 1) (t + envelopeSize (length bytes)) u i edition bytes row cells (passing-on e)
 
-      pub passing-base : eqb n 2 ≡ true → envelopesOf (rest edition pool rows i) ≡ envelopeAt i true bytes ∷ []
+      pub passing-base : eqb n baseOpens ≡ true → envelopesOf (rest edition pool rows i) ≡ envelopeAt i true bytes ∷ []
       passing-base e = ap envelopesOf (opens-at true e) ∙ base-alone (t + envelopeSize (length bytes)) u i (sized m i (length bytes)) edition bytes row cells (base-passes e)
 
-      pub passing-first : (behind : List Envelope) × (envelopesOf (rest edition pool rows i) ≡ envelopeAt i (eqb n 2) bytes ∷ behind)
-      passing-first = at (eqb n 2) refl
+      pub passing-first : (behind : List Envelope) × (envelopesOf (rest edition pool rows i) ≡ envelopeAt i (eqb n baseOpens) bytes ∷ behind)
+      passing-first = at (eqb n baseOpens) refl
         where
-          at : (b : Bool) → eqb n 2 ≡ b → (behind : List Envelope) × (envelopesOf (rest edition pool rows i) ≡ envelopeAt i b bytes ∷ behind)
+          at : (b : Bool) → eqb n baseOpens ≡ b → (behind : List Envelope) × (envelopesOf (rest edition pool rows i) ≡ envelopeAt i b bytes ∷ behind)
           at true e = ([], passing-base e)
           at false e = (envelopesOf (edge edition false [] row cells), passing-extension e)

@@ -1,4 +1,4 @@
--- One envelope more in the overAt.
+-- One envelope more in the sizes.
 use mathlib.Core.Path.{_≡_, refl, sym, ap, _∙_, subst}
 use mathlib.Core.Bool.{Bool, true, false}
 use Prim.Native.Nat.{ℕ, zero, suc, _+_, _-_, _*_, _≤_, _<_}
@@ -7,6 +7,7 @@ use lib.Dec.{leb}
 use borrow.Author.Tests.{le-leb, lt-leb}
 use Rattle.meaning.specs.Basics.{pick}
 use Rattle.meaning.specs.Writing.{envelopeSize, fine, exceeds}
+use Rattle.meaning.specs.Headers.{envelopeMost, envelopesMost}
 use Rattle.write_envelopes.specs.Whole.{firstOver, limitOf, sized, passedAt, OneMore}
 use Rattle.write_envelopes.specs.declared.measure.Sizes.{Sizes}
 

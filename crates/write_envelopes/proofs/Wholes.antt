@@ -12,10 +12,9 @@ use Rattle.meaning.specs.Basics.{pick}
 use Rattle.meaning.specs.Told.{Edition}
 use Rattle.meaning.specs.Editions.{State, state, closed}
 use Rattle.meaning.specs.Reading.{Row}
-use Rattle.meaning.specs.Headers.{start}
+use Rattle.meaning.specs.Headers.{start, envelopeMost}
 use Rattle.meaning.specs.Writing.{Fit, unfit, fits, fitRow, close, Cell, cell, broken, Opens, envelopeRow, innerRow, opensOf, Envelope, envelopeAt, Plan, stuck, plan, onPlan, newPlan, rowPlan, turnPlan, endPlan, nextRow, lastRow, planOf, wholePlan, envelopeSize, withinLimit, wrap, headerOf, Limit, fine, exceeds, limits}
 use Rattle.laws.specs.Fits.{close-once}
-use Rattle.laws.specs.Plans.{closed-fits}
 use Rattle.laws.specs.Envelopes.{wrap-length}
 use Rattle.write_rows.specs.Laying.{capped}
 use Rattle.write_rows.specs.Bodies.{Body, halt, body, onBody, sealBody, rowBody, cellBody, bodyOf, opensNumber}
@@ -76,11 +75,6 @@ plan-body e [] i b st = end-same e b st i (close e st) refl
 plan-body e (broken ∷ cs) i b st = refl
 plan-body e (cell row ∷ cs) i b st = cell-same e b st i row cs (opensOf row) refl (plan-body e cs (suc i) b)
 
--- before the first envelope nothing is open, and nothing fits
-pub none-fits : (e : Edition) (row : Row) (o : Fit) → fitRow e (state closed 0 false) row ≡ o → o ≡ unfit
-none-fits e row unfit q = refl
-none-fits e row (fits st bs) q = absurd (closed-fits e row (state closed 0 false) st bs q refl)
-
 -- the whole is the edge before row 0
 pub whole-edge : (e : Edition) (cs : List Cell) → wholePlan e cs ≡ edge e false [] 0 cs
 unfolding planOf
@@ -113,14 +107,14 @@ opens-some (envelopeRow true) h = refl
 opens-some (envelopeRow false) h = refl
 
 pub edge-open : (e : Edition) (bs : List ℕ) (j : ℕ) (cs ds : List Cell) {n : ℕ} → n ≡ openNumber cs → (n ≡ 0 → ⊥) → opened cs ≡ ds
-    → edge e false bs j cs ≡ newPlan j (eqb n 2) bs (fromBody e (eqb n 2) (bodyOf e ds (j + 1) (start (eqb n 2))))
+    → edge e false bs j cs ≡ newPlan j (eqb n baseOpens) bs (fromBody e (eqb n baseOpens) (bodyOf e ds (j + 1) (start (eqb n baseOpens))))
 edge-open e bs j [] ds q h d = absurd (h q)
 edge-open e bs j (broken ∷ cs) ds q h d = absurd (h q)
 edge-open e bs j (cell row ∷ cs) ds {n} q h d =
-    let o : opensOf row ≡ envelopeRow (eqb n 2) = opens-some (opensOf row) (λ z. h (q ∙ z)) ∙ ap (λ (k : ℕ). envelopeRow (eqb k 2)) (sym q) in
-    ap (openPlan j bs (λ c. planOf e cs (suc j) c (start c))) o ∙ ap (newPlan j (eqb n 2) bs) (plan-body e cs (suc j) (eqb n 2) (start (eqb n 2)))
-    ∙ ap (λ (k : ℕ). newPlan j (eqb n 2) bs (fromBody e (eqb n 2) (bodyOf e cs k (start (eqb n 2))))) (sym (add-one j))
-    ∙ ap (λ (x : List Cell). newPlan j (eqb n 2) bs (fromBody e (eqb n 2) (bodyOf e x (j + 1) (start (eqb n 2))))) d
+    let o : opensOf row ≡ envelopeRow (eqb n baseOpens) = opens-some (opensOf row) (λ z. h (q ∙ z)) ∙ ap (λ (k : ℕ). envelopeRow (eqb k 2)) (sym q) in
+    ap (openPlan j bs (λ c. planOf e cs (suc j) c (start c))) o ∙ ap (newPlan j (eqb n baseOpens) bs) (plan-body e cs (suc j) (eqb n baseOpens) (start (eqb n baseOpens)))
+    ∙ ap (λ (k : ℕ). newPlan j (eqb n baseOpens) bs (fromBody e (eqb n baseOpens) (bodyOf e cs k (start (eqb n baseOpens))))) (sym (add-one j))
+    ∙ ap (λ (x : List Cell). newPlan j (eqb n baseOpens) bs (fromBody e (eqb n baseOpens) (bodyOf e x (j + 1) (start (eqb n baseOpens))))) d
 
 -- The verdict, envelope by envelope
 

@@ -11,8 +11,9 @@ use borrow.Author.Tests.{eq-eqb, ne-eqb}
 use Rattle.meaning.specs.Writing.{Cell, Envelope, Plan, wholePlan, envelopeSize, wrap, headerOf, fine}
 use Rattle.meaning.specs.Memory.{laidOver}
 use Rattle.laws.specs.Envelopes.{wrap-length}
-use Rattle.table.specs.Told.{editionOf}
 use Rattle.laws.specs.Rows.{cellsAt}
+use Rattle.meaning.specs.Told.{Edition}
+use Rattle.meaning.specs.Headers.{envelopeMost, envelopesMost}
 use Rattle.write_rows.specs.Bodies.{halt, body}
 use Rattle.write_inside.specs.Insides.{openNumber}
 use Rattle.write_envelopes.specs.Whole.{verdict, bytesOfPlan, insides, insidesOf, Begins, Writable, EnvelopeWritten}
@@ -20,13 +21,13 @@ use Rattle.write_inside.specs.declared.body.Bodied.{Bodied}
 use Rattle.write_rows.specs.Laying.{capped-most}
 use Rattle.write_envelopes.proofs.Wholes.{whole-edge, small-count}
 use Rattle.write_envelopes.proofs.Checking.{rest, here, Ends}
-use Rattle.write_envelopes.proofs.Passing.{Passes, needs-most, passing-none, passing-stuck, passing-body, passing-on, passing-fine, passing-extension, passing-base, passing-first}
+use Rattle.write_envelopes.proofs.Passing.{Passing, needs-most, passing-none, passing-stuck, passing-body, passing-on, passing-fine, passing-extension, passing-base, passing-first}
 
 -- where the writing stands: before row i and the k-th length, with the bytes so far in front of the output
 pub record Writing (edition : Edition) (pool rows lengths before : List ℕ) (u i k at : ℕ) (output : List ℕ) : Type 0 where
   may-come : ℕ
   pub bytes : List ℕ
-  pub passes : Passes edition pool rows i may-come at u
+  pub passes : Passing edition pool rows i may-come at u
   pub noted : Begins (insidesOf (rest edition pool rows i)) (drop k lengths)
   pub count : length bytes ≡ at
   pub all : bytes ++ bytesOfPlan (rest edition pool rows i) ≡ bytesOfPlan (wholePlan edition (cellsAt pool rows 0))
@@ -82,7 +83,7 @@ module _ (edition : Edition) (pool rows lengths before : List ℕ) (w : Writable
             omega (arith, m, small-count (a .may-come) i (length bytes) (f .0), capped-most (length bytes)),
           )
 
-      module _ {row counted : ℕ} (z : Ends (here edition pool rows i q h) pool rows row counted) {after : List ℕ} {r : Bodied} (x : EnvelopeWritten (here edition pool rows i q h) pool rows (eqb n 2) many output at after r) where
+      module _ {row counted : ℕ} (z : Ends (here edition pool rows i q h) pool rows row counted) {after : List ℕ} {r : Bodied} (x : EnvelopeWritten (here edition pool rows i q h) pool rows (eqb n baseOpens) many output at after r) where
         abbrev within : List ℕ
         within = z .0
 
@@ -92,9 +93,9 @@ module _ (edition : Edition) (pool rows lengths before : List ℕ) (w : Writable
         exact : length within ≡ many
         exact = sym (noted-first within row (cellsAt pool rows row) (z .1) .1)
 
-        front-length : length (a .bytes ++ wrap (eqb n 2) within) ≡ end
+        front-length : length (a .bytes ++ wrap (eqb n baseOpens) within) ≡ end
         front-length =
-            length-append (a .bytes) (wrap (eqb n 2) within) ∙ ap (λ (k : ℕ). length (a .bytes) + k) (wrap-length (eqb n 2) within ∙ ap envelopeSize exact)
+            length-append (a .bytes) (wrap (eqb n baseOpens) within) ∙ ap (λ (k : ℕ). length (a .bytes) + k) (wrap-length (eqb n baseOpens) within ∙ ap envelopeSize exact)
             ∙ ap (λ (k : ℕ). k + envelopeSize many) (a .count)
 
         drop-back : drop end output ≡ drop end before
@@ -102,40 +103,40 @@ module _ (edition : Edition) (pool rows lengths before : List ℕ) (w : Writable
             let d : drop at output ≡ drop at before = ap (drop at) (a .memory) ∙ drop-at (a .bytes) (drop at before) at (a .count) in
             sym (drop-drop (envelopeSize many) at output) ∙ ap (drop (envelopeSize many)) d ∙ drop-drop (envelopeSize many) at before
 
-        after-is : after ≡ (a .bytes ++ wrap (eqb n 2) within) ++ drop end before
+        after-is : after ≡ (a .bytes ++ wrap (eqb n baseOpens) within) ++ drop end before
         after-is =
             x .laid within row (cellsAt pool rows row) (z .1) exact
-            ∙ ap (λ (y : List ℕ). y ++ (wrap (eqb n 2) within ++ drop end output)) (ap (take at) (a .memory) ∙ take-at (a .bytes) (drop at before) at (a .count))
-            ∙ ap (λ (y : List ℕ). a .bytes ++ (wrap (eqb n 2) within ++ y)) drop-back ∙ sym (append-assoc (a .bytes) (wrap (eqb n 2) within) (drop end before))
+            ∙ ap (λ (y : List ℕ). y ++ (wrap (eqb n baseOpens) within ++ drop end output)) (ap (take at) (a .memory) ∙ take-at (a .bytes) (drop at before) at (a .count))
+            ∙ ap (λ (y : List ℕ). a .bytes ++ (wrap (eqb n baseOpens) within ++ y)) drop-back ∙ sym (append-assoc (a .bytes) (wrap (eqb n baseOpens) within) (drop end before))
 
-        goes-on : (n ≡ 2 → ⊥) → Writing edition pool rows lengths before (w .bytes-needed) row (k + 1) end after
+        goes-on : (n ≡ baseOpens → ⊥) → Writing edition pool rows lengths before (w .bytes-needed) row (k + 1) end after
         goes-on two =
-            let e = ne-eqb n 2 two in
+            let e = ne-eqb n baseOpens two in
             let first = passing-extension (a .passes) q h (z .1) e in
             let (behind, g) = a .noted in
             let ended : at + envelopeSize (length within) ≡ end = ap (λ (k : ℕ). at + envelopeSize k) exact in
             let d : drop k lengths ≡ length within ∷ (insidesOf (rest edition pool rows row) ++ behind) = g ∙ ap (λ (x : List Envelope). insides x ++ behind) first in
             record {
               may-come = a .may-come - 1;
-              bytes = a .bytes ++ wrap (eqb n 2) within;
+              bytes = a .bytes ++ wrap (eqb n baseOpens) within;
               passes = record { is = ap (λ (k : ℕ). verdict (a .may-come - 1) k fine (rest edition pool rows row)) (sym ended) ∙ passing-on (a .passes) q h (z .1) e };
               noted = (behind, sym (drop-drop 1 k lengths) ∙ ap (drop 1) d);
               count = front-length;
               all =
-                  append-assoc (a .bytes) (wrap (eqb n 2) within) (bytesOfPlan (rest edition pool rows row))
+                  append-assoc (a .bytes) (wrap (eqb n baseOpens) within) (bytesOfPlan (rest edition pool rows row))
                   ∙ ap (λ (b : Bool). a .bytes ++ (wrap b within ++ bytesOfPlan (rest edition pool rows row))) e
                   ∙ ap (λ (x : List Envelope). a .bytes ++ headerOf x) (sym first) ∙ a .all;
               memory = after-is;
             }
 
-        pub writing-on : {size : ℕ} → size ≡ envelopeSize many → (n ≡ 2 → ⊥) → Writing edition pool rows lengths before (w .bytes-needed) row (k + 1) (at + size) after
+        pub writing-on : {size : ℕ} → size ≡ envelopeSize many → (n ≡ baseOpens → ⊥) → Writing edition pool rows lengths before (w .bytes-needed) row (k + 1) (at + size) after
         writing-on s two = subst (λ (x : ℕ). Writing edition pool rows lengths before (w .bytes-needed) row (k + 1) (at + x) after) (sym s) (goes-on two)
 
-        pub writing-ends : n ≡ 2 → after ≡ laidOver before (bytesOfPlan (wholePlan edition (cellsAt pool rows 0)))
+        pub writing-ends : n ≡ baseOpens → after ≡ laidOver before (bytesOfPlan (wholePlan edition (cellsAt pool rows 0)))
         unfolding laidOver
         writing-ends two =
-            let e = eq-eqb n 2 two in
-            let all : a .bytes ++ wrap (eqb n 2) within ≡ bytesOfPlan (wholePlan edition (cellsAt pool rows 0))
+            let e = eq-eqb n baseOpens two in
+            let all : a .bytes ++ wrap (eqb n baseOpens) within ≡ bytesOfPlan (wholePlan edition (cellsAt pool rows 0))
             = ap (λ (b : Bool). a .bytes ++ wrap b within) e ∙ ap (λ (y : List ℕ). a .bytes ++ y) (sym (append-nil (wrap true within)))
             ∙ ap (λ (x : List Envelope). a .bytes ++ headerOf x) (sym (passing-base (a .passes) q h (z .1) e)) ∙ a .all in
-            after-is ∙ ap (λ (k : ℕ). (a .bytes ++ wrap (eqb n 2) within) ++ drop k before) (sym front-length) ∙ ap (λ (y : List ℕ). y ++ drop (length y) before) all
+            after-is ∙ ap (λ (k : ℕ). (a .bytes ++ wrap (eqb n baseOpens) within) ++ drop k before) (sym front-length) ∙ ap (λ (y : List ℕ). y ++ drop (length y) before) all

@@ -1,14 +1,14 @@
 -- From the insides of envelopes to `meaning`'s plan, and what the check over all rows answers.
-use Prim.Native.Nat.{ℕ, zero, suc, _+_, _-_, _*_, _/_, _≤_}
+use Prim.Native.Nat.{ℕ, zero, suc, _+_, _-_, _*_, _≤_}
 use mathlib.Core.List.{List, [], _∷_, _++_}
 use mathlib.Core.Bool.{Bool, true, false}
 use mathlib.Core.Path.{_≡_}
 use lib.ListN.{length, take, drop}
 use Rattle.meaning.specs.Basics.{pick}
 use Rattle.meaning.specs.Told.{Edition}
-use Rattle.meaning.specs.Headers.{start}
+use Rattle.meaning.specs.Headers.{start, envelopeMost, envelopesMost}
 use Rattle.meaning.specs.Writing.{Cell, cell, broken, Opens, envelopeRow, innerRow, opensOf, Envelope, Plan, stuck, plan, newPlan, planOf, wholePlan, envelopeSize, withinLimit, wrap, envelopeLength, headerOf, Limit, fine, exceeds, limits}
-use Rattle.table.specs.Told.{editionOf}
+use Rattle.meaning.specs.Memory.{roomOf}
 use Rattle.write_rows.specs.Laying.{capped}
 use Rattle.write_rows.specs.Bodies.{Body, halt, body}
 use Rattle.laws.specs.Rows.{cellsAt}
@@ -119,7 +119,7 @@ pub record Writable (edition : Edition) (rows pool lengths output : List ℕ) : 
   pub room : bytes-needed ≤ length output
 
 -- what writing an envelope asks: it opens before row `from`, its inside was measured, and the output has room for it
-pub record EnvelopeRequires (edition : Edition) (rows pool : List ℕ) (from opened many : ℕ) (output : List ℕ) (at : ℕ) : Type 0 where
+pub record EnvelopeRequires (rows : List ℕ) (from opened many : ℕ) (output : List ℕ) (at : ℕ) : Type 0 where
   pub inside : from ≤ roomOf rows
   pub opens : 1 ≤ opened
   pub small : many ≤ envelopeMost

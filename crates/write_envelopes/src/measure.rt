@@ -1,16 +1,32 @@
 // The pass that checks and measures: "15 over all rows, then 5 (place: the envelope's row)".
-use crate::body::Bodied;
-use crate::body::body;
-use crate::body::open_at;
+use table::kinds::BASE_OPENS;
+use table::limits::ENVELOPES_MOST;
+use table::limits::ENVELOPE_MOST;
+use table::limits::LONG_HEAD;
+use table::limits::SHORT_HEAD;
+use table::limits::SHORT_MOST;
+use table::refusals::ENVELOPE_LIMIT;
+use table::refusals::TABLE_WRONG;
+use table::rows::room;
+use table::rows::whole;
+use table::told::Edition;
+use write_inside::body::Bodied;
+use write_inside::body::body;
+use write_inside::body::open_at;
 ghost use mathlib.Core.Path.{_≡_};
 ghost use mathlib.Core.List.{List};
-ghost use Prim.Native.Nat.{ℕ, _+_, _-_, _*_, _/_, _≤_};
+ghost use Prim.Native.Nat.{ℕ, _+_, _-_, _*_, _≤_};
 ghost use lib.ListN.{length, set};
-ghost use Rattle.meaning.specs.Headers.{start};
+ghost use Rattle.meaning.specs.Headers.{start, envelopeMost, envelopesMost};
+ghost use Rattle.meaning.specs.Memory.{roomOf};
 ghost use Rattle.meaning.specs.Writing.{envelopeSize, wholePlan};
-ghost use Rattle.writer.specs.Edition.{editionOf};
-ghost use Rattle.writer.specs.Bodies.{cellsAt, bodyOf};
-ghost use Rattle.writer.specs.Whole.{passedAt, Measured, Tallied, limitOf, endVerdict, checkedOf, CheckedAs};
+ghost use Rattle.laws.specs.Rows.{cellsAt};
+ghost use Rattle.table.specs.Told.{editionOf};
+ghost use Rattle.write_rows.specs.Bodies.{bodyOf};
+ghost use Rattle.write_envelopes.specs.Whole.{bad, passedAt, Measured, OneMore, limitOf, endVerdict, checkedOf, CheckedAs};
+
+// How many envelopes' lengths the check notes: as many as a table may have.
+pub const ENVELOPES: usize = ENVELOPES_MOST as usize;
 
 // A refusal, or the bytes needed.
 pub enum Checked {
@@ -19,37 +35,31 @@ pub enum Checked {
 }
 
 // The envelopes so far: how many may still come, their bytes, and the row of the first that is past a limit.
-pub struct Tally {
+pub struct Sizes {
     pub left: usize,
     pub total: usize,
     pub over: bool,
     pub first: usize,
 }
 
-// "15: rows up to here begin no table of this edition, .. or rows or slice end early"
-const NO_TABLE: u32 = 15;
-
-// "5: 17th envelope; .. over the limit"
-const PAST_LIMIT: u32 = 5;
-
-const MOST: usize = 1048576;
-
-// "The long form is used exactly if the envelope in the short form would pass 65,535 bytes."
+// "The long form is used exactly if the envelope in the short form would pass 65,535 bytes." Takes how many bytes an envelope has inside.
+// Answers how many it has in all.
 pub fn size_of(many: usize) -> usize
-    requires { ⌜ many ≤ 1048576 ⌝ }
-    ensures { λ r. ⌜ (r ≡ envelopeSize many) × (r ≤ 1048583) ⌝ }
+    requires { ⌜ many ≤ envelopeMost ⌝ }
+    ensures { λ r. ⌜ (r ≡ envelopeSize many) × (r ≤ 7 + envelopeMost) ⌝ }
 {
-    let n = 3 + many;
-    if n <= 65535 {
+    let n = SHORT_HEAD + many;
+    if n <= SHORT_MOST {
         return n;
     }
-    7 + many
+    LONG_HEAD + many
 }
 
-// One envelope more, of row i, with so many bytes inside. Past a limit no bytes are added: 5 comes before 16.
-fn count_in(t: Tally, i: usize, many: usize) -> Tally
-    requires { ⌜ (many ≤ 1048576) × (t .total + t .left * 1048576 ≤ 16777216) ⌝ }
-    ensures { λ r. ⌜ Tallied t i many r ⌝ }
+// Takes the envelopes so far, and one more: its row i, and how many bytes it has inside. Answers them with it.
+// Past a limit no bytes are added: 5 comes before 16.
+fn count_in(t: Sizes, i: usize, many: usize) -> Sizes
+    requires { ⌜ (many ≤ envelopeMost) × (t .total + t .left * envelopeMost ≤ envelopesMost * envelopeMost) ⌝ }
+    ensures { λ r. ⌜ OneMore t i many r ⌝ }
 {
     let left = t.left;
     let total = t.total;
@@ -60,10 +70,10 @@ fn count_in(t: Tally, i: usize, many: usize) -> Tally
     if left == 0 {
         return passed(left, total, i);
     }
-    if MOST < size {
+    if ENVELOPE_MOST < size {
         return passed(left, total, i);
     }
-    Tally {
+    Sizes {
         left: left - 1,
         total: total + size,
         over: false,
@@ -71,19 +81,20 @@ fn count_in(t: Tally, i: usize, many: usize) -> Tally
     }
 }
 
-// One envelope fewer may come, and the first that is past a limit is known.
-fn passed(left: usize, total: usize, first: usize) -> Tally
+// Takes how many envelopes may still come, the bytes so far, and the row of the first envelope that is past a limit.
+// Answers the envelopes with one more, whose bytes are not added.
+fn passed(left: usize, total: usize, first: usize) -> Sizes
     ensures { λ r. ⌜ r ≡ passedAt left total first ⌝ }
 {
     if left == 0 {
-        return Tally {
+        return Sizes {
             left: 0,
             total: total,
             over: true,
             first: first,
         };
     }
-    Tally {
+    Sizes {
         left: left - 1,
         total: total,
         over: true,
@@ -91,58 +102,66 @@ fn passed(left: usize, total: usize, first: usize) -> Tally
     }
 }
 
-// The inside of an envelope, only measured: its part of the output is empty.
-pub fn measure(in_d: bool, rows: &[u32], pool: &[u8], from: usize, base: bool) -> Bodied
-    requires { ⌜ from ≤ length (now rows) / 4 ⌝ }
-    ensures { λ r. ⌜ Measured (bodyOf (editionOf in_d) (cellsAt (now (pool .entry)) (now (rows .entry)) from) from (start base)) (now (pool .entry)) (now (rows .entry)) r ⌝ }
+// Takes the row after an envelope's own, and whether it is the base. Answers the row behind its inside, and how many bytes that has;
+// or the row that fits nowhere. Nothing is laid: its part of the output is empty.
+fn measure(edition: Edition, rows: &[u32], pool: &[u8], from: usize, base: bool) -> Bodied
+    requires { ⌜ from ≤ roomOf (now rows) ⌝ }
+    ensures { λ r. ⌜ Measured (bodyOf (editionOf edition) (cellsAt (now (pool .entry)) (now (rows .entry)) from) from (start base)) (now (pool .entry)) (now (rows .entry)) r ⌝ }
 {
     let mut none = [0u8; 1];
-    body(in_d, rows, pool, from, base, &mut none[..0])
+    body(edition, rows, pool, from, base, &mut none[..0])
 }
 
-// The length of one envelope's inside, for the pass that writes; a seventeenth has no place.
+// Notes how many bytes an envelope has inside, for the pass that writes, where `left` may still come with it.
+// A seventeenth has no place, and changes nothing.
 fn note(lengths: &mut [usize], left: usize, many: usize)
-    requires { ⌜ (length (now lengths) ≡ 16) × (left ≤ 16) ⌝ }
-    ensures { λ _. ⌜ now (lengths .exit) ≡ set (now (lengths .entry)) (16 - left) many ⌝ }
+    requires { ⌜ (length (now lengths) ≡ envelopesMost) × (left ≤ envelopesMost) ⌝ }
+    ensures { λ _. ⌜ now (lengths .exit) ≡ set (now (lengths .entry)) (envelopesMost - left) many ⌝ }
 {
     if left != 0 {
-        lengths[16 - left] = many;
+        lengths[ENVELOPES - left] = many;
     }
 }
 
-// The answer behind the base: no row may follow.
-fn ended(rows: &[u32], row: usize, t: Tally) -> Checked
+// Takes the row behind the base, and all envelopes. Answers the bytes that they need.
+// Refuses a row or a number left over there (15), then an envelope past a limit (5).
+fn ended(rows: &[u32], row: usize, t: Sizes) -> Checked
     ensures { λ r. ⌜ ((pool : List ℕ) → r ≡ checkedOf (endVerdict (cellsAt pool (now (rows .entry)) row) row (t .total) (limitOf (t .over) (t .first)))) ⌝ }
 {
-    if row < rows.len() / 4 {
-        return Checked::Bad {
-            answer: NO_TABLE,
-            place: row,
-        };
+    if row < room(rows.len()) {
+        return no_table(row);
     }
-    if rows.len() % 4 != 0 {
-        return Checked::Bad {
-            answer: NO_TABLE,
-            place: row,
-        };
+    if whole(rows.len()) {
+        if t.over {
+            return Checked::Bad {
+                answer: ENVELOPE_LIMIT,
+                place: t.first,
+            };
+        }
+        return Checked::Needs(t.total);
     }
-    if t.over {
-        return Checked::Bad {
-            answer: PAST_LIMIT,
-            place: t.first,
-        };
-    }
-    Checked::Needs(t.total)
+    no_table(row)
 }
 
-// What the rows come to: a refusal, or the bytes that they need; then the envelopes' lengths are noted.
-pub fn check(in_d: bool, rows: &[u32], pool: &[u8], lengths: &mut [usize]) -> Checked
-    requires { ⌜ length (now lengths) ≡ 16 ⌝ }
-    ensures { λ r. ⌜ CheckedAs (wholePlan (editionOf in_d) (cellsAt (now (pool .entry)) (now (rows .entry)) 0)) r (now (lengths .exit)) ⌝ }
+// "15: rows up to here begin no table of this edition, .. or rows or slice end early": the refusal at a row.
+fn no_table(row: usize) -> Checked
+    ensures { λ r. ⌜ r ≡ checkedOf (bad 15 row) ⌝ }
+{
+    Checked::Bad {
+        answer: TABLE_WRONG,
+        place: row,
+    }
+}
+
+// Takes all rows, and room for the envelopes' lengths. Answers the bytes that the rows need, and then the lengths are noted.
+// Refuses rows that are no table (15, at the first that fits nowhere), then an envelope past a limit (5, at its row).
+pub fn check(edition: Edition, rows: &[u32], pool: &[u8], lengths: &mut [usize]) -> Checked
+    requires { ⌜ length (now lengths) ≡ envelopesMost ⌝ }
+    ensures { λ r. ⌜ CheckedAs (wholePlan (editionOf edition) (cellsAt (now (pool .entry)) (now (rows .entry)) 0)) r (now (lengths .exit)) ⌝ }
 {
     let mut i: usize = 0;
-    let mut t = Tally {
-        left: 16,
+    let mut t = Sizes {
+        left: ENVELOPES,
         total: 0,
         over: false,
         first: 0,
@@ -150,21 +169,15 @@ pub fn check(in_d: bool, rows: &[u32], pool: &[u8], lengths: &mut [usize]) -> Ch
     loop {
         let opened = open_at(rows, pool, i);
         if opened == 0 {
-            return Checked::Bad {
-                answer: NO_TABLE,
-                place: i,
-            };
+            return no_table(i);
         }
-        let r = measure(in_d, rows, pool, i + 1, opened == 2);
+        let r = measure(edition, rows, pool, i + 1, opened == BASE_OPENS);
         match r {
-            Bodied::Stuck(j) => return Checked::Bad {
-                answer: NO_TABLE,
-                place: j,
-            },
+            Bodied::Stuck(j) => return no_table(j),
             Bodied::Ended { row, many } => {
                 note(lengths, t.left, many);
                 t = count_in(t, i, many);
-                if opened == 2 {
+                if opened == BASE_OPENS {
                     return ended(rows, row, t);
                 }
                 i = row;

@@ -1,5 +1,5 @@
 -- A parameter by the kind of its first row: the only move of that kind among the parameters, a pass before it, or the closing.
-use Prim.Native.Nat.{ℕ, _+_, _/_, _≤_}
+use Prim.Native.Nat.{ℕ, _+_, _≤_, suc}
 use mathlib.Core.List.{List, [], _∷_}
 use mathlib.Core.Bool.{Bool, true, false, _&&_, not}
 use mathlib.Core.Path.{_≡_, refl, ap, sym, _∙_, subst}
@@ -9,28 +9,61 @@ use lib.ListN.{length}
 use borrow.Author.Tests.{eqb-true}
 use Rattle.meaning.specs.Basics.{pick}
 use Rattle.meaning.specs.Kinds.{agentName}
-use Rattle.meaning.specs.Editions.{State, state, parameters, closed, isQuiet, closing, Move, moves, go}
-use Rattle.meaning.specs.Reading.{levelMost, Row, none, hit, find, tooDeep}
-use Rattle.meaning.specs.Writing.{atLevel, standsFor, wayTo, isPass, Cell}
-use Rattle.table.specs.Told.{editionOf}
+use Rattle.meaning.specs.Editions.{State, state, parameters, closed, isQuiet, closing, Move, moves, go, outer, shared, own, pass_▸_}
+use Rattle.meaning.specs.Reading.{levelMost, Row, none, hit, find, tooDeep, Found, orElse}
+use Rattle.meaning.specs.Writing.{atLevel, standsFor, wayTo, isPass, Cell, cell, broken, Opens, envelopeRow, innerRow, opensOf, fitRow}
+use Rattle.meaning.specs.Told.{Edition, B, D}
+use Rattle.meaning.specs.Memory.{roomOf}
+use Rattle.meaning.specs.Headers.{envelopeMost}
+use Rattle.write_rows.specs.Bodies.{onBody, rowBody, cellBody, bodyOf, opensNumber}
+use Rattle.write_rows.specs.Stands.{fits-pass, led-row, LedBy, closing-first}
 use Rattle.write_rows.specs.Laying.{Laid}
 use Rattle.laws.specs.Rows.{cellsAt}
 use Rattle.write_rows.specs.Rooms.{ofKind, ownAmong, NotAmong}
-use Rattle.table.specs.Rows.{viewed, rowAhead, AheadIs}
+use Rattle.table.specs.Rows.{viewed, rowAhead, AheadIs, ahead-cells, ahead-row}
 use Rattle.write_rows.specs.Stages.{RowTaken, TriedIs, Onward, AdvanceIs, Beyond, afterNeeded}
-use Rattle.write_inside.specs.Parameters.{atParameters, afterOne, afterAdvance, InParameters, ParameterIs, WayAhead, ClosingAhead, FoundIs}
+use Rattle.write_inside.specs.Parameters.{encryptedIn, atParameters, afterOne, afterAdvance, InParameters, ParameterIs, WayAhead, ClosingAhead, FoundIs}
 use Rattle.table.specs.declared.rows.Ahead.{Ahead}
 use Rattle.write_rows.specs.declared.advance.Tried.{Tried}
 use Rattle.write_rows.specs.declared.advance.Tried.the-variants.{To, Other}
 use Rattle.write_rows.specs.declared.advance.Advance.{Advance}
-use Rattle.write_rows.specs.declared.advance.Advance.the-variants as stage
+use Rattle.write_rows.specs.declared.advance.Advance.the-variants as advance
 use Rattle.write_inside.specs.declared.parameters.Parameter.{Parameter}
 use Rattle.write_inside.specs.declared.parameters.Parameter.the-variants.{Go, Last, Stuck}
-use Rattle.table.specs.Rows.{ahead-cells, ahead-row}
 use Rattle.write_rows.specs.Among.{find-kind, nothing-among, not-hit, sole-move, same-kind, takes}
 use Rattle.write_rows.specs.Openings.{opens-past}
 use Rattle.write_rows.specs.Onward.{leading, onward-then, onward-stuck, own-on}
-use Rattle.write_inside.proofs.Choosing.{parameters-close, parameters-pass}
+
+-- Before a row that has no move of its own
+
+-- the parameters, before a row that has no code of its own there
+pub parameters-close : (e : Edition) (cs : List Cell) (i : ℕ) → ClosingAhead cs → NotAmong (moves e parameters) 0 cs → bodyOf e cs i atParameters ≡ onBody (0x01 ∷ []) (bodyOf e cs i (state closed 0 false))
+unfolding moves shared own find
+parameters-close e cs i h = closing-first e atParameters refl (closing-is e) cs i (all cs h)
+  where
+    closing-is : (e : Edition) → find (isPass closing) (moves e parameters) ≡ hit (pass 0x01 ▸ outer closed)
+    closing-is B = refl
+    closing-is D = refl
+
+    all : (cs : List Cell) → ClosingAhead cs → LedBy e atParameters refl (hit (pass 0x01 ▸ outer closed)) cs
+    all [] h = tt
+    all (broken ∷ cs) h = tt
+    all (cell row ∷ cs) h = ap (λ (c : ℕ). orElse (find (isPass c) (moves e parameters)) (find (isPass closing) (moves e parameters))) h ∙ ap (λ (o : Found). orElse o o) (closing-is e)
+
+-- and before one that has
+pub parameters-pass : (edition : Edition) (c : ℕ) {m : Move} (cs : List Cell) (i : ℕ) → find (isPass c) (moves edition parameters) ≡ hit m → WayAhead edition c cs → bodyOf edition cs i atParameters ≡ onBody (m .code ∷ []) (bodyOf edition cs i (go (m .next) atParameters))
+unfolding bodyOf
+parameters-pass edition c [] i q w = absurd w
+parameters-pass edition c (broken ∷ cs) i q w = absurd w
+parameters-pass edition c {m} (cell row ∷ cs) i q w = at (opensOf row) (w .1)
+  where
+    at : (o : Opens) → opensNumber o ≡ 0 → cellBody edition atParameters i row cs (bodyOf edition cs (suc i)) o ≡ onBody (m .code ∷ []) (cellBody edition (go (m .next) atParameters) i row cs (bodyOf edition cs (suc i)) o)
+    at innerRow z =
+        ap (rowBody i (bodyOf edition cs (suc i)))
+        (fits-pass edition atParameters row (w .2) (ap (λ (d : ℕ). orElse (find (isPass d) (moves edition parameters)) (find (isPass closing) (moves edition parameters))) (w .0) ∙ ap (λ (o : Found). orElse o (find (isPass closing) (moves edition parameters))) q))
+        ∙ led-row i (bodyOf edition cs (suc i)) (m .code ∷ []) (fitRow edition (go (m .next) atParameters) row)
+    at (envelopeRow true) z = absurd (omega arith)
+    at (envelopeRow false) z = absurd (omega arith)
 
 -- A row by the only move of its kind
 
@@ -68,8 +101,8 @@ parameter-row edition pool rows {i} m {before} {at} {after} {p} q d t =
 
 module _ (edition : Edition) (l : List Move) {pool rows : List ℕ} {i : ℕ} {st : State} {m : List ℕ} {at : ℕ} {m₁ : List ℕ} {p₁ : ℕ} (small : length m ≤ envelopeMost) (a : Onward edition pool rows i atParameters (i + 1) st m at m₁ p₁) where
   followed : (s : Advance) (m₂ : List ℕ) → AdvanceIs edition pool rows (i + 1) st atParameters m₁ p₁ s m₂ → ParameterIs edition l pool rows i m at (afterAdvance s) m₂
-  followed (stage.Go k p) m₂ x = (onward-then small a x, omega (arith, x .later))
-  followed (stage.Stuck j) m₂ x = onward-stuck small a x
+  followed (advance.Go k p) m₂ x = (onward-then small a x, omega (arith, x .later))
+  followed (advance.Stuck j) m₂ x = onward-stuck small a x
 
   pub after-first : (s : Advance) (m₂ : List ℕ) {r : Parameter} → AdvanceIs edition pool rows (i + 1) st atParameters m₁ p₁ s m₂ → r ≡ afterAdvance s → ParameterIs edition l pool rows i m at r m₂
   after-first s m₂ x q = subst (λ (y : Parameter). ParameterIs edition l pool rows i m at y m₂) (sym q) (followed s m₂ x)
@@ -103,9 +136,9 @@ module _ (edition : Edition) (pool rows : List ℕ) (i k : ℕ) {r : Ahead} (a :
   pub found-none : {after : List ℕ} → after ≡ before → ofKind k (moves edition parameters) ≡ [] → FoundIs edition pool rows i before at Last after
   found-none {after} e is = found-kind [] is Last after (e, nothing-among 0 (cellsAt pool rows i))
 
--- an edition known by a test
-pub found-in : {edition edition₁ : Edition} (pool rows : List ℕ) (i : ℕ) (before : List ℕ) (at : ℕ) → edition ≡ edition₁ → (p : Parameter) (after : List ℕ) → FoundIs edition₁ pool rows i before at p after → FoundIs edition pool rows i before at p after
-found-in pool rows i before at q p after x = subst (λ (b : Bool). FoundIs b pool rows i before at p after) (sym q) x
+-- "08 encrypted", of an edition that is known
+pub encrypted-as : {edition : Edition} (pool rows : List ℕ) (i : ℕ) (before : List ℕ) (at : ℕ) (p : Parameter) (after : List ℕ) {edition₁ : Edition} → edition ≡ edition₁ → ParameterIs edition₁ (encryptedIn edition₁) pool rows i before at p after → ParameterIs edition (encryptedIn edition) pool rows i before at p after
+encrypted-as pool rows i before at p after q x = subst (λ (e : Edition). ParameterIs e (encryptedIn e) pool rows i before at p after) (sym q) x
 
 -- a row before which the parameter's code stands
 pub way-ahead : (edition : Edition) (pool rows : List ℕ) (i k : ℕ) {r : Ahead} → AheadIs pool rows i r → r .kind ≡ k → 3 ≤ k → ofKind k (moves edition parameters) ≡ [] → WayAhead edition (wayTo k) (cellsAt pool rows i)
@@ -131,8 +164,8 @@ pub found-advance : (edition : Edition) (pool rows : List ℕ) (i : ℕ) (before
 found-advance edition pool rows i before at s after x b q = subst (λ (y : Parameter). FoundIs edition pool rows i before at y after) (sym q) (by s x b)
   where
     by : (s : Advance) → AdvanceIs edition pool rows i atParameters atParameters before at s after → Beyond i s → FoundIs edition pool rows i before at (afterAdvance s) after
-    by (stage.Go k p) y z = (y, z)
-    by (stage.Stuck j) y z = y
+    by (advance.Go k p) y z = (y, z)
+    by (advance.Stuck j) y z = y
 
 -- The end of the parameters
 

@@ -1,12 +1,11 @@
 -- A kind that neither begins a parameter nor has a code that leads to it.
 use Prim.Native.Nat.{ℕ}
 use mathlib.Core.List.{[]}
-use mathlib.Core.Bool.{Bool, true, false}
 use mathlib.Core.Path.{_≡_, refl, sym}
 use borrow.Author.Tests.{ne-eqb}
 use Rattle.meaning.specs.Editions.{parameters, closing, moves, shared, own}
 use Rattle.meaning.specs.Writing.{wayTo}
-use Rattle.table.specs.Told.{editionOf}
+use Rattle.meaning.specs.Told.{Edition, B, D}
 use Rattle.write_rows.specs.Rooms.{ofKind}
 
 pub record OtherKind (k : ℕ) : Type 0 where
@@ -25,9 +24,9 @@ pub record OtherKind (k : ℕ) : Type 0 where
 
 pub none-other : (edition : Edition) (k : ℕ) → OtherKind k → ofKind k (moves edition parameters) ≡ []
 unfolding moves shared own
-none-other true k o =
+none-other D k o =
     rw (ne-eqb 12 k (λ z. o .to (sym z)), ne-eqb 13 k (λ z. o .from (sym z)), ne-eqb 14 k (λ z. o .receiver (sym z)), ne-eqb 22 k (λ z. o .comment (sym z)), ne-eqb 23 k (λ z. o .long (sym z)), ne-eqb 24 k (λ z. o .encoding (sym z)), ne-eqb 27 k (λ z. o .key (sym z)), ne-eqb 29 k (λ z. o .behaviour (sym z))) refl
-none-other false k o =
+none-other B k o =
     rw (ne-eqb 12 k (λ z. o .to (sym z)), ne-eqb 13 k (λ z. o .from (sym z)), ne-eqb 14 k (λ z. o .receiver (sym z)), ne-eqb 22 k (λ z. o .comment (sym z)), ne-eqb 23 k (λ z. o .long (sym z)), ne-eqb 24 k (λ z. o .encoding (sym z)), ne-eqb 25 k (λ z. o .encrypted (sym z)), ne-eqb 27 k (λ z. o .key (sym z)), ne-eqb 29 k (λ z. o .behaviour (sym z))) refl
 
 pub closes-other : (k : ℕ) → OtherKind k → wayTo k ≡ closing

@@ -1,5 +1,5 @@
 -- Agents: where an agent and a list end, and the turns of a list one behind the other.
-use Prim.Native.Nat.{ℕ, zero, suc, _+_, _-_, _/_, _≤_, _<_}
+use Prim.Native.Nat.{ℕ, zero, suc, _+_, _-_, _≤_, _<_}
 use mathlib.Core.List.{List, [], _∷_}
 use mathlib.Core.Bool.{Bool, true, false, _&&_}
 use mathlib.Core.Path.{_≡_, refl, ap, sym, _∙_, subst}
@@ -9,15 +9,16 @@ use lib.Dec.{eqb}
 use lib.ListN.{length}
 use borrow.Author.Tests.{ne-eqb, lt-ltb, le-ltb}
 use Rattle.meaning.specs.Basics.{pick}
-use Rattle.meaning.specs.Editions.{State, state, parameters, agentList, oneAgent, afterName, afterResolvers, stay, deeper, listEnds, agentEnds, closing, Move, go, pass_▸_}
-use Rattle.meaning.specs.Reading.{none, hit, tooDeep}
-use Rattle.table.specs.Told.{editionOf}
+use Rattle.meaning.specs.Editions.{State, state, parameters, agentList, oneAgent, afterName, afterResolvers, stay, listEnds, agentEnds, closing, Move, go, pass_▸_, extraCode}
+use Rattle.meaning.specs.Reading.{none, hit, tooDeep, levelMost}
+use Rattle.meaning.specs.Told.{Edition, B, D}
+use Rattle.meaning.specs.Memory.{roomOf}
+use Rattle.meaning.specs.Headers.{envelopeMost}
 use Rattle.write_rows.specs.Laying.{Laid}
 use Rattle.write_rows.specs.Bodies.{halt}
 use Rattle.laws.specs.Rows.{cellsAt}
 use Rattle.write_rows.specs.Rooms.{NotAmong, Closes, ExtrasIn}
 use Rattle.write_rows.specs.Stages.{bodyAt, RowTaken, Onward}
-use Rattle.meaning.specs.Editions.{extraCode}
 use Rattle.write_inside.specs.Turns.{agentNames, agentsAt, ListTurnIs}
 use Rattle.write_inside.specs.declared.agents.ListTurn.{ListTurn}
 use Rattle.write_inside.specs.declared.agents.ListTurn.the-variants.{On, Done, Stuck}
@@ -30,8 +31,8 @@ pub extras-coded : (edition : Edition) (level : ℕ) (single : Bool) {code : ℕ
 extras-coded edition level single q = subst (λ (k : ℕ). ExtrasIn edition afterResolvers level single k (go agentEnds (state afterResolvers level single))) (sym q) (agent-extras edition level single)
 
 pub extra-coded : (edition : Edition) {code : ℕ} → code ≡ extraCode edition → code ≤ 256
-extra-coded true q = omega arith
-extra-coded false q = omega arith
+extra-coded D q = omega arith
+extra-coded B q = omega arith
 
 -- Where an agent and a list end
 

@@ -19,6 +19,7 @@ ghost use mathlib.Core.Path.{_≡_};
 ghost use mathlib.Core.Bool.{Bool, false};
 ghost use Prim.Native.Nat.{_-_};
 ghost use Rattle.meaning.specs.Editions.{state, afterName, afterAddresses, afterResolvers, parameters};
+ghost use Rattle.meaning.specs.Told;
 ghost use Rattle.laws.specs.Rows.{cellsAt};
 ghost use Rattle.table.specs.Told.{editionOf};
 ghost use Rattle.write_rows.specs.Rooms.{NotAmong};
@@ -43,7 +44,7 @@ fn addresses(
     at: usize,
 ) -> Onto
     requires { ⌜ Ready (now rows) i (now output) at ⌝ }
-    ensures { λ r. ⌜ ((edition : Rattle.meaning.specs.Told.Edition) (single : Bool) → Onward edition (now (pool .entry)) (now (rows .entry)) i (state afterName level single) (r .row) (state afterAddresses level single) (now (output .entry)) at (now (output .exit)) (r .at)) ⌝ }
+    ensures { λ r. ⌜ ((edition : Told.Edition) (single : Bool) → Onward edition (now (pool .entry)) (now (rows .entry)) i (state afterName level single) (r .row) (state afterAddresses level single) (now (output .entry)) at (now (output .exit)) (r .at)) ⌝ }
 {
     let t = opened(rows, pool, i, ADDRESSES_OPEN, level, 0x02, output, at);
     let Tried::To(p) = t else {

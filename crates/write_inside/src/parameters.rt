@@ -35,6 +35,7 @@ ghost use mathlib.Core.Bool.{Bool, false};
 ghost use Prim.Native.Nat.{_≤_};
 ghost use Rattle.meaning.specs.Kinds.{ownKey, behaviourOpens};
 ghost use Rattle.meaning.specs.Editions.{state, ownText, behaviourValue, closed, outer, opens, on_▸_▸_▸_};
+ghost use Rattle.meaning.specs.Told;
 ghost use Rattle.meaning.specs.Told.{B};
 ghost use Rattle.laws.specs.Rows.{cellsAt};
 ghost use Rattle.table.specs.Told.{editionOf};
@@ -74,7 +75,7 @@ fn begun(s: Advance) -> Parameter
 // Stuck at the next row if that is no value.
 fn own_parameter(rows: &[u32], pool: &[u8], i: usize, output: &mut [u8], at: usize) -> Parameter
     requires { ⌜ Ready (now rows) i (now output) at ⌝ }
-    ensures { λ r. ⌜ ((edition : Rattle.meaning.specs.Told.Edition) → ParameterIs edition (on 0x00 ▸ ownKey ▸ Rattle.meaning.specs.Editions.text ▸ outer ownText ∷ []) (now (pool .entry)) (now (rows .entry)) i (now (output .entry)) at r (now (output .exit))) ⌝ }
+    ensures { λ r. ⌜ ((edition : Told.Edition) → ParameterIs edition (on 0x00 ▸ ownKey ▸ Rattle.meaning.specs.Editions.text ▸ outer ownText ∷ []) (now (pool .entry)) (now (rows .entry)) i (now (output .entry)) at r (now (output .exit))) ⌝ }
 {
     let t = text(rows, pool, i, OWN_KEY, 0, 0x00, output, at);
     let Tried::To(p) = t else {
@@ -112,7 +113,7 @@ fn agents_in(
 // Stuck at the next row if that is no any-value.
 fn behaviour(rows: &[u32], pool: &[u8], i: usize, output: &mut [u8], at: usize) -> Parameter
     requires { ⌜ Ready (now rows) i (now output) at ⌝ }
-    ensures { λ r. ⌜ ((edition : Rattle.meaning.specs.Told.Edition) → ParameterIs edition (on 0x0b ▸ behaviourOpens ▸ opens ▸ outer behaviourValue ∷ []) (now (pool .entry)) (now (rows .entry)) i (now (output .entry)) at r (now (output .exit))) ⌝ }
+    ensures { λ r. ⌜ ((edition : Told.Edition) → ParameterIs edition (on 0x0b ▸ behaviourOpens ▸ opens ▸ outer behaviourValue ∷ []) (now (pool .entry)) (now (rows .entry)) i (now (output .entry)) at r (now (output .exit))) ⌝ }
 {
     let t = opened(rows, pool, i, BEHAVIOUR_OPENS, 0, 0x0b, output, at);
     let Tried::To(p) = t else {
@@ -160,7 +161,7 @@ fn encrypted(
 // "04 representation": lays the code and row i, whose kind is a representation's. Stuck at row i if it is none.
 fn represented(rows: &[u32], pool: &[u8], i: usize, output: &mut [u8], at: usize) -> Parameter
     requires { ⌜ Ready (now rows) i (now output) at ⌝ }
-    ensures { λ r. ⌜ ((edition : Rattle.meaning.specs.Told.Edition) → WayAhead edition 0x04 (cellsAt (now (pool .entry)) (now (rows .entry)) i) →
+    ensures { λ r. ⌜ ((edition : Told.Edition) → WayAhead edition 0x04 (cellsAt (now (pool .entry)) (now (rows .entry)) i) →
         FoundIs edition (now (pool .entry)) (now (rows .entry)) i (now (output .entry)) at r (now (output .exit))) ⌝ }
 {
     let p = put(output, at, 0x04);

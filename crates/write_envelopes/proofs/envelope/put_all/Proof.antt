@@ -1,10 +1,11 @@
 -- `envelope::put_all`: the bytes so far, in front of the output as it was; the check rules out what is not written.
-use Prim.Native.Nat.{_-_, _/_}
+use Prim.Native.Nat.{_-_}
+use Rattle.meaning.specs.Memory.{roomOf}
+use Rattle.table.specs.Told.{editionOf}
 use Rattle.write_envelopes.proofs.Checking.{ends-later, here, measured-ended, measured-stuck, row-inside}
 use Rattle.write_envelopes.proofs.Writing.{Writing, writing-ends, writing-length, writing-none, writing-noted, writing-on, writing-starts, writing-stuck}
 use Rattle.write_envelopes.specs.Whole.{Writable}
 use borrow.Author.Needs.{needs}
-use lib.ListN.{length}
 use mathlib.Core.Bool.{false}
 use mathlib.Core.Path.{_∙_}
 use native.Mathlib.Omega.{arith}
@@ -12,7 +13,7 @@ use Rattle.write_envelopes.proofs.envelope.put_all.Statement.{statement
 use Rattle.write_envelopes.proofs.envelope.put_all.Tie as tie
 
 abbrev Inv-loop : tie.InvT-loop
-Inv-loop edition rows pool lengths output₀ i₀ k₀ at₀ output i k at = (w : Writable edition rows pool lengths output₀) → Writing edition pool rows lengths output₀ (w .bytes-needed) i k at output
+Inv-loop edition rows pool lengths output₀ i₀ k₀ at₀ output i k at = (i ≤ roomOf rows) × ((w : Writable (editionOf edition) rows pool lengths output₀) → Writing (editionOf edition) pool rows lengths output₀ (w .bytes-needed) i k at output)
 
 abbrev μ-loop : tie.MeasureT-loop
 μ-loop edition rows pool lengths output₀ i₀ k₀ at₀ output i k at = roomOf rows - i
@@ -29,7 +30,7 @@ same-length c =
     let a = entry .args in
     let w = entry .pre in
     let l = c .before .before .loop in
-    writing-length (editionOf (a .edition)) (a .pool .now) (a .rows .now) (a .lengths .now) (a .output .now) w (l .inv w)
+    writing-length (editionOf (a .edition)) (a .pool .now) (a .rows .now) (a .lengths .now) (a .output .now) w (l .inv .1 w)
 
 returns : tie.Need-returns Inv-loop μ-loop
 returns c =
@@ -37,7 +38,7 @@ returns c =
     let a = entry .args in
     let w = entry .pre in
     let l = c .before .before .loop in
-    writing-none (editionOf (a .edition)) (a .pool .now) (a .rows .now) (a .lengths .now) (a .output .now) w (l .inv w) (c .before .open-at .ensures) (c .if1 .taken)
+    writing-none (editionOf (a .edition)) (a .pool .now) (a .rows .now) (a .lengths .now) (a .output .now) w (l .inv .1 w) (c .before .open-at .ensures) (c .if1 .taken)
 
 mul-many : tie.Need-mul-many Inv-loop μ-loop
 mul-many c =
@@ -47,7 +48,7 @@ mul-many c =
     let l = c .before .before .loop in
     let o = c .before .open-at .ensures in
     let h = c .if1 .left in
-    omega (arith, writing-noted (editionOf (a .edition)) (a .pool .now) (a .rows .now) (a .lengths .now) (a .output .now) w (l .inv w) o h .0, w .long)
+    omega (arith, writing-noted (editionOf (a .edition)) (a .pool .now) (a .rows .now) (a .lengths .now) (a .output .now) w (l .inv .1 w) o h .0, w .long)
 
 shared-slice-read-many : tie.Need-shared-slice-read-many Inv-loop μ-loop
 shared-slice-read-many c =
@@ -57,7 +58,7 @@ shared-slice-read-many c =
     let l = c .before .before .before .loop in
     let o = c .before .before .open-at .ensures in
     let h = c .before .if1 .left in
-    writing-noted (editionOf (a .edition)) (a .pool .now) (a .rows .now) (a .lengths .now) (a .output .now) w (l .inv w) o h .0
+    writing-noted (editionOf (a .edition)) (a .pool .now) (a .rows .now) (a .lengths .now) (a .output .now) w (l .inv .1 w) o h .0
 
 add-put-envelope : tie.Need-add-put-envelope Inv-loop μ-loop
 add-put-envelope c =
@@ -77,8 +78,8 @@ put-envelope-requires c κs =
     let l = c .before .before .before .before .loop in
     let o = c .before .before .before .open-at .ensures in
     let h = c .before .before .if1 .left in
-    let n = writing-noted (editionOf (a .edition)) (a .pool .now) (a .rows .now) (a .lengths .now) (a .output .now) w (l .inv w) o h in
-    record { inside = omega (arith, row-inside (editionOf (a .edition)) (a .pool .now) (a .rows .now) (l .i) o h); opens = omega (arith, h); small = n .2; room = omega (arith, n .1, writing-length (editionOf (a .edition)) (a .pool .now) (a .rows .now) (a .lengths .now) (a .output .now) w (l .inv w)) }
+    let n = writing-noted (editionOf (a .edition)) (a .pool .now) (a .rows .now) (a .lengths .now) (a .output .now) w (l .inv .1 w) o h in
+    record { inside = omega (arith, row-inside (editionOf (a .edition)) (a .pool .now) (a .rows .now) (l .i) o h); opens = omega (arith, h); small = n .2; room = omega (arith, n .1, writing-length (editionOf (a .edition)) (a .pool .now) (a .rows .now) (a .lengths .now) (a .output .now) w (l .inv .1 w)) }
 
 enum-known-r : tie.Need-enum-known-r Inv-loop μ-loop
 enum-known-r c = search needs
@@ -92,7 +93,7 @@ same-length-2 c =
     let a = entry .args in
     let w = entry .pre in
     let l = c .before .before .before .before .before .before .before .before .before .loop in
-    c .before .before .before .before .put-envelope .kept .1 .1 .1 .1 .1 .1 .0 ∙ writing-length (editionOf (a .edition)) (a .pool .now) (a .rows .now) (a .lengths .now) (a .output .now) w (l .inv w)
+    c .before .before .before .before .put-envelope .kept .1 .1 .1 .1 .1 .1 .0 ∙ writing-length (editionOf (a .edition)) (a .pool .now) (a .rows .now) (a .lengths .now) (a .output .now) w (l .inv .1 w)
 
 returns-2 : tie.Need-returns-2 Inv-loop μ-loop
 returns-2 c =
@@ -102,7 +103,7 @@ returns-2 c =
     let l = c .before .before .before .before .before .before .before .before .before .loop in
     let o = c .before .before .before .before .before .before .before .before .open-at .ensures in
     let h = c .before .before .before .before .before .before .before .if1 .left in
-    writing-stuck (editionOf (a .edition)) (a .pool .now) (a .rows .now) (a .lengths .now) (a .output .now) w (l .inv w) o h (measured-stuck (here (editionOf (a .edition)) (a .pool .now) (a .rows .now) (l .i) o h) (a .pool .now) (a .rows .now) (c .enum-told .given .1) (c .before .before .before .before .put-envelope .ensures .inside))
+    writing-stuck (editionOf (a .edition)) (a .pool .now) (a .rows .now) (a .lengths .now) (a .output .now) w (l .inv .1 w) o h (measured-stuck (here (editionOf (a .edition)) (a .pool .now) (a .rows .now) (l .i) o h) (a .pool .now) (a .rows .now) (c .enum-told .given .1) (c .before .before .before .before .put-envelope .ensures .inside))
 
 same-length-3 : tie.Need-same-length-3 Inv-loop μ-loop
 same-length-3 c =
@@ -110,7 +111,7 @@ same-length-3 c =
     let a = entry .args in
     let w = entry .pre in
     let l = c .before .before .before .before .before .before .before .before .before .before .before .loop in
-    c .before .before .before .before .before .before .put-envelope .kept .1 .1 .1 .1 .1 .1 .0 ∙ writing-length (editionOf (a .edition)) (a .pool .now) (a .rows .now) (a .lengths .now) (a .output .now) w (l .inv w)
+    c .before .before .before .before .before .before .put-envelope .kept .1 .1 .1 .1 .1 .1 .0 ∙ writing-length (editionOf (a .edition)) (a .pool .now) (a .rows .now) (a .lengths .now) (a .output .now) w (l .inv .1 w)
 
 returns-3 : tie.Need-returns-3 Inv-loop μ-loop
 returns-3 c =
@@ -122,7 +123,7 @@ returns-3 c =
     let h = c .before .before .before .before .before .before .before .before .before .if1 .left in
     let x = c .before .before .before .before .before .before .put-envelope .ensures in
     let z = measured-ended (here (editionOf (a .edition)) (a .pool .now) (a .rows .now) (l .i) o h) (a .pool .now) (a .rows .now) (c .before .before .r .given .1) (x .inside) in
-    writing-ends (editionOf (a .edition)) (a .pool .now) (a .rows .now) (a .lengths .now) (a .output .now) w (l .inv w) o h z x (c .if2 .taken)
+    writing-ends (editionOf (a .edition)) (a .pool .now) (a .rows .now) (a .lengths .now) (a .output .now) w (l .inv .1 w) o h z x (c .if2 .taken)
 
 add-k : tie.Need-add-k Inv-loop μ-loop
 add-k c =
@@ -132,7 +133,7 @@ add-k c =
     let l = c .before .before .before .before .before .before .before .before .before .before .before .loop in
     let o = c .before .before .before .before .before .before .before .before .before .before .open-at .ensures in
     let h = c .before .before .before .before .before .before .before .before .before .if1 .left in
-    omega (arith, writing-noted (editionOf (a .edition)) (a .pool .now) (a .rows .now) (a .lengths .now) (a .output .now) w (l .inv w) o h .0, w .long)
+    omega (arith, writing-noted (editionOf (a .edition)) (a .pool .now) (a .rows .now) (a .lengths .now) (a .output .now) w (l .inv .1 w) o h .0, w .long)
 
 size-of-requires : tie.Need-size-of-requires Inv-loop μ-loop
 size-of-requires c κs =
@@ -142,7 +143,7 @@ size-of-requires c κs =
     let l = c .before .before .before .before .before .before .before .before .before .before .before .loop in
     let o = c .before .before .before .before .before .before .before .before .before .before .open-at .ensures in
     let h = c .before .before .before .before .before .before .before .before .before .if1 .left in
-    writing-noted (editionOf (a .edition)) (a .pool .now) (a .rows .now) (a .lengths .now) (a .output .now) w (l .inv w) o h .2
+    writing-noted (editionOf (a .edition)) (a .pool .now) (a .rows .now) (a .lengths .now) (a .output .now) w (l .inv .1 w) o h .2
 
 add-at : tie.Need-add-at Inv-loop μ-loop
 add-at c =
@@ -152,7 +153,7 @@ add-at c =
     let l = c .before .before .before .before .before .before .before .before .before .before .before .before .loop in
     let o = c .before .before .before .before .before .before .before .before .before .before .before .open-at .ensures in
     let h = c .before .before .before .before .before .before .before .before .before .before .if1 .left in
-    let n = writing-noted (editionOf (a .edition)) (a .pool .now) (a .rows .now) (a .lengths .now) (a .output .now) w (l .inv w) o h .1 in
+    let n = writing-noted (editionOf (a .edition)) (a .pool .now) (a .rows .now) (a .lengths .now) (a .output .now) w (l .inv .1 w) o h .1 in
     let s = c .size-of .ensures .0 in
     search needs
 
@@ -178,7 +179,7 @@ loop-again c =
     let h = c .before .before .before .before .before .before .before .before .before .before .if1 .left in
     let x = c .before .before .before .before .before .before .before .put-envelope .ensures in
     let z = measured-ended (here (editionOf (a .edition)) (a .pool .now) (a .rows .now) (l .i) o h) (a .pool .now) (a .rows .now) (c .before .before .before .r .given .1) (x .inside) in
-    λ w. writing-on (editionOf (a .edition)) (a .pool .now) (a .rows .now) (a .lengths .now) (a .output .now) w (l .inv w) o h z x (c .size-of .ensures .0) (c .before .if2 .left)
+    λ w. writing-on (editionOf (a .edition)) (a .pool .now) (a .rows .now) (a .lengths .now) (a .output .now) w (l .inv .1 w) o h z x (c .size-of .ensures .0) (c .before .if2 .left)
 
 pub put-all-spec : {M : Type 1} → statement M
 put-all-spec =

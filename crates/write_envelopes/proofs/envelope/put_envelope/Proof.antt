@@ -57,7 +57,7 @@ returns c =
     let entry = c .before .before .before .before .before .before .before .before .before .before .before .before in
     let a = entry .args in
     let size-of = c .before .before .before .before .before .before .before .before .size-of in
-    envelope-laid (a .output .now) (a .at) (a .at + size-of .result - a .many) (a .at + size-of .result) (a .many) (eqb (a .opened) 2) (ap (λ (n : ℕ). a .at + n) (size-of .ensures .0)) refl (omega (arith, size-of .ensures .0, entry .pre .room)) _ _ _ _ _ _ (c .before .before .before .before .before .before .put-head .ensures) (c .before .before .body .ensures)
+    envelope-laid (a .output .now) (a .at) (a .at + size-of .result - a .many) (a .at + size-of .result) (a .many) (eqb (a .opened) baseOpens) (ap (λ (n : ℕ). a .at + n) (size-of .ensures .0)) refl (omega (arith, size-of .ensures .0, entry .pre .room)) _ _ _ _ _ _ (c .before .before .before .before .before .before .put-head .ensures) (c .before .before .body .ensures)
 
 pub put-envelope-spec : {M : Type 1} → statement M
 put-envelope-spec =

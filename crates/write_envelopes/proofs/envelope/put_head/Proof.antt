@@ -29,7 +29,7 @@ returns : tie.Need-returns
 returns c =
     let entry = c .before .before .before .before .before .before .before .before .before .before .before in
     let a = entry .args in
-    laid-as (laid-then (one-as (c .before .before .before .before .before .before .before .before .identifier .ensures) (c .before .before .before .before .before .before .before .put .ensures)) (entry .pre .1) (c .before .before .put-two .ensures)) _ (head-short (eqb (a .opened) 2) (a .many) (c .before .before .before .before .if1 .taken))
+    laid-as (laid-then (one-as (c .before .before .before .before .before .before .before .before .identifier .ensures) (c .before .before .before .before .before .before .before .put .ensures)) (entry .pre .1) (c .before .before .put-two .ensures)) _ (head-short (eqb (a .opened) baseOpens) (a .many) (c .before .before .before .before .if1 .taken))
 
 put-two-requires-2 : tie.Need-put-two-requires-2
 put-two-requires-2 c κs = search needs
@@ -47,7 +47,7 @@ returns-2 : tie.Need-returns-2
 returns-2 c =
     let entry = c .before .before .before .before .before .before .before .before .before .before .before .before .before .before .before in
     let a = entry .args in
-    laid-as (laid-then (laid-then (one-as (c .before .before .before .before .before .before .before .before .before .before .before .before .identifier .ensures) (c .before .before .before .before .before .before .before .before .before .before .before .put .ensures)) (entry .pre .1) (c .before .before .before .before .before .before .put-two2 .ensures)) (entry .pre .1) (c .before .before .put-four .ensures)) _ (head-long (eqb (a .opened) 2) (a .many) (c .before .before .before .before .before .before .before .before .if1 .left))
+    laid-as (laid-then (laid-then (one-as (c .before .before .before .before .before .before .before .before .before .before .before .before .identifier .ensures) (c .before .before .before .before .before .before .before .before .before .before .before .put .ensures)) (entry .pre .1) (c .before .before .before .before .before .before .put-two2 .ensures)) (entry .pre .1) (c .before .before .put-four .ensures)) _ (head-long (eqb (a .opened) baseOpens) (a .many) (c .before .before .before .before .before .before .before .before .if1 .left))
 
 pub put-head-spec : {M : Type 1} → statement M
 put-head-spec =

@@ -1,14 +1,15 @@
--- `measure::check`: envelope by envelope, what the overAt says of the rest is the verdict over all; and the lengths are noted.
-use Prim.Native.Nat.{ℕ, _+_, _-_, _*_, _/_, _≤_}
+-- `measure::check`: envelope by envelope, what the sizes says of the rest is the verdict over all; and the lengths are noted.
+use Prim.Native.Nat.{ℕ, _+_, _-_, _*_, _≤_}
 use Rattle.meaning.specs.Writing.{fine, wholePlan}
+use Rattle.meaning.specs.Memory.{roomOf}
+use Rattle.meaning.specs.Headers.{envelopeMost, envelopesMost}
 use Rattle.write_envelopes.proofs.Checking.{check-base, check-extension, check-none, check-stuck, ends-later, ends-small, here, measured-ended, measured-stuck, rest, row-inside}
 use Rattle.write_envelopes.proofs.Noting.{Noting, checked-bad, noting-ends, noting-on, noting-starts}
 use Rattle.write_envelopes.proofs.Wholes.{whole-edge}
 use Rattle.laws.specs.Rows.{cellsAt}
 use Rattle.table.specs.Told.{editionOf}
-use Rattle.write_envelopes.specs.Whole.{Begins, checkedOf, insidesOf, limitOf, needs as needed, verdict}
+use Rattle.write_envelopes.specs.Whole.{Begins, checkedOf, insidesOf, limitOf, verdict}
 use borrow.Author.Needs.{needs}
-use lib.ListN.{length}
 use mathlib.Core.List.{List}
 use mathlib.Core.Path.{_∙_, _≡_, ap, refl, subst, sym}
 use native.Mathlib.Omega.{arith}
@@ -16,7 +17,7 @@ use Rattle.write_envelopes.proofs.measure.check.Statement.{statement}
 use Rattle.write_envelopes.proofs.measure.check.Tie as tie
 
 abbrev Inv-loop : tie.InvT-loop
-Inv-loop edition rows pool lengths₀ i₀ t₀ lengths i t = (t .total + t .left * envelopeMost ≤ envelopesMost * envelopeMost) × (verdict envelopesMost 0 fine (wholePlan (editionOf edition) (cellsAt pool rows 0)) ≡ verdict (t .left) (t .total) (limitOf (t .over) (t .first)) (rest edition pool rows i)) × Noting edition pool rows (t .left) i lengths
+Inv-loop edition rows pool lengths₀ i₀ t₀ lengths i t = (t .total + t .left * envelopeMost ≤ envelopesMost * envelopeMost) × (verdict envelopesMost 0 fine (wholePlan (editionOf edition) (cellsAt pool rows 0)) ≡ verdict (t .left) (t .total) (limitOf (t .over) (t .first)) (rest (editionOf edition) pool rows i)) × Noting (editionOf edition) pool rows (t .left) i lengths × (i ≤ roomOf rows)
 
 abbrev μ-loop : tie.MeasureT-loop
 μ-loop edition rows pool lengths₀ i₀ t₀ lengths i t = roomOf rows - i

@@ -1,9 +1,7 @@
 -- `agents::addresses`: the list is there, or the room behind it does as well.
 use Rattle.meaning.specs.Editions.{state, stay, afterName, addressTexts, afterAddresses}
-use Rattle.write_rows.specs.Onward.{tried-as}
+use Rattle.write_rows.specs.Onward.{tried-as, unmoved, onward-then}
 use Rattle.write_rows.specs.Laying.{laid-layable}
-use Rattle.write_rows.specs.Onward.{unmoved}
-use Rattle.write_rows.specs.Onward.{onward-then}
 use Rattle.write_rows.specs.Optional.{part-off, part-on}
 use Rattle.write_inside.proofs.Rooms.{address-texts, agent-addresses}
 use borrow.Author.Needs.{needs}

@@ -1,9 +1,8 @@
 -- `agents::agent`: a name that is too deep; an agent up to its resolvers; an agent without them; or the end of the list.
 use Rattle.meaning.specs.Editions.{stay, deeper, agentList, afterName, afterAddresses, afterResolvers}
-use Rattle.write_rows.specs.Onward.{tried-as}
+use Rattle.table.specs.Told.{editionOf}
+use Rattle.write_rows.specs.Onward.{tried-as, layable-from, unmoved, onward-layable, onward-then}
 use Rattle.write_rows.specs.Laying.{laid-layable}
-use Rattle.write_rows.specs.Onward.{layable-from, unmoved}
-use Rattle.write_rows.specs.Onward.{onward-layable, onward-then}
 use Rattle.write_rows.specs.Optional.{part-off, part-on}
 use Rattle.write_inside.proofs.Rooms.{agent-resolvers}
 use Rattle.write_inside.proofs.Turning.{name-deep, name-on, resolvers-on, turn-from, turn-then}
@@ -42,8 +41,8 @@ same-length-2 c = search needs
 returns-2 : tie.Need-returns-2
 returns-2 c = let a = c .before .before .before .before .before .before .before .before .before .before .before .args in name-deep (editionOf (a .edition)) _ _ (a .level) (a .single) (c .if1 .taken) (tried-as _ _ _ _ _ _ _ _ (c .before .before .t .given .1) (c .before .before .before .before .before .before .text .ensures (stay afterName)))
 
-add-named : tie.Need-add-named
-add-named c = search needs
+add-after-name : tie.Need-add-after-name
+add-after-name c = search needs
 
 addresses-requires : tie.Need-addresses-requires
 addresses-requires c κs =
@@ -86,11 +85,11 @@ returns-3 c =
     let on = onward-then (pre .layable .small) (onward-then (pre .layable .small) (name-on (editionOf (a .edition)) _ _ (a .level) (a .single) (omega (arith, c .before .before .before .before .before .before .before .before .before .before .before .before .before .before .if1 .left)) taken) s) none in
     turn-then (a .single) (rowsAndLevels (a .rows .now) (c .before .before .before .before .before .before .before .before .before .before .before .before .addresses .result .row) (a .level)) (rowsAndLevels (a .rows .now) (a .i) (a .level) - 1) (c .before .before .agent-ends .result) _ (pre .layable .small) (omega (arith, s .later, s .inside, taken .ahead .within)) on (c .before .before .agent-ends .ensures)
 
-add-t28 : tie.Need-add-t28
-add-t28 c = let s = c .before .before .before .before .before .before .before .before .before .addresses .ensures (editionOf (c .before .before .before .before .before .before .before .before .before .before .before .before .before .before .before .before .before .before .before .before .before .before .args .edition)) (c .before .before .before .before .before .before .before .before .before .before .before .before .before .before .before .before .before .before .before .before .before .before .args .single) .inside in search (needs, s)
+add-resolver : tie.Need-add-resolver
+add-resolver c = let s = c .before .before .before .before .before .before .before .before .before .addresses .ensures (editionOf (c .before .before .before .before .before .before .before .before .before .before .before .before .before .before .before .before .before .before .before .before .before .before .args .edition)) (c .before .before .before .before .before .before .before .before .before .before .before .before .before .before .before .before .before .before .before .before .before .before .args .single) .inside in search (needs, s)
 
-add-t29 : tie.Need-add-t29
-add-t29 c = search needs
+add-deeper : tie.Need-add-deeper
+add-deeper c = search needs
 
 same-length-4 : tie.Need-same-length-4
 same-length-4 c = search needs
@@ -117,7 +116,7 @@ agent-spec =
     returns
     same-length-2
     returns-2
-    add-named
+    add-after-name
     addresses-requires
     opened-requires
     enum-known-o
@@ -125,7 +124,7 @@ agent-spec =
     agent-ends-requires
     same-length-3
     returns-3
-    add-t28
-    add-t29
+    add-resolver
+    add-deeper
     same-length-4
     returns-4)

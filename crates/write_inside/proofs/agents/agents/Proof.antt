@@ -1,9 +1,11 @@
 -- `agents::agents`: turn by turn, until the list of level 1 or the one agent has ended.
-use Prim.Native.Nat.{_/_, _≤_}
-use Rattle.write_rows.specs.Laying.{laid-length}
+use Prim.Native.Nat.{_+_, _≤_}
+use Rattle.meaning.specs.Memory.{roomOf}
+use Rattle.meaning.specs.Reading.{levelMost}
+use Rattle.table.specs.Told.{editionOf}
+use Rattle.write_rows.specs.Laying.{laid-length, Layable}
 use Rattle.write_rows.specs.Onward.{onward-layable, onward-none, onward-stuck, onward-then}
 use Rattle.write_inside.proofs.Turning.{turn-as}
-use Rattle.write_rows.specs.Laying.{Layable}
 use Rattle.write_rows.specs.Stages.{Onward}
 use Rattle.write_inside.specs.Turns.{agentsAt, rowsAndLevels}
 use borrow.Author.Needs.{needs}
@@ -15,7 +17,7 @@ use Rattle.write_inside.proofs.agents.agents.Tie as tie
 
 abbrev Inv-loop : tie.InvT-loop
 Inv-loop rows pool from single edition output₀ at i₀ level₀ p₀ output i level p =
-    (i ≤ roomOf rows) × (1 ≤ level) × (level ≤ levelMost + 1) × Layable output p × (length output ≡ length output₀) × Onward edition pool rows from (agentsAt 1 single) i (agentsAt level single) output₀ at output p
+    (i ≤ roomOf rows) × (1 ≤ level) × (level ≤ levelMost + 1) × Layable output p × (length output ≡ length output₀) × Onward (editionOf edition) pool rows from (agentsAt 1 single) i (agentsAt level single) output₀ at output p
 
 abbrev μ-loop : tie.MeasureT-loop
 μ-loop rows pool from single edition output₀ at i₀ level₀ p₀ output i level p = rowsAndLevels rows i level

@@ -1,4 +1,5 @@
 -- `agents::list_ends`: the one agent of `from` is missing; a list of level 1 ends; a deeper one ends, and the agent above it.
+use Rattle.table.specs.Told.{editionOf}
 use Rattle.write_rows.specs.Laying.{laid-layable}
 use Rattle.write_inside.proofs.Turning.{list-done, list-up, one-missing, turn-then}
 use Prim.Native.Nat.{_-_}

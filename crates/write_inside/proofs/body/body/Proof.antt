@@ -1,4 +1,5 @@
 -- `body::body`: behind the stages nothing fits; the envelope ends there or the row ahead stands nowhere.
+use Rattle.table.specs.Told.{editionOf}
 use Rattle.write_inside.proofs.Insides.{body-ends, body-halts, body-stuck}
 use Rattle.write_rows.specs.Onward.{advance-as}
 use Rattle.meaning.specs.Editions.{closed, state}
@@ -18,7 +19,9 @@ enum-known-s-2 : tie.Need-enum-known-s-2
 enum-known-s-2 c = search needs
 
 ends-at-requires : tie.Need-ends-at-requires
-ends-at-requires c κs = search needs
+ends-at-requires c κs =
+    let a = c .before .before .before .before .before .before .before .before .before .before .args in
+    advance-as (editionOf (a .edition)) (a .pool .now) (a .rows .now) (a .from) (start (a .base)) (state closed 0 false) (a .output .now) 0 _ (c .before .s2 .given .1) (c .before .before .before .before .before .stages .ensures) .inside
 
 same-length : tie.Need-same-length
 same-length c = search needs

@@ -1,8 +1,8 @@
 -- `parameters::agents_in`: its row, and the agents behind it.
-use Rattle.write_rows.specs.Onward.{tried-as}
+use Rattle.table.specs.Told.{editionOf}
+use Rattle.write_rows.specs.Onward.{tried-as, leading}
 use Rattle.write_rows.specs.Laying.{laid-layable}
 use Rattle.write_inside.proofs.Choosing.{after-first, parameter-row}
-use Rattle.write_rows.specs.Onward.{leading}
 use Rattle.meaning.specs.Editions.{opens, on_▸_▸_▸_}
 use Rattle.write_inside.proofs.Rooms.{agents-begin}
 use Rattle.write_inside.specs.Parameters.{agentsNext}

@@ -1,16 +1,15 @@
 -- `parameters::behaviour`: its row, and the any-value that it needs.
-use Rattle.write_rows.specs.Onward.{tried-as}
+use Rattle.meaning.specs.Memory.{roomOf}
+use Rattle.write_rows.specs.Onward.{tried-as, needed-is}
 use Rattle.write_rows.specs.Laying.{laid-layable}
 use Rattle.write_inside.proofs.Choosing.{after-first, parameter-row}
 use Rattle.meaning.specs.Editions.{state, parameters, behaviourValue, outer, opens, on_▸_▸_▸_}
 use Rattle.meaning.specs.Kinds.{behaviourOpens}
 use Rattle.write_inside.proofs.Rooms.{behaviour-first, behaviour-value}
-use Rattle.write_rows.specs.Onward.{needed-is}
 use borrow.Author.Needs.{needs}
 use mathlib.Core.Bool.{false}
 use mathlib.Core.Path.{refl}
-use Prim.Native.Nat.{_+_, _/_, _≤_}
-use lib.ListN.{length}
+use Prim.Native.Nat.{_+_, _≤_}
 use native.Mathlib.Omega.{arith}
 use Rattle.write_inside.proofs.parameters.behaviour.Statement.{statement}
 use Rattle.write_inside.proofs.parameters.behaviour.Tie as tie

@@ -1,61 +1,35 @@
--- `parameters::encrypted`: its row, and the texts behind it.
-use Rattle.write_rows.specs.Onward.{tried-as}
-use Rattle.write_rows.specs.Laying.{laid-layable}
-use Rattle.write_inside.proofs.Choosing.{parameter-row}
-use Rattle.meaning.specs.Editions.{encryptedTexts, outer, opens, on_▸_▸_▸_}
-use Rattle.meaning.specs.Kinds.{encryptedOpens}
-use Rattle.write_inside.proofs.Rooms.{encrypted-first, encrypted-texts}
-use Rattle.write_rows.specs.Onward.{onward-then}
-use Rattle.write_inside.specs.Parameters.{atParameters}
+-- `parameters::encrypted`: by edition; D has no such parameter.
+use Rattle.table.specs.Told.{editionOf}
+use Rattle.laws.specs.Rows.{cellsAt}
+use Rattle.write_inside.proofs.Choosing.{encrypted-as}
+use Rattle.write_rows.specs.Among.{nothing-among}
+use Rattle.write_inside.specs.declared.parameters.Parameter.the-variants.{Last}
+use mathlib.Core.Path.{ap, refl}
 use borrow.Author.Needs.{needs}
-use mathlib.Core.Bool.{false}
-use mathlib.Core.Path.{refl}
-use native.Mathlib.Omega.{arith}
 use Rattle.write_inside.proofs.parameters.encrypted.Statement.{statement}
 use Rattle.write_inside.proofs.parameters.encrypted.Tie as tie
 
-opened-requires : tie.Need-opened-requires
-opened-requires c κs = record { inside = c .before .before .before .before .pre .inside; inner = omega arith; coded = omega arith; layable = c .before .before .before .before .pre .layable }
-
-enum-known-t : tie.Need-enum-known-t
-enum-known-t c = search needs
-
 enum-told : tie.Need-enum-told
 enum-told c = search needs
+
+encrypted-in-b-requires : tie.Need-encrypted-in-b-requires
+encrypted-in-b-requires c κs = search needs
+
+enum-told-2 : tie.Need-enum-told-2
+enum-told-2 c = search needs
 
 same-length : tie.Need-same-length
 same-length c = search needs
 
 returns : tie.Need-returns
-returns c = tried-as _ _ _ _ _ _ _ _ (c .enum-told .given .1) (c .before .before .before .before .opened .ensures (outer encryptedTexts))
-
-add-k : tie.Need-add-k
-add-k c = search needs
-
-texts-requires : tie.Need-texts-requires
-texts-requires c κs =
-    let first = tried-as _ _ _ _ _ _ _ _ (c .before .before .t .given .1) (c .before .before .before .before .before .before .opened .ensures (outer encryptedTexts)) in
-    record { inside = omega (arith, first .ahead .within); inner = omega arith; coded = omega arith; layable = laid-layable (first .laid) (c .before .before .before .before .before .before .before .before .before .before .before .pre .layable) }
-
-same-length-2 : tie.Need-same-length-2
-same-length-2 c = search needs
+returns c = encrypted-as _ _ _ _ _ (c .before .before .encrypted-in-b .result) _ (ap editionOf (c .before .before .before .before .enum-told .given .1)) (c .before .before .encrypted-in-b .ensures)
 
 returns-2 : tie.Need-returns-2
 returns-2 c =
-    let first = tried-as _ _ _ _ _ _ _ _ (c .before .before .before .before .before .t .given .1) (c .before .before .before .before .before .before .before .before .before .opened .ensures (outer encryptedTexts)) in
-    let items = c .before .before .texts .ensures false encryptedTexts false atParameters encrypted-texts in
-    (onward-then (c .before .before .before .before .before .before .before .before .before .before .before .before .before .before .pre .layable .small) (parameter-row false _ _ (on 0x08 ▸ encryptedOpens ▸ opens ▸ outer encryptedTexts) encrypted-first refl first) items, omega (arith, items .later))
+    let a = c .before .before .before .before .before .args in
+    encrypted-as (a .pool .now) (a .rows .now) (a .i) (a .output .now) (a .at) Last _ (ap editionOf (c .enum-told2 .given .1)) (refl, nothing-among 0 (cellsAt (a .pool .now) (a .rows .now) (a .i)))
 
 pub encrypted-spec : {M : Type 1} → statement M
 encrypted-spec =
     tie.close
-    (tie.spec
-    opened-requires
-    enum-known-t
-    enum-told
-    same-length
-    returns
-    add-k
-    texts-requires
-    same-length-2
-    returns-2)
+    (tie.spec enum-told encrypted-in-b-requires enum-told-2 same-length returns returns-2)

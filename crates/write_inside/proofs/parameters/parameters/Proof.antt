@@ -1,10 +1,10 @@
 -- `parameters::parameters`: parameter by parameter, until the row ahead begins none.
-use Prim.Native.Nat.{_-_, _/_, _≤_}
+use Prim.Native.Nat.{_-_, _≤_}
+use Rattle.meaning.specs.Memory.{roomOf}
+use Rattle.table.specs.Told.{editionOf}
 use Rattle.write_inside.proofs.Choosing.{found-as, parameters-end}
-use Rattle.write_rows.specs.Laying.{laid-length}
-use Rattle.write_rows.specs.Onward.{laid-from, layable-from}
-use Rattle.write_rows.specs.Onward.{onward-layable, onward-none, onward-stuck, onward-then}
-use Rattle.write_rows.specs.Laying.{Layable}
+use Rattle.write_rows.specs.Laying.{laid-length, Layable}
+use Rattle.write_rows.specs.Onward.{laid-from, layable-from, onward-layable, onward-none, onward-stuck, onward-then}
 use Rattle.write_inside.specs.Parameters.{atParameters}
 use Rattle.write_rows.specs.Stages.{Onward}
 use borrow.Author.Needs.{needs}
@@ -16,7 +16,7 @@ use Rattle.write_inside.proofs.parameters.parameters.Tie as tie
 
 abbrev Inv-loop : tie.InvT-loop
 Inv-loop rows pool from edition output₀ at i₀ p₀ output i p =
-    (i ≤ roomOf rows) × Layable output p × (length output ≡ length output₀) × Onward edition pool rows from atParameters i atParameters output₀ at output p
+    (i ≤ roomOf rows) × Layable output p × (length output ≡ length output₀) × Onward (editionOf edition) pool rows from atParameters i atParameters output₀ at output p
 
 abbrev μ-loop : tie.MeasureT-loop
 μ-loop rows pool from edition output₀ at i₀ p₀ output i p = roomOf rows - i

@@ -1,4 +1,5 @@
 -- `parameters::received_in`: the code 0A leads to the received object.
+use Rattle.table.specs.Told.{editionOf}
 use Rattle.write_inside.proofs.Rooms.{pass-receives}
 use Rattle.write_inside.proofs.Choosing.{found-advance, pass-on}
 use Rattle.write_rows.specs.Laying.{laid-layable}

@@ -5,8 +5,8 @@ use mathlib.Core.Path.{ap, sym}
 use Rattle.write_inside.proofs.parameters.single.Statement.{statement}
 use Rattle.write_inside.proofs.parameters.single.Tie as tie
 
-enum-known-t : tie.Need-enum-known-t
-enum-known-t c = search needs
+enum-known-tried : tie.Need-enum-known-tried
+enum-known-tried c = search needs
 
 enum-told : tie.Need-enum-told
 enum-told c = search needs
@@ -18,13 +18,13 @@ add-next : tie.Need-add-next
 add-next c = search needs
 
 returns-2 : tie.Need-returns-2
-returns-2 c = sym (ap (afterOne (c .before .before .before .args .i)) (c .before .t .given .1))
+returns-2 c = sym (ap (afterOne (c .before .before .before .args .i)) (c .before .tried .given .1))
 
 pub single-spec : {M : Type 1} → statement M
 single-spec =
     tie.close
     (tie.spec
-    enum-known-t
+    enum-known-tried
     enum-told
     returns
     add-next

@@ -1,11 +1,11 @@
 -- `received::received`: by, date, and what is behind them.
 use Rattle.meaning.specs.Editions.{state, parameters, inner, stay, receivedBegins, receivedDate, afterDate}
-use Rattle.write_rows.specs.Onward.{tried-as}
+use Rattle.meaning.specs.Memory.{roomOf}
+use Rattle.table.specs.Told.{editionOf}
+use Rattle.write_rows.specs.Onward.{tried-as, beyond, needed-lost, needed-on, onward-stuck, onward-then, advance-then}
 use Rattle.write_rows.specs.Laying.{laid-layable}
-use Rattle.write_rows.specs.Onward.{beyond, needed-lost, needed-on, onward-stuck, onward-then, advance-then}
 use Rattle.write_inside.proofs.Rooms.{received-by, received-date}
-use Prim.Native.Nat.{_+_, _/_, _<_}
-use lib.ListN.{length}
+use Prim.Native.Nat.{_+_, _<_}
 use borrow.Author.Needs.{needs}
 use mathlib.Core.Bool.{false}
 use native.Mathlib.Omega.{arith}

@@ -1,19 +1,18 @@
--- `parameters::own`: a key, and the value that it needs.
-use Rattle.write_rows.specs.Onward.{tried-as}
+-- `parameters::own_parameter`: a key, and the value that it needs.
+use Rattle.meaning.specs.Memory.{roomOf}
+use Rattle.write_rows.specs.Onward.{tried-as, needed-is}
 use Rattle.write_rows.specs.Laying.{laid-layable}
 use Rattle.write_inside.proofs.Choosing.{after-first, parameter-row}
 use Rattle.meaning.specs.Editions.{state, parameters, ownText, outer, text, on_▸_▸_▸_}
 use Rattle.meaning.specs.Kinds.{ownKey}
 use Rattle.write_inside.proofs.Rooms.{own-first, own-text}
-use Rattle.write_rows.specs.Onward.{needed-is}
 use borrow.Author.Needs.{needs}
 use mathlib.Core.Bool.{false}
 use mathlib.Core.Path.{refl}
-use Prim.Native.Nat.{_+_, _/_, _≤_}
-use lib.ListN.{length}
+use Prim.Native.Nat.{_+_, _≤_}
 use native.Mathlib.Omega.{arith}
-use Rattle.write_inside.proofs.parameters.own.Statement.{statement}
-use Rattle.write_inside.proofs.parameters.own.Tie as tie
+use Rattle.write_inside.proofs.parameters.own_parameter.Statement.{statement}
+use Rattle.write_inside.proofs.parameters.own_parameter.Tie as tie
 
 text-requires : tie.Need-text-requires
 text-requires c κs = record { inside = c .before .before .before .before .pre .inside; inner = omega arith; coded = omega arith; layable = c .before .before .before .before .pre .layable }
@@ -56,8 +55,8 @@ returns-2 c edition =
     after-first edition _ (c .before .before .before .before .before .before .before .before .before .before .before .before .before .before .before .before .pre .layable .small) (parameter-row edition _ _ (on 0x00 ▸ ownKey ▸ text ▸ outer ownText) (own-first edition) refl first) (c .before .needed .result) _
     (needed-is edition _ _ _ (state ownText 0 false) (own-text edition) _ _ (c .before .before .before .before .text2 .result) _ (c .before .before .before .before .text2 .ensures (outer parameters)) (c .before .needed .ensures)) (c .begun .ensures)
 
-pub own-spec : {M : Type 1} → statement M
-own-spec =
+pub own-parameter-spec : {M : Type 1} → statement M
+own-parameter-spec =
     tie.close
     (tie.spec
     text-requires
