@@ -11,6 +11,7 @@ use Rattle.meaning.specs.Headers.{start, envelopeMost}
 use Rattle.meaning.specs.Writing.{Cell, Plan, stuck, newPlan, Limit}
 use Rattle.meaning.specs.Told.{Edition}
 use Rattle.meaning.specs.Memory.{roomOf}
+use Rattle.meaning.specs.Kinds.{baseOpens}
 use Rattle.write_rows.specs.Laying.{capped, capped-most}
 use Rattle.laws.specs.Rows.{cellsAt, cells-next, cells-none, cells-part, wholeRows}
 use Rattle.write_rows.specs.Bodies.{Body, halt, body, bodyOf}

@@ -10,6 +10,7 @@ use Rattle.meaning.specs.Writing.{Envelope, Plan, wholePlan, Limit, fine}
 use Rattle.laws.specs.Rows.{cellsAt}
 use Rattle.meaning.specs.Told.{Edition}
 use Rattle.meaning.specs.Headers.{envelopesMost}
+use Rattle.meaning.specs.Kinds.{baseOpens}
 use Rattle.write_inside.specs.Insides.{openNumber}
 use Rattle.write_envelopes.specs.Whole.{bad, needs, verdict, sized, limitOf, checkedOf, envelopesOf, insides, insidesOf, Begins, CheckedAs}
 use Rattle.write_envelopes.specs.declared.measure.Checked.{Checked}

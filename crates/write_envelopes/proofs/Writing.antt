@@ -14,6 +14,7 @@ use Rattle.laws.specs.Envelopes.{wrap-length}
 use Rattle.laws.specs.Rows.{cellsAt}
 use Rattle.meaning.specs.Told.{Edition}
 use Rattle.meaning.specs.Headers.{envelopeMost, envelopesMost}
+use Rattle.meaning.specs.Kinds.{baseOpens}
 use Rattle.write_rows.specs.Bodies.{halt, body}
 use Rattle.write_inside.specs.Insides.{openNumber}
 use Rattle.write_envelopes.specs.Whole.{verdict, bytesOfPlan, insides, insidesOf, Begins, Writable, EnvelopeWritten}

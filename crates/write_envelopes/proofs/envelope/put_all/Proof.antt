@@ -1,5 +1,5 @@
 -- `envelope::put_all`: the bytes so far, in front of the output as it was; the check rules out what is not written.
-use Prim.Native.Nat.{_-_}
+use Prim.Native.Nat.{_-_, _≤_}
 use Rattle.meaning.specs.Memory.{roomOf}
 use Rattle.table.specs.Told.{editionOf}
 use Rattle.write_envelopes.proofs.Checking.{ends-later, here, measured-ended, measured-stuck, row-inside}
@@ -19,7 +19,7 @@ abbrev μ-loop : tie.MeasureT-loop
 μ-loop edition rows pool lengths output₀ i₀ k₀ at₀ output i k at = roomOf rows - i
 
 loop-holds : tie.Need-loop-holds Inv-loop μ-loop
-loop-holds c = let a = c .before .before .before .before .args in writing-starts (editionOf (a .edition)) (a .pool .now) (a .rows .now) (a .lengths .now) (a .output .now)
+loop-holds c = let a = c .before .before .before .before .args in (omega arith, writing-starts (editionOf (a .edition)) (a .pool .now) (a .rows .now) (a .lengths .now) (a .output .now))
 
 open-at-requires : tie.Need-open-at-requires Inv-loop μ-loop
 open-at-requires c κs = search needs
@@ -179,7 +179,7 @@ loop-again c =
     let h = c .before .before .before .before .before .before .before .before .before .before .if1 .left in
     let x = c .before .before .before .before .before .before .before .put-envelope .ensures in
     let z = measured-ended (here (editionOf (a .edition)) (a .pool .now) (a .rows .now) (l .i) o h) (a .pool .now) (a .rows .now) (c .before .before .before .r .given .1) (x .inside) in
-    λ w. writing-on (editionOf (a .edition)) (a .pool .now) (a .rows .now) (a .lengths .now) (a .output .now) w (l .inv .1 w) o h z x (c .size-of .ensures .0) (c .before .if2 .left)
+    (z .3, λ w. writing-on (editionOf (a .edition)) (a .pool .now) (a .rows .now) (a .lengths .now) (a .output .now) w (l .inv .1 w) o h z x (c .size-of .ensures .0) (c .before .if2 .left))
 
 pub put-all-spec : {M : Type 1} → statement M
 put-all-spec =

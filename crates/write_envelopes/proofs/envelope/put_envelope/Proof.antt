@@ -1,5 +1,6 @@
 -- `envelope::put_envelope`: the head's part and the inside's part, put back.
 use Prim.Native.Nat.{_+_, _-_, ℕ}
+use Rattle.meaning.specs.Kinds.{baseOpens}
 use Rattle.write_envelopes.proofs.Envelopes.{envelope-laid, size-least, take-most}
 use Rattle.write_rows.specs.Laying.{laid-length}
 use borrow.Author.Needs.{needs}

@@ -1,4 +1,5 @@
 -- `envelope::put_head`: the identifier, and the length in its form.
+use Rattle.meaning.specs.Kinds.{baseOpens}
 use Rattle.write_envelopes.proofs.Envelopes.{head-long, head-short, one-as}
 use Rattle.write_rows.specs.Laying.{laid-as, laid-layable, laid-then}
 use borrow.Author.Needs.{needs}

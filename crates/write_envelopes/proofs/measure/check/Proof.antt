@@ -8,10 +8,10 @@ use Rattle.write_envelopes.proofs.Noting.{Noting, checked-bad, noting-e
 use Rattle.write_envelopes.proofs.Wholes.{whole-edge}
 use Rattle.laws.specs.Rows.{cellsAt}
 use Rattle.table.specs.Told.{editionOf}
-use Rattle.write_envelopes.specs.Whole.{Begins, checkedOf, insidesOf, limitOf, verdict}
+use Rattle.write_envelopes.specs.Whole.{Begins, checkedOf, insidesOf, limitOf, needs as needed, verdict}
 use borrow.Author.Needs.{needs}
 use mathlib.Core.List.{List}
-use mathlib.Core.Path.{_∙_, _≡_, ap, refl, subst, sym}
+use mathlib.Core.Path.{_∙_, _≡_, ap, subst, sym}
 use native.Mathlib.Omega.{arith}
 use Rattle.write_envelopes.proofs.measure.check.Statement.{statement}
 use Rattle.write_envelopes.proofs.measure.check.Tie as tie
@@ -26,19 +26,22 @@ loop-holds : tie.Need-loop-holds Inv-loop μ-loop
 loop-holds c =
     let entry = c .before .before .before in
     let a = entry .args in
-    (omega arith, ap (verdict envelopesMost 0 fine) (whole-edge (editionOf (a .edition)) (cellsAt (a .pool .now) (a .rows .now) 0)), noting-starts (editionOf (a .edition)) (a .pool .now) (a .rows .now) (entry .pre))
+    (omega arith, ap (verdict envelopesMost 0 fine) (whole-edge (editionOf (a .edition)) (cellsAt (a .pool .now) (a .rows .now) 0)), noting-starts (editionOf (a .edition)) (a .pool .now) (a .rows .now) (entry .pre), omega arith)
 
 open-at-requires : tie.Need-open-at-requires Inv-loop μ-loop
 open-at-requires c κs = search needs
 
+no-table-requires : tie.Need-no-table-requires Inv-loop μ-loop
+no-table-requires c κs = search needs
+
 same-length : tie.Need-same-length Inv-loop μ-loop
-same-length c = let l = c .before .before .loop in l .inv .2 .long ∙ sym (c .before .before .before .before .before .before .pre)
+same-length c = let l = c .before .before .before .loop in l .inv .2 .long ∙ sym (c .before .before .before .before .before .before .before .pre)
 
 returns : tie.Need-returns Inv-loop μ-loop
 returns c =
-    let a = c .before .before .before .before .before .before .args in
-    let l = c .before .before .loop in
-    checked-bad (wholePlan (editionOf (a .edition)) (cellsAt (a .pool .now) (a .rows .now) 0)) (l .inv .1 ∙ check-none (editionOf (a .edition)) (a .pool .now) (a .rows .now) (l .i) (c .before .open-at .ensures) (l .t) (c .if1 .taken)) refl
+    let a = c .before .before .before .before .before .before .before .args in
+    let l = c .before .before .before .loop in
+    checked-bad (wholePlan (editionOf (a .edition)) (cellsAt (a .pool .now) (a .rows .now) 0)) (l .inv .1 ∙ check-none (editionOf (a .edition)) (a .pool .now) (a .rows .now) (l .i) (c .before .before .open-at .ensures) (l .t) (c .before .if1 .taken)) (c .no-table .ensures)
 
 add-measure : tie.Need-add-measure Inv-loop μ-loop
 add-measure c =
@@ -53,16 +56,19 @@ measure-requires c κs =
 enum-known-r : tie.Need-enum-known-r Inv-loop μ-loop
 enum-known-r c = search needs
 
+no-table-requires-2 : tie.Need-no-table-requires-2 Inv-loop μ-loop
+no-table-requires-2 c κs = search needs
+
 same-length-2 : tie.Need-same-length-2 Inv-loop μ-loop
-same-length-2 c = let l = c .before .before .before .before .before .before .loop in l .inv .2 .long ∙ sym (c .before .before .before .before .before .before .before .before .before .before .pre)
+same-length-2 c = let l = c .before .before .before .before .before .before .before .loop in l .inv .2 .long ∙ sym (c .before .before .before .before .before .before .before .before .before .before .before .pre)
 
 returns-2 : tie.Need-returns-2 Inv-loop μ-loop
 returns-2 c =
-    let a = c .before .before .before .before .before .before .before .before .before .before .args in
-    let l = c .before .before .before .before .before .before .loop in
-    let o = c .before .before .before .before .before .open-at .ensures in
-    let h = c .before .before .before .before .if1 .left in
-    checked-bad (wholePlan (editionOf (a .edition)) (cellsAt (a .pool .now) (a .rows .now) 0)) (l .inv .1 ∙ check-stuck (editionOf (a .edition)) (a .pool .now) (a .rows .now) (l .i) o (l .t) h (measured-stuck (here (editionOf (a .edition)) (a .pool .now) (a .rows .now) (l .i) o h) (a .pool .now) (a .rows .now) (c .before .r .given .1) (c .before .before .before .measure .ensures))) refl
+    let a = c .before .before .before .before .before .before .before .before .before .before .before .args in
+    let l = c .before .before .before .before .before .before .before .loop in
+    let o = c .before .before .before .before .before .before .open-at .ensures in
+    let h = c .before .before .before .before .before .if1 .left in
+    checked-bad (wholePlan (editionOf (a .edition)) (cellsAt (a .pool .now) (a .rows .now) 0)) (l .inv .1 ∙ check-stuck (editionOf (a .edition)) (a .pool .now) (a .rows .now) (l .i) o (l .t) h (measured-stuck (here (editionOf (a .edition)) (a .pool .now) (a .rows .now) (l .i) o h) (a .pool .now) (a .rows .now) (c .before .before .r .given .1) (c .before .before .before .before .measure .ensures))) (c .no-table2 .ensures)
 
 enum-known-r-2 : tie.Need-enum-known-r-2 Inv-loop μ-loop
 enum-known-r-2 c = search needs
@@ -114,7 +120,7 @@ loop-again c =
     let h = c .before .before .before .before .before .before .before .before .before .before .if1 .left in
     let z = measured-ended (here (editionOf (a .edition)) (a .pool .now) (a .rows .now) (l .i) o h) (a .pool .now) (a .rows .now) (c .before .before .before .before .before .before .before .r2 .given .1) (c .before .before .before .before .before .before .before .before .before .measure .ensures) in
     let t = c .before .count-in .ensures in
-    (t .bound, l .inv .1 ∙ check-extension (editionOf (a .edition)) (a .pool .now) (a .rows .now) (l .i) o (l .t) h z t (c .if2 .left), subst (Noting (editionOf (a .edition)) (a .pool .now) (a .rows .now) _ _) (sym (c .before .before .before .before .note .ensures)) (noting-on (editionOf (a .edition)) (a .pool .now) (a .rows .now) (l .t) (l .inv .2) (omega (arith, l .inv .0)) (l .inv .1) o h z (t .less) (c .if2 .left)))
+    (t .bound, l .inv .1 ∙ check-extension (editionOf (a .edition)) (a .pool .now) (a .rows .now) (l .i) o (l .t) h z t (c .if2 .left), subst (Noting (editionOf (a .edition)) (a .pool .now) (a .rows .now) _ _) (sym (c .before .before .before .before .note .ensures)) (noting-on (editionOf (a .edition)) (a .pool .now) (a .rows .now) (l .t) (l .inv .2) (omega (arith, l .inv .0)) (l .inv .1) o h z (t .less) (c .if2 .left)), z .3)
 
 pub check-spec : {M : Type 1} → statement M
 check-spec =
@@ -124,11 +130,13 @@ check-spec =
     μ-loop
     loop-holds
     open-at-requires
+    no-table-requires
     same-length
     returns
     add-measure
     measure-requires
     enum-known-r
+    no-table-requires-2
     same-length-2
     returns-2
     enum-known-r-2
