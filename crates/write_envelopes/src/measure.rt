@@ -1,7 +1,7 @@
 // The pass that checks and measures: "15 over all rows, then 5 (place: the envelope's row)".
 use table::kinds::BASE_OPENS;
-use table::limits::ENVELOPES_MOST;
 use table::limits::ENVELOPE_MOST;
+use table::limits::ENVELOPES_MOST;
 use table::limits::LONG_HEAD;
 use table::limits::SHORT_HEAD;
 use table::limits::SHORT_MOST;

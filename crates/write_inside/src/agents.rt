@@ -15,7 +15,6 @@ use write_rows::ahead::text;
 use write_rows::extras::extras;
 use write_rows::lay::put;
 use write_rows::texts::texts;
-ghost use mathlib.Core.Path.{_≡_};
 ghost use mathlib.Core.Bool.{Bool, false};
 ghost use Prim.Native.Nat.{_-_};
 ghost use Rattle.meaning.specs.Editions.{state, afterName, afterAddresses, afterResolvers, parameters};
@@ -35,14 +34,7 @@ pub enum ListTurn {
 
 // "optionally 02 and addresses (texts, then 01)": lays an agent's addresses from row i on. Answers the row and the place behind them;
 // where row i does not open addresses, both are as they were and nothing is laid.
-fn addresses(
-    rows: &[u32],
-    pool: &[u8],
-    i: usize,
-    level: u32,
-    output: &mut [u8],
-    at: usize,
-) -> Onto
+fn addresses(rows: &[u32], pool: &[u8], i: usize, level: u32, output: &mut [u8], at: usize) -> Onto
     requires { ⌜ Ready (now rows) i (now output) at ⌝ }
     ensures { λ r. ⌜ ((edition : Told.Edition) (single : Bool) → Onward edition (now (pool .entry)) (now (rows .entry)) i (state afterName level single) (r .row) (state afterAddresses level single) (now (output .entry)) at (now (output .exit)) (r .at)) ⌝ }
 {

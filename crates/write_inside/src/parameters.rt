@@ -31,7 +31,7 @@ use write_rows::representation::representation;
 use write_rows::texts::texts;
 ghost use mathlib.Core.Path.{_≡_};
 ghost use mathlib.Core.List.{[], _∷_};
-ghost use mathlib.Core.Bool.{Bool, false};
+ghost use mathlib.Core.Bool.{false};
 ghost use Prim.Native.Nat.{_≤_};
 ghost use Rattle.meaning.specs.Kinds.{ownKey, behaviourOpens};
 ghost use Rattle.meaning.specs.Editions.{state, ownText, behaviourValue, closed, outer, opens, on_▸_▸_▸_};
@@ -85,9 +85,9 @@ fn own_parameter(rows: &[u32], pool: &[u8], i: usize, output: &mut [u8], at: usi
     begun(needed(text(rows, pool, k, OWN_VALUE, 0, NO_CODE, output, p), k))
 }
 
-// "02 `to`, agent list; 03 `from`, one agent; 09 intended receiver, agent list": lays the parameter of this kind and code that row i opens.
+// "02 `to`, agent list; 03 `from`, one agent; 09 intended receiver, agent list": lays the parameter of this kind and code, naming agents, that row i opens.
 // None begins there if row i does not open it. Stuck where its agents are.
-fn agents_in(
+fn naming(
     rows: &[u32],
     pool: &[u8],
     i: usize,
@@ -203,9 +203,19 @@ fn by_kind(
         STANDARD_REPRESENTATION => represented(rows, pool, i, output, at),
         OWN_REPRESENTATION => represented(rows, pool, i, output, at),
         RECEIVED_BY => received_in(rows, pool, i, edition, output, at),
-        TO_OPENS => agents_in(rows, pool, i, TO_OPENS, 0x02, false, edition, output, at),
-        FROM_OPENS => agents_in(rows, pool, i, FROM_OPENS, 0x03, true, edition, output, at),
-        RECEIVER_OPENS => agents_in(rows, pool, i, RECEIVER_OPENS, 0x09, false, edition, output, at),
+        TO_OPENS => naming(rows, pool, i, TO_OPENS, 0x02, false, edition, output, at),
+        FROM_OPENS => naming(rows, pool, i, FROM_OPENS, 0x03, true, edition, output, at),
+        RECEIVER_OPENS => naming(
+            rows,
+            pool,
+            i,
+            RECEIVER_OPENS,
+            0x09,
+            false,
+            edition,
+            output,
+            at,
+        ),
         COMMENTS => single(text(rows, pool, i, COMMENTS, 0, 0x05, output, at), i),
         PAYLOAD_LENGTH => single(number(rows, pool, i, output, at), i),
         PAYLOAD_ENCODING => single(

@@ -14,7 +14,6 @@ use write_rows::dates::date;
 use write_rows::extras::extras;
 use write_rows::lay::put;
 use write_rows::texts::optional;
-ghost use mathlib.Core.Path.{_≡_};
 ghost use mathlib.Core.Bool.{false};
 ghost use Rattle.meaning.specs.Editions.{state, receivedBegins, afterDate, parameters};
 ghost use Rattle.table.specs.Told.{editionOf};

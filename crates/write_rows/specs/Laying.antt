@@ -12,6 +12,7 @@ use native.Mathlib.Numerals.{add-one}
 use borrow.Author.Tests.{le-ltb, ltb-true, ltb-false}
 use Rattle.meaning.specs.Bytes.{lengthBytes, twoBytes, fourBytes}
 use Rattle.meaning.specs.Headers.{envelopeMost}
+
 -- a count that stops at the limit of an envelope
 abbrev pub capped : ℕ → ℕ
 capped n = pick (ltb n envelopeMost) n envelopeMost

@@ -9,7 +9,6 @@ use table::kinds::PAYLOAD_LENGTH;
 use table::rows::Ahead;
 use table::rows::look_ahead;
 use table::rows::nothing;
-ghost use mathlib.Core.Path.{_≡_};
 ghost use mathlib.Core.List.{[], _∷_};
 ghost use Prim.Native.Nat.{_≤_};
 ghost use Rattle.meaning.specs.Kinds.{payloadLength};

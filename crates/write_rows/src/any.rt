@@ -8,7 +8,6 @@ use crate::lay::put_four;
 use crate::lay::put_two;
 use table::kinds::ANY_BYTES;
 use table::kinds::ANY_TEXT;
-ghost use mathlib.Core.Path.{_≡_};
 ghost use Prim.Native.Nat.{_≤_};
 ghost use lib.ListN.{length};
 ghost use Rattle.meaning.specs.Editions.{Next, anyValues};

@@ -5,7 +5,6 @@ use crate::ahead::text;
 use crate::lay::put;
 use table::kinds::OWN_REPRESENTATION;
 use table::kinds::STANDARD_REPRESENTATION;
-ghost use mathlib.Core.Path.{_≡_};
 ghost use Rattle.meaning.specs.Editions.{Next, representations};
 ghost use Rattle.write_rows.specs.Stages.{Ready, TriedIs};
 

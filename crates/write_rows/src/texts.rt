@@ -5,7 +5,6 @@ use crate::ahead::text;
 use crate::lay::put;
 use table::codes::CLOSING;
 use table::codes::NO_CODE;
-ghost use mathlib.Core.Path.{_≡_};
 ghost use mathlib.Core.Bool.{Bool};
 ghost use Rattle.meaning.specs.Told.{Edition};
 ghost use Rattle.meaning.specs.Editions.{Room, State, state, noCode};

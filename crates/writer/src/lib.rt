@@ -11,7 +11,6 @@ use write_envelopes::envelope::put_all;
 use write_envelopes::measure::Checked;
 use write_envelopes::measure::ENVELOPES;
 use write_envelopes::measure::check;
-ghost use mathlib.Core.Path.{_≡_};
 ghost use lib.ListN.{length};
 ghost use Rattle.meaning.specs.Writing.{writeRows};
 ghost use Rattle.meaning.specs.Memory.{cellsOf};

@@ -26,14 +26,14 @@ represented-requires-2 c κs = search needs
 received-in-requires : tie.Need-received-in-requires
 received-in-requires c κs = search needs
 
-agents-in-requires : tie.Need-agents-in-requires
-agents-in-requires c κs = search needs
+naming-requires : tie.Need-naming-requires
+naming-requires c κs = search needs
 
-agents-in-requires-2 : tie.Need-agents-in-requires-2
-agents-in-requires-2 c κs = search needs
+naming-requires-2 : tie.Need-naming-requires-2
+naming-requires-2 c κs = search needs
 
-agents-in-requires-3 : tie.Need-agents-in-requires-3
-agents-in-requires-3 c κs = search needs
+naming-requires-3 : tie.Need-naming-requires-3
+naming-requires-3 c κs = search needs
 
 text-requires : tie.Need-text-requires
 text-requires c κs = search needs
@@ -86,7 +86,7 @@ same-length-4 c = search needs
 returns-4 : tie.Need-returns-4
 returns-4 c =
     let a = c .before .before .before .before .before .before .before .before .before .args in
-    found-kind (editionOf (a .edition)) _ _ _ toOpens (c .before .before .before .before .before .look-ahead .ensures) (c .before .before .before .before .match .keys4) refl _ _ (on 2 ▸ toOpens ▸ opens ▸ agentsNext false ∷ []) (to-first (editionOf (a .edition)) .is) (c .before .before .agents-in .result) _ (c .before .before .agents-in .ensures (to-first (editionOf (a .edition))))
+    found-kind (editionOf (a .edition)) _ _ _ toOpens (c .before .before .before .before .before .look-ahead .ensures) (c .before .before .before .before .match .keys4) refl _ _ (on 2 ▸ toOpens ▸ opens ▸ agentsNext false ∷ []) (to-first (editionOf (a .edition)) .is) (c .before .before .naming .result) _ (c .before .before .naming .ensures (to-first (editionOf (a .edition))))
 
 same-length-5 : tie.Need-same-length-5
 same-length-5 c = search needs
@@ -94,7 +94,7 @@ same-length-5 c = search needs
 returns-5 : tie.Need-returns-5
 returns-5 c =
     let a = c .before .before .before .before .before .before .before .before .before .args in
-    found-kind (editionOf (a .edition)) _ _ _ fromOpens (c .before .before .before .before .before .look-ahead .ensures) (c .before .before .before .before .match .keys5) refl _ _ (on 3 ▸ fromOpens ▸ opens ▸ agentsNext true ∷ []) (from-first (editionOf (a .edition)) .is) (c .before .before .agents-in2 .result) _ (c .before .before .agents-in2 .ensures (from-first (editionOf (a .edition))))
+    found-kind (editionOf (a .edition)) _ _ _ fromOpens (c .before .before .before .before .before .look-ahead .ensures) (c .before .before .before .before .match .keys5) refl _ _ (on 3 ▸ fromOpens ▸ opens ▸ agentsNext true ∷ []) (from-first (editionOf (a .edition)) .is) (c .before .before .naming2 .result) _ (c .before .before .naming2 .ensures (from-first (editionOf (a .edition))))
 
 same-length-6 : tie.Need-same-length-6
 same-length-6 c = search needs
@@ -102,7 +102,7 @@ same-length-6 c = search needs
 returns-6 : tie.Need-returns-6
 returns-6 c =
     let a = c .before .before .before .before .before .before .before .before .before .args in
-    found-kind (editionOf (a .edition)) _ _ _ receiverOpens (c .before .before .before .before .before .look-ahead .ensures) (c .before .before .before .before .match .keys6) refl _ _ (on 9 ▸ receiverOpens ▸ opens ▸ agentsNext false ∷ []) (receiver-first (editionOf (a .edition)) .is) (c .before .before .agents-in3 .result) _ (c .before .before .agents-in3 .ensures (receiver-first (editionOf (a .edition))))
+    found-kind (editionOf (a .edition)) _ _ _ receiverOpens (c .before .before .before .before .before .look-ahead .ensures) (c .before .before .before .before .match .keys6) refl _ _ (on 9 ▸ receiverOpens ▸ opens ▸ agentsNext false ∷ []) (receiver-first (editionOf (a .edition)) .is) (c .before .before .naming3 .result) _ (c .before .before .naming3 .ensures (receiver-first (editionOf (a .edition))))
 
 same-length-7 : tie.Need-same-length-7
 same-length-7 c = search needs
@@ -166,9 +166,9 @@ by-kind-spec =
     represented-requires
     represented-requires-2
     received-in-requires
-    agents-in-requires
-    agents-in-requires-2
-    agents-in-requires-3
+    naming-requires
+    naming-requires-2
+    naming-requires-3
     text-requires
     single-requires
     number-requires

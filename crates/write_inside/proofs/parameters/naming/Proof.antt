@@ -1,4 +1,4 @@
--- `parameters::agents_in`: its row, and the agents behind it.
+-- `parameters::naming`: its row, and the agents behind it.
 use Rattle.table.specs.Told.{editionOf}
 use Rattle.write_rows.specs.Onward.{tried-as, leading}
 use Rattle.write_rows.specs.Laying.{laid-layable}
@@ -8,8 +8,8 @@ use Rattle.write_inside.proofs.Rooms.{agents-begin}
 use Rattle.write_inside.specs.Parameters.{agentsNext}
 use borrow.Author.Needs.{needs}
 use native.Mathlib.Omega.{arith}
-use Rattle.write_inside.proofs.parameters.agents_in.Statement.{statement}
-use Rattle.write_inside.proofs.parameters.agents_in.Tie as tie
+use Rattle.write_inside.proofs.parameters.naming.Statement.{statement}
+use Rattle.write_inside.proofs.parameters.naming.Tie as tie
 
 opened-requires : tie.Need-opened-requires
 opened-requires c κs = search needs
@@ -47,8 +47,8 @@ returns-2 c in-there =
     let opening = parameter-row (editionOf (a .edition)) _ _ (on (a .code) ▸ (a .kind) ▸ opens ▸ agentsNext (a .one)) (in-there .is) (in-there .shallow) first in
     after-first (editionOf (a .edition)) _ (c .before .before .before .before .before .before .before .before .before .before .before .before .before .before .before .pre .layable .small) (leading (agents-begin (a .one)) opening) (c .before .before .before .agents .result) _ (c .before .before .before .agents .ensures) (c .begun .ensures)
 
-pub agents-in-spec : {M : Type 1} → statement M
-agents-in-spec =
+pub naming-spec : {M : Type 1} → statement M
+naming-spec =
     tie.close
     (tie.spec
     opened-requires
