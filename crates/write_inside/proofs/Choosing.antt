@@ -21,8 +21,8 @@ use Rattle.write_rows.specs.Laying.{Laid}
 use Rattle.laws.specs.Rows.{cellsAt}
 use Rattle.write_rows.specs.Rooms.{ofKind, ownAmong, NotAmong}
 use Rattle.table.specs.Rows.{viewed, rowAhead, AheadIs, ahead-cells, ahead-row}
-use Rattle.write_rows.specs.Stages.{RowTaken, TriedIs, Onward, AdvanceIs, Beyond, afterNeeded}
-use Rattle.write_inside.specs.Parameters.{encryptedIn, atParameters, afterOne, afterAdvance, InParameters, ParameterIs, WayAhead, ClosingAhead, FoundIs}
+use Rattle.write_rows.specs.Stages.{RowTaken, TriedIs, Onward, AdvanceIs, Beyond, afterNeeded, atParameters}
+use Rattle.write_inside.specs.Parameters.{encryptedIn, afterOne, afterAdvance, InParameters, ParameterIs, WayAhead, ClosingAhead, FoundIs}
 use Rattle.table.specs.declared.rows.Ahead.{Ahead}
 use Rattle.write_rows.specs.declared.advance.Tried.{Tried}
 use Rattle.write_rows.specs.declared.advance.Tried.the-variants.{To, Other}

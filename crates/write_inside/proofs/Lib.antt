@@ -1,6 +1,4 @@
 pub mod Rooms
 pub mod Others
-pub mod Turning
-pub mod Receiving
 pub mod Choosing
 pub mod Insides

@@ -5,22 +5,19 @@ use mathlib.Core.Bool.{Bool, true, false}
 use mathlib.Core.Path.{_≡_}
 use lib.Dec.{eqb}
 use Rattle.meaning.specs.Kinds.{agentName, encryptedOpens}
-use Rattle.meaning.specs.Editions.{outer, encryptedTexts, State, state, parameters, agentList, oneAgent, Next, inner, innerOne, opens, Move, moves, closing, on_▸_▸_▸_}
+use Rattle.meaning.specs.Editions.{outer, encryptedTexts, parameters, agentList, oneAgent, Next, inner, innerOne, opens, Move, moves, closing, on_▸_▸_▸_}
 use Rattle.meaning.specs.Writing.{Cell, cell, broken, wayTo, opensOf}
 use Rattle.meaning.specs.Told.{Edition, B, D}
 use Rattle.write_rows.specs.Bodies.{halt, opensNumber}
 use Rattle.laws.specs.Rows.{cellsAt}
 use Rattle.write_rows.specs.Rooms.{ofKind, NotAmong}
-use Rattle.write_rows.specs.Stages.{bodyAt, Onward}
+use Rattle.write_rows.specs.Stages.{bodyAt, Onward, atParameters}
 use Rattle.write_rows.specs.declared.advance.Tried.{Tried}
 use Rattle.write_rows.specs.declared.advance.Tried.the-variants.{To, Other}
 use Rattle.write_rows.specs.declared.advance.Advance.{Advance}
 use Rattle.write_rows.specs.declared.advance.Advance.the-variants as advance
 use Rattle.write_inside.specs.declared.parameters.Parameter.{Parameter}
 use Rattle.write_inside.specs.declared.parameters.Parameter.the-variants.{Go, Last, Stuck}
-
-abbrev pub atParameters : State
-atParameters = state parameters 0 false
 
 abbrev pub afterOne : ℕ → Tried → Parameter
 afterOne i (To p) = Go (i + 1) p

@@ -1,6 +1,6 @@
 // The inside of one envelope, stage by stage.
 use crate::parameters::parameters;
-use crate::received::received;
+use write_objects::received::received;
 use table::kinds::BASE_OPENS;
 use table::rows::look_ahead;
 use table::rows::room;
@@ -20,8 +20,7 @@ ghost use Rattle.meaning.specs.Memory.{roomOf};
 ghost use Rattle.laws.specs.Rows.{cellsAt};
 ghost use Rattle.table.specs.Told.{editionOf};
 ghost use Rattle.write_rows.specs.Bodies.{bodyOf};
-ghost use Rattle.write_rows.specs.Stages.{AdvanceIs};
-ghost use Rattle.write_inside.specs.Parameters.{atParameters};
+ghost use Rattle.write_rows.specs.Stages.{AdvanceIs, atParameters};
 ghost use Rattle.write_inside.specs.Insides.{BodyIs, openNumber, endsBefore};
 
 // "15: .. row number from 0"; or the row behind the envelope, and how many bytes its inside has.

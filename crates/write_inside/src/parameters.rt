@@ -1,6 +1,6 @@
 // "Parameters, any order, repeats allowed", and the 01 behind them.
-use crate::agents::agents;
-use crate::received::received;
+use write_objects::agents::agents;
+use write_objects::received::received;
 use table::codes::CLOSING;
 use table::codes::NO_CODE;
 use table::kinds::BEHAVIOUR_OPENS;
@@ -39,8 +39,8 @@ ghost use Rattle.meaning.specs.Told;
 ghost use Rattle.meaning.specs.Told.{B};
 ghost use Rattle.laws.specs.Rows.{cellsAt};
 ghost use Rattle.table.specs.Told.{editionOf};
-ghost use Rattle.write_rows.specs.Stages.{Ready, TakeRequires, AdvanceIs};
-ghost use Rattle.write_inside.specs.Parameters.{atParameters, agentsNext, AgentsIn, afterOne, afterAdvance, encryptedIn, ParameterIs, WayAhead, FoundIs};
+ghost use Rattle.write_rows.specs.Stages.{Ready, TakeRequires, AdvanceIs, atParameters};
+ghost use Rattle.write_inside.specs.Parameters.{agentsNext, AgentsIn, afterOne, afterAdvance, encryptedIn, ParameterIs, WayAhead, FoundIs};
 
 // The row ahead and the place behind a parameter; none begins here; or the row that fits nowhere.
 pub enum Parameter {

@@ -2,14 +2,15 @@
 use Prim.Native.Nat.{ℕ}
 use mathlib.Core.List.{List, [], _∷_}
 use mathlib.Core.Bool.{Bool, false, _&&_, not}
-use mathlib.Core.Path.{_≡_}
+use mathlib.Core.Path.{_≡_, refl}
 use lib.Dec.{eqb}
 use Rattle.meaning.specs.Basics.{pick}
 use Rattle.meaning.specs.Kinds.{agentName, extraKey}
-use Rattle.meaning.specs.Told.{Edition}
+use Rattle.meaning.specs.Told.{Edition, B, D}
 use Rattle.meaning.specs.Editions.{State, state, Room, Next, stay, text, isQuiet, noCode, closing, Move, moves, anyValues, go, on_▸_▸_▸_, pass_▸_}
 use Rattle.meaning.specs.Reading.{isClosed, tooDeep, Row, Found, none, hit, find}
 use Rattle.meaning.specs.Writing.{atLevel, standsFor, isPass, Cell, cell, broken}
+use Rattle.values.specs.Dates.{datesOf}
 
 -- the moves that have a row
 abbrev pub rowsOf : List Move → List Move
@@ -82,3 +83,8 @@ pub record ExtrasIn (e : Edition) (room : Room) (level : ℕ) (single : Bool) (c
   pub next : Next
   pub closes : Closes e room (hit (pass closing ▸ next))
   pub leads : go next (state room level single) ≡ st₁
+
+-- the dates of an edition, which all lead the same way
+pub dates-lead : (edition : Edition) (n : Next) (st : State) → AllLead (datesOf edition n) n st
+dates-lead D n st = (refl, refl, (refl, refl, (refl, refl, (refl, refl, (refl, refl, (refl, refl, tt))))))
+dates-lead B n st = (refl, refl, (refl, refl, tt))

@@ -1,10 +1,11 @@
 -- What a stage of the writer promises, by the row ahead of it.
 use Prim.Native.Nat.{ℕ, _+_, _≤_, _<_}
 use mathlib.Core.List.{List, [], _∷_, _++_}
+use mathlib.Core.Bool.{false}
 use mathlib.Core.Logic.{_⊎_}
 use mathlib.Core.Path.{_≡_}
 use lib.ListN.{length}
-use Rattle.meaning.specs.Editions.{State, Move, noCode}
+use Rattle.meaning.specs.Editions.{state, parameters, State, Move, noCode}
 use Rattle.meaning.specs.Reading.{Row, hit}
 use Rattle.meaning.specs.Writing.{Cell, cell, broken, lead, writeValue, opensOf}
 use Rattle.table.specs.Rows.{rowWith, u32Most, RowAhead, viewed}
@@ -84,3 +85,7 @@ Beyond i (Stuck j) = Unit {0}
 abbrev pub afterNeeded : ℕ → Tried → Advance
 afterNeeded i (To p) = Go (i + 1) p
 afterNeeded i Other = Stuck i
+
+-- between two parameters
+abbrev pub atParameters : State
+atParameters = state parameters 0 false

@@ -3,8 +3,7 @@ use Rattle.table.specs.Told.{editionOf}
 use Rattle.write_inside.proofs.Insides.{represented, stuck-on}
 use Rattle.write_inside.proofs.Rooms.{front-date}
 use Rattle.write_rows.specs.Onward.{needed-is, onward-layable, advance-then}
-use Rattle.write_inside.specs.Parameters.{atParameters}
-use Rattle.write_rows.specs.Stages.{AdvanceIs}
+use Rattle.write_rows.specs.Stages.{atParameters, AdvanceIs}
 use Rattle.meaning.specs.Headers.{start}
 use mathlib.Core.Bool.{Bool, false}
 use mathlib.Core.Path.{refl, subst, sym}

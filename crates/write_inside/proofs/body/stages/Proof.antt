@@ -1,7 +1,7 @@
 -- `body::stages`: the front, then the parameters.
 use Rattle.table.specs.Told.{editionOf}
 use Rattle.write_rows.specs.Onward.{advance-as, advance-then, onward-layable}
-use Rattle.write_inside.specs.Parameters.{atParameters}
+use Rattle.write_rows.specs.Stages.{atParameters}
 use Rattle.write_inside.proofs.Insides.{stuck-on}
 use Rattle.meaning.specs.Editions.{closed, state}
 use Rattle.meaning.specs.Headers.{start}

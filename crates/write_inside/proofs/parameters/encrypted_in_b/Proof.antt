@@ -6,7 +6,7 @@ use Rattle.write_inside.proofs.Choosing.{parameter-row}
 use Rattle.meaning.specs.Editions.{encryptedTexts, outer, opens, on_▸_▸_▸_}
 use Rattle.meaning.specs.Kinds.{encryptedOpens}
 use Rattle.write_inside.proofs.Rooms.{encrypted-first, encrypted-texts}
-use Rattle.write_inside.specs.Parameters.{atParameters}
+use Rattle.write_rows.specs.Stages.{atParameters}
 use borrow.Author.Needs.{needs}
 use mathlib.Core.Bool.{false}
 use mathlib.Core.Path.{refl}

@@ -5,8 +5,7 @@ use Rattle.table.specs.Told.{editionOf}
 use Rattle.write_inside.proofs.Choosing.{found-as, parameters-end}
 use Rattle.write_rows.specs.Laying.{laid-length, Layable}
 use Rattle.write_rows.specs.Onward.{laid-from, layable-from, onward-layable, onward-none, onward-stuck, onward-then}
-use Rattle.write_inside.specs.Parameters.{atParameters}
-use Rattle.write_rows.specs.Stages.{Onward}
+use Rattle.write_rows.specs.Stages.{atParameters, Onward}
 use borrow.Author.Needs.{needs}
 use lib.ListN.{length}
 use mathlib.Core.Path.{_≡_, refl, _∙_}

@@ -4,7 +4,7 @@ use Rattle.write_inside.proofs.Rooms.{pass-receives}
 use Rattle.write_inside.proofs.Choosing.{found-advance, pass-on}
 use Rattle.write_rows.specs.Laying.{laid-layable}
 use Rattle.write_rows.specs.Onward.{advance-then}
-use Rattle.write_inside.specs.Parameters.{atParameters}
+use Rattle.write_rows.specs.Stages.{atParameters}
 use borrow.Author.Needs.{needs}
 use Rattle.write_inside.proofs.parameters.received_in.Statement.{statement}
 use Rattle.write_inside.proofs.parameters.received_in.Tie as tie

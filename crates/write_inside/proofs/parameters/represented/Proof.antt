@@ -4,7 +4,7 @@ use Rattle.write_inside.proofs.Rooms.{pass-represents, parameter-repres
 use Rattle.write_inside.proofs.Choosing.{beyond-one, found-advance, pass-on}
 use Rattle.write_rows.specs.Laying.{laid-layable}
 use Rattle.write_rows.specs.Onward.{needed-is, advance-then}
-use Rattle.write_inside.specs.Parameters.{atParameters}
+use Rattle.write_rows.specs.Stages.{atParameters}
 use borrow.Author.Needs.{needs}
 use mathlib.Core.Bool.{false}
 use Rattle.write_inside.proofs.parameters.represented.Statement.{statement}

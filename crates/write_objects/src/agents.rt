@@ -23,7 +23,7 @@ ghost use Rattle.laws.specs.Rows.{cellsAt};
 ghost use Rattle.table.specs.Told.{editionOf};
 ghost use Rattle.write_rows.specs.Rooms.{NotAmong};
 ghost use Rattle.write_rows.specs.Stages.{Ready, Onward, AdvanceIs};
-ghost use Rattle.write_inside.specs.Turns.{agentNames, agentsAt, ListTurnRequires, ListTurnIs, rowsAndLevels};
+ghost use Rattle.write_objects.specs.Turns.{agentNames, agentsAt, ListTurnRequires, ListTurnIs, rowsAndLevels};
 
 // Where a list of agents goes on, at which level; where the whole list has ended; or the row that fits nowhere.
 pub enum ListTurn {

@@ -2,14 +2,14 @@
 use Rattle.meaning.specs.Editions.{state, parameters, afterDate, afterFrom, afterId, afterVia}
 use Rattle.table.specs.Told.{editionOf}
 use Rattle.write_rows.specs.Onward.{onward-layable, onward-then, advance-then}
-use Rattle.write_inside.proofs.Receiving.{extras-when, extra-small, received-closes}
-use Rattle.write_inside.proofs.Rooms.{received-from, received-id, received-via}
+use Rattle.write_objects.proofs.Receiving.{extras-when, extra-small, received-closes}
+use Rattle.write_objects.proofs.Rooms.{received-from, received-id, received-via}
 use mathlib.Core.Bool.{false}
 use mathlib.Core.Path.{ap}
 use native.Mathlib.Omega.{arith}
 use borrow.Author.Needs.{needs}
-use Rattle.write_inside.proofs.received.behind_date.Statement.{statement}
-use Rattle.write_inside.proofs.received.behind_date.Tie as tie
+use Rattle.write_objects.proofs.received.behind_date.Statement.{statement}
+use Rattle.write_objects.proofs.received.behind_date.Tie as tie
 
 optional-requires : tie.Need-optional-requires
 optional-requires c κs = search needs

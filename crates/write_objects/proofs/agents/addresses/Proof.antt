@@ -3,12 +3,12 @@ use Rattle.meaning.specs.Editions.{state, stay, afterName, addressTexts, afterA
 use Rattle.write_rows.specs.Onward.{tried-as, unmoved, onward-then}
 use Rattle.write_rows.specs.Laying.{laid-layable}
 use Rattle.write_rows.specs.Optional.{part-off, part-on}
-use Rattle.write_inside.proofs.Rooms.{address-texts, agent-addresses}
+use Rattle.write_objects.proofs.Rooms.{address-texts, agent-addresses}
 use borrow.Author.Needs.{needs}
 use mathlib.Core.Path.{refl}
 use native.Mathlib.Omega.{arith}
-use Rattle.write_inside.proofs.agents.addresses.Statement.{statement}
-use Rattle.write_inside.proofs.agents.addresses.Tie as tie
+use Rattle.write_objects.proofs.agents.addresses.Statement.{statement}
+use Rattle.write_objects.proofs.agents.addresses.Tie as tie
 
 opened-requires : tie.Need-opened-requires
 opened-requires c κs = record { inside = c .before .before .before .before .pre .inside; inner = omega arith; coded = omega arith; layable = c .before .before .before .before .pre .layable }

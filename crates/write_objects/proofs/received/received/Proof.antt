@@ -4,13 +4,13 @@ use Rattle.meaning.specs.Memory.{roomOf}
 use Rattle.table.specs.Told.{editionOf}
 use Rattle.write_rows.specs.Onward.{tried-as, beyond, needed-lost, needed-on, onward-stuck, onward-then, advance-then}
 use Rattle.write_rows.specs.Laying.{laid-layable}
-use Rattle.write_inside.proofs.Rooms.{received-by, received-date}
+use Rattle.write_objects.proofs.Rooms.{received-by, received-date}
 use Prim.Native.Nat.{_+_, _<_}
 use borrow.Author.Needs.{needs}
 use mathlib.Core.Bool.{false}
 use native.Mathlib.Omega.{arith}
-use Rattle.write_inside.proofs.received.received.Statement.{statement}
-use Rattle.write_inside.proofs.received.received.Tie as tie
+use Rattle.write_objects.proofs.received.received.Statement.{statement}
+use Rattle.write_objects.proofs.received.received.Tie as tie
 
 text-requires : tie.Need-text-requires
 text-requires c κs = search needs

@@ -5,15 +5,15 @@ use Rattle.meaning.specs.Reading.{levelMost}
 use Rattle.table.specs.Told.{editionOf}
 use Rattle.write_rows.specs.Laying.{laid-length, Layable}
 use Rattle.write_rows.specs.Onward.{onward-layable, onward-none, onward-stuck, onward-then}
-use Rattle.write_inside.proofs.Turning.{turn-as}
+use Rattle.write_objects.proofs.Turning.{turn-as}
 use Rattle.write_rows.specs.Stages.{Onward}
-use Rattle.write_inside.specs.Turns.{agentsAt, rowsAndLevels}
+use Rattle.write_objects.specs.Turns.{agentsAt, rowsAndLevels}
 use borrow.Author.Needs.{needs}
 use lib.ListN.{length}
 use mathlib.Core.Path.{_≡_, refl, _∙_}
 use native.Mathlib.Omega.{arith}
-use Rattle.write_inside.proofs.agents.agents.Statement.{statement}
-use Rattle.write_inside.proofs.agents.agents.Tie as tie
+use Rattle.write_objects.proofs.agents.agents.Statement.{statement}
+use Rattle.write_objects.proofs.agents.agents.Tie as tie
 
 abbrev Inv-loop : tie.InvT-loop
 Inv-loop rows pool from single edition output₀ at i₀ level₀ p₀ output i level p =

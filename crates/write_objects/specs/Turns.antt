@@ -13,8 +13,8 @@ use Rattle.meaning.specs.Reading.{levelMost}
 use Rattle.write_rows.specs.Laying.{Layable}
 use Rattle.write_rows.specs.Bodies.{halt}
 use Rattle.write_rows.specs.Stages.{bodyAt, Onward}
-use Rattle.write_inside.specs.declared.agents.ListTurn.{ListTurn}
-use Rattle.write_inside.specs.declared.agents.ListTurn.the-variants.{On, Done, Stuck}
+use Rattle.write_objects.specs.declared.agents.ListTurn.{ListTurn}
+use Rattle.write_objects.specs.declared.agents.ListTurn.the-variants.{On, Done, Stuck}
 
 abbrev pub agentNames : List Move
 agentNames = on 0x02 ▸ agentName ▸ text ▸ stay afterName ∷ []

@@ -19,11 +19,11 @@ use Rattle.write_rows.specs.Bodies.{halt}
 use Rattle.laws.specs.Rows.{cellsAt}
 use Rattle.write_rows.specs.Rooms.{NotAmong, Closes, ExtrasIn}
 use Rattle.write_rows.specs.Stages.{bodyAt, RowTaken, Onward}
-use Rattle.write_inside.specs.Turns.{agentNames, agentsAt, ListTurnIs}
-use Rattle.write_inside.specs.declared.agents.ListTurn.{ListTurn}
-use Rattle.write_inside.specs.declared.agents.ListTurn.the-variants.{On, Done, Stuck}
+use Rattle.write_objects.specs.Turns.{agentNames, agentsAt, ListTurnIs}
+use Rattle.write_objects.specs.declared.agents.ListTurn.{ListTurn}
+use Rattle.write_objects.specs.declared.agents.ListTurn.the-variants.{On, Done, Stuck}
 use Rattle.write_rows.specs.Among.{sole-move}
-use Rattle.write_inside.proofs.Rooms.{agent-extras, agent-names, list-closes, one-agent}
+use Rattle.write_objects.proofs.Rooms.{agent-extras, agent-names, list-closes, one-agent}
 use Rattle.write_rows.specs.Onward.{leading, onward-then, onward-stuck, taken-on, taken-deep, close-on, lost-on}
 
 -- the code is what the edition says

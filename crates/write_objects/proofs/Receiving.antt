@@ -11,11 +11,10 @@ use Rattle.meaning.specs.Memory.{roomOf}
 use Rattle.write_rows.specs.Laying.{Laid}
 use Rattle.laws.specs.Rows.{cellsAt}
 use Rattle.write_rows.specs.Rooms.{ExtrasIn}
-use Rattle.write_rows.specs.Stages.{Onward}
-use Rattle.write_inside.specs.Parameters.{atParameters}
+use Rattle.write_rows.specs.Stages.{Onward, atParameters}
 use Rattle.write_rows.specs.Among.{nothing-among}
 use Rattle.write_rows.specs.Onward.{close-on}
-use Rattle.write_inside.proofs.Rooms.{received-ends, received-extras}
+use Rattle.write_objects.proofs.Rooms.{received-ends, received-extras}
 
 pub extras-when : {edition : Edition} → edition ≡ D → {code : ℕ} → code ≡ receivedExtraCode edition → ExtrasIn edition afterVia 1 false code atParameters
 extras-when q c = rw (c, q) received-extras

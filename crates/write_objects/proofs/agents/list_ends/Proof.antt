@@ -1,13 +1,13 @@
 -- `agents::list_ends`: the one agent of `from` is missing; a list of level 1 ends; a deeper one ends, and the agent above it.
 use Rattle.table.specs.Told.{editionOf}
 use Rattle.write_rows.specs.Laying.{laid-layable}
-use Rattle.write_inside.proofs.Turning.{list-done, list-up, one-missing, turn-then}
+use Rattle.write_objects.proofs.Turning.{list-done, list-up, one-missing, turn-then}
 use Prim.Native.Nat.{_-_}
-use Rattle.write_inside.specs.Turns.{rowsAndLevels}
+use Rattle.write_objects.specs.Turns.{rowsAndLevels}
 use borrow.Author.Needs.{needs}
 use native.Mathlib.Omega.{arith}
-use Rattle.write_inside.proofs.agents.list_ends.Statement.{statement}
-use Rattle.write_inside.proofs.agents.list_ends.Tie as tie
+use Rattle.write_objects.proofs.agents.list_ends.Statement.{statement}
+use Rattle.write_objects.proofs.agents.list_ends.Tie as tie
 
 returns : tie.Need-returns
 returns c = let a = c .before .before .before .before .args in one-missing (editionOf (a .edition)) _ _ (a .level) (a .single) (c .before .before .before .before .pre .1) (c .if1 .taken)

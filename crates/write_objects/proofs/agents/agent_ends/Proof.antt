@@ -2,11 +2,11 @@
 use Rattle.meaning.specs.Editions.{state, afterResolvers, agentEnds, go}
 use Rattle.table.specs.Told.{editionOf}
 use Rattle.write_rows.specs.Onward.{advance-as}
-use Rattle.write_inside.proofs.Turning.{agent-done, agent-listed, extra-coded, extras-coded}
+use Rattle.write_objects.proofs.Turning.{agent-done, agent-listed, extra-coded, extras-coded}
 use borrow.Author.Needs.{needs}
 use native.Mathlib.Omega.{arith}
-use Rattle.write_inside.proofs.agents.agent_ends.Statement.{statement}
-use Rattle.write_inside.proofs.agents.agent_ends.Tie as tie
+use Rattle.write_objects.proofs.agents.agent_ends.Statement.{statement}
+use Rattle.write_objects.proofs.agents.agent_ends.Tie as tie
 
 agent-extra-requires : tie.Need-agent-extra-requires
 agent-extra-requires c κs = search needs

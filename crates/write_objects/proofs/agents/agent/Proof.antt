@@ -4,15 +4,15 @@ use Rattle.table.specs.Told.{editionOf}
 use Rattle.write_rows.specs.Onward.{tried-as, layable-from, unmoved, onward-layable, onward-then}
 use Rattle.write_rows.specs.Laying.{laid-layable}
 use Rattle.write_rows.specs.Optional.{part-off, part-on}
-use Rattle.write_inside.proofs.Rooms.{agent-resolvers}
-use Rattle.write_inside.proofs.Turning.{name-deep, name-on, resolvers-on, turn-from, turn-then}
+use Rattle.write_objects.proofs.Rooms.{agent-resolvers}
+use Rattle.write_objects.proofs.Turning.{name-deep, name-on, resolvers-on, turn-from, turn-then}
 use Prim.Native.Nat.{_-_}
-use Rattle.write_inside.specs.Turns.{rowsAndLevels}
+use Rattle.write_objects.specs.Turns.{rowsAndLevels}
 use borrow.Author.Needs.{needs}
 use mathlib.Core.Path.{refl}
 use native.Mathlib.Omega.{arith}
-use Rattle.write_inside.proofs.agents.agent.Statement.{statement}
-use Rattle.write_inside.proofs.agents.agent.Tie as tie
+use Rattle.write_objects.proofs.agents.agent.Statement.{statement}
+use Rattle.write_objects.proofs.agents.agent.Tie as tie
 
 text-requires : tie.Need-text-requires
 text-requires c κs = record { inside = c .before .before .before .before .pre .inside; inner = omega arith; coded = omega arith; layable = c .before .before .before .before .pre .layable }
