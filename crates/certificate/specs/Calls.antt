@@ -24,7 +24,7 @@ use Rattle.listing.specs.Listed.{table-length}
 use Rattle.reader.specs.declared.Answer as reader
 use Rattle.reader.specs.declared.Part.{Part}
 use Rattle.reader.specs.Promises.{ReadPromise, PartPromise, PayloadPromise}
-use Rattle.writer.specs.declared.Answer as writer
+use Rattle.table.specs.declared.reply.Reply as writer
 use Rattle.writer.specs.Promise.{WritePromise}
 use Rattle.certificate.specs.OneAnswer.{one-read}
 use Rattle.certificate.specs.Lent.{firstRows, behindRows, rows-read, rows-behind, bytes-written, accepted-call, fills, refuses, lays, written-call, same-count}
@@ -33,13 +33,13 @@ use Rattle.certificate.specs.Lent.{firstRows, behindRows, rows-read, row
 -- An accepted header's rows, written under the same edition with the input as pool, where the output has room: its bytes up to the payload
 -- stand at the output's front, and nothing behind them changed.
 
-pub record SameBytes (input : List ℕ) (was : reader.Answer) (output : List ℕ) (answer : writer.Answer) (after : List ℕ) : Type 0 where
+pub record SameBytes (input : List ℕ) (was : reader.Answer) (output : List ℕ) (answer : writer.Reply) (after : List ℕ) : Type 0 where
   pub answers : answer .answer ≡ 0
   pub ends : answer .place ≡ was .place
   pub count : answer .rows ≡ was .rows
   pub leaves : after ≡ laidOver output (take (was .place) input)
 
-pub read-write-same-bytes : {edition : ℕ} {input before rows output after : List ℕ} {a : reader.Answer} {b : writer.Answer} → T (areBytes input)
+pub read-write-same-bytes : {edition : ℕ} {input before rows output after : List ℕ} {a : reader.Answer} {b : writer.Reply} → T (areBytes input)
     → ReadPromise edition input before a rows → a .answer ≡ 0 → WritePromise edition (firstRows (a .rows) rows) input output b after → a .place ≤ length output
     → SameBytes input a output b after
 read-write-same-bytes {edition} {input} {rows = rows} {output = output} {a = a} t p z q room =
@@ -60,10 +60,10 @@ read-write-same-bytes {edition} {input} {rows = rows} {output = output} {a = a} 
 -- with as many rows, which mean the same; nothing behind them changed.
 
 -- the bytes at the output's front, and a payload
-abbrev pub sent : writer.Answer → List ℕ → List ℕ → List ℕ
+abbrev pub sent : writer.Reply → List ℕ → List ℕ → List ℕ
 sent was out payload = take (was .place) out ++ payload
 
-pub record SameTable (rows pool : List ℕ) (was : writer.Answer) (input before : List ℕ) (answer : reader.Answer) (after : List ℕ) : Type 0 where
+pub record SameTable (rows pool : List ℕ) (was : writer.Reply) (input before : List ℕ) (answer : reader.Answer) (after : List ℕ) : Type 0 where
   pub answers : answer .answer ≡ 0
   pub ends : answer .place ≡ was .place
   pub count : answer .rows ≡ was .rows
@@ -71,7 +71,7 @@ pub record SameTable (rows pool : List ℕ) (was : writer.Answer) (input before 
   pub leaves : behindRows (answer .rows) after ≡ behindRows (answer .rows) before
 
 -- under any edition that reads the written bytes as the same table
-same-table : {edition reading : ℕ} {rows pool output out before after bytes : List ℕ} {a : writer.Answer} {b : reader.Answer} (p : WritePromise edition rows pool output a out) → write edition rows pool (length output) ≡ written bytes
+same-table : {edition reading : ℕ} {rows pool output out before after bytes : List ℕ} {a : writer.Reply} {b : reader.Answer} (p : WritePromise edition rows pool output a out) → write edition rows pool (length output) ≡ written bytes
     → (payload : List ℕ) → ReadPromise reading (sent a out payload) before b after → a .rows ≤ roomOf before → ReadsSame reading bytes payload rows pool → SameTable rows pool a (sent a out payload) before b after
 same-table {reading = reading} {out = out} {after = after} {bytes = bytes} {a = a} {b = b} p w payload q room (found, is, means) =
     let l = lays p w in
@@ -86,7 +86,7 @@ same-table {reading = reading} {out = out} {after = after} {bytes = bytes} {a = 
       leaves = rows-behind f;
     }
 
-pub write-read-same-table : {edition : ℕ} {rows pool output out before after : List ℕ} {a : writer.Answer} {b : reader.Answer} → T (areBytes pool)
+pub write-read-same-table : {edition : ℕ} {rows pool output out before after : List ℕ} {a : writer.Reply} {b : reader.Answer} → T (areBytes pool)
     → WritePromise edition rows pool output a out → a .answer ≡ 0 → (payload : List ℕ) → ReadPromise edition (sent a out payload) before b after → a .rows ≤ roomOf before
     → SameTable rows pool a (sent a out payload) before b after
 write-read-same-table {edition} {rows} {pool} {output} t p z payload q room =
@@ -101,7 +101,7 @@ pub record RefusesLabel (before : List ℕ) (answer : reader.Answer) (after : Li
   pub count : answer .rows ≡ 0
   pub leaves : after ≡ before
 
-pub label-never-lies : (e : Edition) {rows pool output out before after : List ℕ} {a : writer.Answer} {b : reader.Answer} → T (areBytes pool)
+pub label-never-lies : (e : Edition) {rows pool output out before after : List ℕ} {a : writer.Reply} {b : reader.Answer} → T (areBytes pool)
     → WritePromise (numberOf e) rows pool output a out → a .answer ≡ 0 → (payload : List ℕ) → ReadPromise (numberOf (other e)) (sent a out payload) before b after → a .rows ≤ roomOf before
     → ((plainTable rows pool ≡ true) × SameTable rows pool a (sent a out payload) before b after) ⊎ ((plainTable rows pool ≡ false) × RefusesLabel before b after)
 label-never-lies e {rows} {pool} {output} {out} {before} {after} {a} {b} t p z payload q room =
@@ -157,7 +157,7 @@ refused-read-changes-nothing {edition} {input} {before} {after} {a} p some = at 
     at (refused refusal place) r m = m
     at (accepted place rows) r m = fits rows (leb (length rows) (roomOf before)) r m
 
-pub refused-write-changes-nothing : {edition : ℕ} {rows pool before after : List ℕ} {a : writer.Answer} → WritePromise edition rows pool before a after → (a .answer ≡ 0 → ⊥) → after ≡ before
+pub refused-write-changes-nothing : {edition : ℕ} {rows pool before after : List ℕ} {a : writer.Reply} → WritePromise edition rows pool before a after → (a .answer ≡ 0 → ⊥) → after ≡ before
 unfolding writeAnswer writeOutput
 refused-write-changes-nothing {edition} {rows} {pool} {before} {after} {a} p some = at (write edition rows pool (length before)) (ap (λ (r : Reply). r .answer) (p .answers)) (p .leaves)
   where

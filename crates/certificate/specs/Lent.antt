@@ -23,7 +23,7 @@ use Rattle.listing.specs.Listed.{table-length}
 use Rattle.values.specs.declared.encode.Encoded.{Encoded}
 use Rattle.reader.specs.declared.Answer as reader
 use Rattle.reader.specs.Promises.{ReadPromise}
-use Rattle.writer.specs.declared.Answer as writer
+use Rattle.table.specs.declared.reply.Reply as writer
 use Rattle.writer.specs.Promise.{WritePromise}
 
 -- the rows at the front of lent memory, as numbers
@@ -42,7 +42,7 @@ pub record Filled (place : ℕ) (rows : List Placed) (before : List ℕ) (a : re
   pub leaves : after ≡ laidOver before (tableOf rows)
 
 -- what the writer answers and leaves where a table is written
-pub record Laid (bytes rows before : List ℕ) (a : writer.Answer) (after : List ℕ) : Type 0 where
+pub record Laid (bytes rows before : List ℕ) (a : writer.Reply) (after : List ℕ) : Type 0 where
   pub answers : a .answer ≡ 0
   pub ends : a .place ≡ length bytes
   pub count : a .rows ≡ roomOf rows
@@ -67,7 +67,7 @@ module _ {place : ℕ} {rows : List Placed} {before after : List ℕ} {a : reade
   pub rows-behind : behindRows (a .rows) after ≡ behindRows (a .rows) before
   rows-behind = ap (behindRows (a .rows)) (f .leaves) ∙ laid-behind before (tableOf rows) table-long
 
-pub bytes-written : {bytes rows before after : List ℕ} {a : writer.Answer} → Laid bytes rows before a after → take (a .place) after ≡ bytes
+pub bytes-written : {bytes rows before after : List ℕ} {a : writer.Reply} → Laid bytes rows before a after → take (a .place) after ≡ bytes
 bytes-written {bytes} {before = before} {a = a} l = ap (take (a .place)) (l .leaves) ∙ laid-front before bytes (sym (l .ends))
 
 -- The reader
@@ -135,7 +135,7 @@ rows-whole pool (kind ∷ (level ∷ (start ∷ (many ∷ rows)))) (row ∷ tabl
     let rest : cellsOf pool rows ≡ map cell table = cc q in let h = rows-whole pool rows table rest in
     omega arith
 
-module _ {edition : ℕ} {rows pool before after : List ℕ} {a : writer.Answer} (p : WritePromise edition rows pool before a after) where
+module _ {edition : ℕ} {rows pool before after : List ℕ} {a : writer.Reply} (p : WritePromise edition rows pool before a after) where
   abbrev WrittenCall : Type 0
   WrittenCall = (bytes : List ℕ) × (write edition rows pool (length before) ≡ written bytes) × Laid bytes rows before a after
 

@@ -16,7 +16,7 @@ use Rattle.values.specs.Plain.{NumberDecodes, NumberEncodes, DateDecodes, DateE
 use Rattle.reader.specs.declared.Answer as reader
 use Rattle.reader.specs.declared.Part.{Part}
 use Rattle.reader.specs.Promises.{ReadPromise, PartPromise, PayloadPromise}
-use Rattle.writer.specs.declared.Answer as writer
+use Rattle.table.specs.declared.reply.Reply as writer
 use Rattle.writer.specs.Promise.{WritePromise}
 use Rattle.listing.specs.declared.Piece.{Piece}
 use Rattle.listing.specs.Pieces.{NextPiece}
@@ -32,7 +32,7 @@ pub one-read : {edition : ℕ} {input before after later : List ℕ} {a b : read
 one-read p q = (ap (λ (r : Reply). record { answer = r .answer; place = r .place; rows = r .rows }) (same (p .answers) (q .answers)), same (p .rows) (q .rows))
 
 -- writing a table: answer, place and count of rows, and the lent output
-pub one-write : {edition : ℕ} {rows pool before after later : List ℕ} {a b : writer.Answer} → WritePromise edition rows pool before a after → WritePromise edition rows pool before b later → (a ≡ b) × (after ≡ later)
+pub one-write : {edition : ℕ} {rows pool before after later : List ℕ} {a b : writer.Reply} → WritePromise edition rows pool before a after → WritePromise edition rows pool before b later → (a ≡ b) × (after ≡ later)
 one-write p q = (ap (λ (r : Reply). record { answer = r .answer; place = r .place; rows = r .rows }) (same (p .answers) (q .answers)), same (p .leaves) (q .leaves))
 
 -- the payload: the bytes of the part that is handed back

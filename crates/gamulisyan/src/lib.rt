@@ -5,6 +5,7 @@ ghost use Rattle.values.specs.Plain.{NumberDecodes, NumberEncodes, DateDecodes,
 ghost use Rattle.gamulisyan.specs.Version.{version};
 ghost use mathlib.Core.Path.{_≡_};
 use reader::Part;
+use table::reply::Reply;
 use values::date::Date;
 use values::decode::DecodedDate;
 use values::decode::DecodedNumber;
@@ -23,7 +24,7 @@ pub extern "C" fn gamulisyan_write(
     rows: &[u32],
     pool: &[u8],
     output: &mut [u8],
-) -> writer::Answer
+) -> Reply
     ensures { λ r. ⌜ WritePromise edition (now (rows .entry)) (now (pool .entry)) (now (output .entry)) r (now (output .exit)) ⌝ }
 {
     writer::write(edition, rows, pool, output)
