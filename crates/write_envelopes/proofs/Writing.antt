@@ -25,7 +25,7 @@ use Rattle.write_envelopes.proofs.Checking.{rest, here, Ends}
 use Rattle.write_envelopes.proofs.Passing.{Passing, needs-most, passing-none, passing-stuck, passing-body, passing-on, passing-fine, passing-extension, passing-base, passing-first}
 
 -- where the writing stands: before row i and the k-th length, with the bytes so far in front of the output
-pub record Writing (edition : Edition) (pool rows lengths before : List ℕ) (u i k at : ℕ) (output : List ℕ) : Type 0 where
+pub record WritingAt (edition : Edition) (pool rows lengths before : List ℕ) (u i k at : ℕ) (output : List ℕ) : Type 0 where
   may-come : ℕ
   pub bytes : List ℕ
   pub passes : Passing edition pool rows i may-come at u
@@ -35,7 +35,7 @@ pub record Writing (edition : Edition) (pool rows lengths before : List ℕ) (u 
   pub memory : output ≡ bytes ++ drop at before
 
 module _ (edition : Edition) (pool rows lengths before : List ℕ) (w : Writable edition rows pool lengths before) where
-  pub writing-starts : Writing edition pool rows lengths before (w .bytes-needed) 0 0 0 before
+  pub writing-starts : WritingAt edition pool rows lengths before (w .bytes-needed) 0 0 0 before
   writing-starts =
       let q = whole-edge edition (cellsAt pool rows 0) in
       record {
@@ -48,12 +48,12 @@ module _ (edition : Edition) (pool rows lengths before : List ℕ) (w : Writable
         memory = refl;
       }
 
-  pub writing-length : {i k at : ℕ} {output : List ℕ} → Writing edition pool rows lengths before (w .bytes-needed) i k at output → length output ≡ length before
+  pub writing-length : {i k at : ℕ} {output : List ℕ} → WritingAt edition pool rows lengths before (w .bytes-needed) i k at output → length output ≡ length before
   writing-length {i} {k} {at} a =
       let h = needs-most (a .may-come) at (w .bytes-needed) (rest edition pool rows i) (a .passes .is) in
       ap length (a .memory) ∙ length-append (a .bytes) (drop at before) ∙ omega (arith, a .count, w .room, length-drop at before)
 
-  module _ {i k at : ℕ} {output : List ℕ} (a : Writing edition pool rows lengths before (w .bytes-needed) i k at output) {n : ℕ} (q : n ≡ openNumber (cellsAt pool rows i)) where
+  module _ {i k at : ℕ} {output : List ℕ} (a : WritingAt edition pool rows lengths before (w .bytes-needed) i k at output) {n : ℕ} (q : n ≡ openNumber (cellsAt pool rows i)) where
     pub writing-none : {A : Type 0} → n ≡ 0 → A
     writing-none z = passing-none (a .passes) q z
 
@@ -110,7 +110,7 @@ module _ (edition : Edition) (pool rows lengths before : List ℕ) (w : Writable
             ∙ ap (λ (y : List ℕ). y ++ (wrap (eqb n baseOpens) within ++ drop end output)) (ap (take at) (a .memory) ∙ take-at (a .bytes) (drop at before) at (a .count))
             ∙ ap (λ (y : List ℕ). a .bytes ++ (wrap (eqb n baseOpens) within ++ y)) drop-back ∙ sym (append-assoc (a .bytes) (wrap (eqb n baseOpens) within) (drop end before))
 
-        goes-on : (n ≡ baseOpens → ⊥) → Writing edition pool rows lengths before (w .bytes-needed) row (k + 1) end after
+        goes-on : (n ≡ baseOpens → ⊥) → WritingAt edition pool rows lengths before (w .bytes-needed) row (k + 1) end after
         goes-on two =
             let e = ne-eqb n baseOpens two in
             let first = passing-extension (a .passes) q h (z .1) e in
@@ -130,8 +130,8 @@ module _ (edition : Edition) (pool rows lengths before : List ℕ) (w : Writable
               memory = after-is;
             }
 
-        pub writing-on : {size : ℕ} → size ≡ envelopeSize many → (n ≡ baseOpens → ⊥) → Writing edition pool rows lengths before (w .bytes-needed) row (k + 1) (at + size) after
-        writing-on s two = subst (λ (x : ℕ). Writing edition pool rows lengths before (w .bytes-needed) row (k + 1) (at + x) after) (sym s) (goes-on two)
+        pub writing-on : {size : ℕ} → size ≡ envelopeSize many → (n ≡ baseOpens → ⊥) → WritingAt edition pool rows lengths before (w .bytes-needed) row (k + 1) (at + size) after
+        writing-on s two = subst (λ (x : ℕ). WritingAt edition pool rows lengths before (w .bytes-needed) row (k + 1) (at + x) after) (sym s) (goes-on two)
 
         pub writing-ends : n ≡ baseOpens → after ≡ laidOver before (bytesOfPlan (wholePlan edition (cellsAt pool rows 0)))
         unfolding laidOver

@@ -1,11 +1,11 @@
 // The inside of one envelope, stage by stage.
 use crate::parameters::parameters;
-use write_objects::received::received;
 use table::kinds::BASE_OPENS;
 use table::rows::look_ahead;
 use table::rows::room;
 use table::rows::whole;
 use table::told::Edition;
+use write_objects::received::received;
 use write_rows::advance::Advance;
 use write_rows::advance::needed;
 use write_rows::dates::date;

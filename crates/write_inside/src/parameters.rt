@@ -1,6 +1,4 @@
 // "Parameters, any order, repeats allowed", and the 01 behind them.
-use write_objects::agents::agents;
-use write_objects::received::received;
 use table::codes::CLOSING;
 use table::codes::NO_CODE;
 use table::kinds::BEHAVIOUR_OPENS;
@@ -19,6 +17,8 @@ use table::kinds::STANDARD_REPRESENTATION;
 use table::kinds::TO_OPENS;
 use table::rows::look_ahead;
 use table::told::Edition;
+use write_objects::agents::agents;
+use write_objects::received::received;
 use write_rows::advance::Advance;
 use write_rows::advance::Tried;
 use write_rows::advance::needed;
@@ -39,7 +39,7 @@ ghost use Rattle.meaning.specs.Told;
 ghost use Rattle.meaning.specs.Told.{B};
 ghost use Rattle.laws.specs.Rows.{cellsAt};
 ghost use Rattle.table.specs.Told.{editionOf};
-ghost use Rattle.write_rows.specs.Stages.{Ready, TakeRequires, AdvanceIs, atParameters};
+ghost use Rattle.write_rows.specs.Stages.{StageRequires, TakeRequires, AdvanceIs, atParameters};
 ghost use Rattle.write_inside.specs.Parameters.{agentsNext, AgentsIn, afterOne, afterAdvance, encryptedIn, ParameterIs, WayAhead, FoundIs};
 
 // The row ahead and the place behind a parameter; none begins here; or the row that fits nowhere.
@@ -74,7 +74,7 @@ fn begun(s: Advance) -> Parameter
 // "00 own key text, value text": lays the parameter that row i begins. None begins there if it is no such key.
 // Stuck at the next row if that is no value.
 fn own_parameter(rows: &[u32], pool: &[u8], i: usize, output: &mut [u8], at: usize) -> Parameter
-    requires { ⌜ Ready (now rows) i (now output) at ⌝ }
+    requires { ⌜ StageRequires (now rows) i (now output) at ⌝ }
     ensures { λ r. ⌜ ((edition : Told.Edition) → ParameterIs edition (on 0x00 ▸ ownKey ▸ Rattle.meaning.specs.Editions.text ▸ outer ownText ∷ []) (now (pool .entry)) (now (rows .entry)) i (now (output .entry)) at r (now (output .exit))) ⌝ }
 {
     let t = text(rows, pool, i, OWN_KEY, 0, 0x00, output, at);
@@ -112,7 +112,7 @@ fn naming(
 // "0B transport behaviour, an any-value": lays the parameter that row i opens. None begins there if row i does not open it.
 // Stuck at the next row if that is no any-value.
 fn behaviour(rows: &[u32], pool: &[u8], i: usize, output: &mut [u8], at: usize) -> Parameter
-    requires { ⌜ Ready (now rows) i (now output) at ⌝ }
+    requires { ⌜ StageRequires (now rows) i (now output) at ⌝ }
     ensures { λ r. ⌜ ((edition : Told.Edition) → ParameterIs edition (on 0x0b ▸ behaviourOpens ▸ opens ▸ outer behaviourValue ∷ []) (now (pool .entry)) (now (rows .entry)) i (now (output .entry)) at r (now (output .exit))) ⌝ }
 {
     let t = opened(rows, pool, i, BEHAVIOUR_OPENS, 0, 0x0b, output, at);
@@ -125,7 +125,7 @@ fn behaviour(rows: &[u32], pool: &[u8], i: usize, output: &mut [u8], at: usize) 
 
 // "08 encrypted, texts then 01 (B only)": lays the parameter that row i opens in B. None begins there if row i does not open it.
 fn encrypted_in_b(rows: &[u32], pool: &[u8], i: usize, output: &mut [u8], at: usize) -> Parameter
-    requires { ⌜ Ready (now rows) i (now output) at ⌝ }
+    requires { ⌜ StageRequires (now rows) i (now output) at ⌝ }
     ensures { λ r. ⌜ ParameterIs B (encryptedIn B) (now (pool .entry)) (now (rows .entry)) i (now (output .entry)) at r (now (output .exit)) ⌝ }
 {
     let t = opened(rows, pool, i, ENCRYPTED_OPENS, 0, 0x08, output, at);
@@ -149,7 +149,7 @@ fn encrypted(
     output: &mut [u8],
     at: usize,
 ) -> Parameter
-    requires { ⌜ Ready (now rows) i (now output) at ⌝ }
+    requires { ⌜ StageRequires (now rows) i (now output) at ⌝ }
     ensures { λ r. ⌜ ParameterIs (editionOf edition) (encryptedIn (editionOf edition)) (now (pool .entry)) (now (rows .entry)) i (now (output .entry)) at r (now (output .exit)) ⌝ }
 {
     match edition {
@@ -160,7 +160,7 @@ fn encrypted(
 
 // "04 representation": lays the code and row i, whose kind is a representation's. Stuck at row i if it is none.
 fn represented(rows: &[u32], pool: &[u8], i: usize, output: &mut [u8], at: usize) -> Parameter
-    requires { ⌜ Ready (now rows) i (now output) at ⌝ }
+    requires { ⌜ StageRequires (now rows) i (now output) at ⌝ }
     ensures { λ r. ⌜ ((edition : Told.Edition) → WayAhead edition 0x04 (cellsAt (now (pool .entry)) (now (rows .entry)) i) →
         FoundIs edition (now (pool .entry)) (now (rows .entry)) i (now (output .entry)) at r (now (output .exit))) ⌝ }
 {
@@ -177,7 +177,7 @@ fn received_in(
     output: &mut [u8],
     at: usize,
 ) -> Parameter
-    requires { ⌜ Ready (now rows) i (now output) at ⌝ }
+    requires { ⌜ StageRequires (now rows) i (now output) at ⌝ }
     ensures { λ r. ⌜ (WayAhead (editionOf edition) 0x0a (cellsAt (now (pool .entry)) (now (rows .entry)) i) →
         FoundIs (editionOf edition) (now (pool .entry)) (now (rows .entry)) i (now (output .entry)) at r (now (output .exit))) ⌝ }
 {
@@ -194,7 +194,7 @@ fn by_kind(
     output: &mut [u8],
     at: usize,
 ) -> Parameter
-    requires { ⌜ Ready (now rows) i (now output) at ⌝ }
+    requires { ⌜ StageRequires (now rows) i (now output) at ⌝ }
     ensures { λ r. ⌜ FoundIs (editionOf edition) (now (pool .entry)) (now (rows .entry)) i (now (output .entry)) at r (now (output .exit)) ⌝ }
 {
     let r = look_ahead(rows, pool, i);
@@ -239,7 +239,7 @@ pub fn parameters(
     output: &mut [u8],
     at: usize,
 ) -> Advance
-    requires { ⌜ Ready (now rows) from (now output) at ⌝ }
+    requires { ⌜ StageRequires (now rows) from (now output) at ⌝ }
     ensures { λ r. ⌜ AdvanceIs (editionOf edition) (now (pool .entry)) (now (rows .entry)) from atParameters (state closed 0 false) (now (output .entry)) at r (now (output .exit)) ⌝ }
 {
     let mut i = from;

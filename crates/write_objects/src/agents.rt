@@ -22,7 +22,7 @@ ghost use Rattle.meaning.specs.Told;
 ghost use Rattle.laws.specs.Rows.{cellsAt};
 ghost use Rattle.table.specs.Told.{editionOf};
 ghost use Rattle.write_rows.specs.Rooms.{NotAmong};
-ghost use Rattle.write_rows.specs.Stages.{Ready, Onward, AdvanceIs};
+ghost use Rattle.write_rows.specs.Stages.{StageRequires, Onward, AdvanceIs};
 ghost use Rattle.write_objects.specs.Turns.{agentNames, agentsAt, ListTurnRequires, ListTurnIs, rowsAndLevels};
 
 // Where a list of agents goes on, at which level; where the whole list has ended; or the row that fits nowhere.
@@ -35,7 +35,7 @@ pub enum ListTurn {
 // "optionally 02 and addresses (texts, then 01)": lays an agent's addresses from row i on. Answers the row and the place behind them;
 // where row i does not open addresses, both are as they were and nothing is laid.
 fn addresses(rows: &[u32], pool: &[u8], i: usize, level: u32, output: &mut [u8], at: usize) -> Onto
-    requires { ⌜ Ready (now rows) i (now output) at ⌝ }
+    requires { ⌜ StageRequires (now rows) i (now output) at ⌝ }
     ensures { λ r. ⌜ ((edition : Told.Edition) (single : Bool) → Onward edition (now (pool .entry)) (now (rows .entry)) i (state afterName level single) (r .row) (state afterAddresses level single) (now (output .entry)) at (now (output .exit)) (r .at)) ⌝ }
 {
     let t = opened(rows, pool, i, ADDRESSES_OPEN, level, 0x02, output, at);
@@ -152,7 +152,7 @@ pub fn agents(
     output: &mut [u8],
     at: usize,
 ) -> Advance
-    requires { ⌜ Ready (now rows) from (now output) at ⌝ }
+    requires { ⌜ StageRequires (now rows) from (now output) at ⌝ }
     ensures { λ r. ⌜ AdvanceIs (editionOf edition) (now (pool .entry)) (now (rows .entry)) from (agentsAt 1 single) (state parameters 0 false) (now (output .entry)) at r (now (output .exit)) ⌝ }
 {
     let mut i = from;

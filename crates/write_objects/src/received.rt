@@ -17,7 +17,7 @@ use write_rows::texts::optional;
 ghost use mathlib.Core.Bool.{false};
 ghost use Rattle.meaning.specs.Editions.{state, receivedBegins, afterDate, parameters};
 ghost use Rattle.table.specs.Told.{editionOf};
-ghost use Rattle.write_rows.specs.Stages.{Ready, AdvanceIs, Beyond};
+ghost use Rattle.write_rows.specs.Stages.{StageRequires, AdvanceIs, Beyond};
 
 // Lays what stands behind a received object's date, from row i on: from, id and via where they are there, extras in D, and the 01.
 // Stuck at the row behind an extra's key that is no any-value.
@@ -29,7 +29,7 @@ fn behind_date(
     output: &mut [u8],
     at: usize,
 ) -> Advance
-    requires { ⌜ Ready (now rows) i (now output) at ⌝ }
+    requires { ⌜ StageRequires (now rows) i (now output) at ⌝ }
     ensures { λ r. ⌜ AdvanceIs (editionOf edition) (now (pool .entry)) (now (rows .entry)) i (state afterDate 1 false) (state parameters 0 false) (now (output .entry)) at r (now (output .exit)) ⌝ }
 {
     let a = optional(rows, pool, i, RECEIVED_FROM, 1, 0x02, output, at);
@@ -56,7 +56,7 @@ pub fn received(
     output: &mut [u8],
     at: usize,
 ) -> Advance
-    requires { ⌜ Ready (now rows) i (now output) at ⌝ }
+    requires { ⌜ StageRequires (now rows) i (now output) at ⌝ }
     ensures { λ r. ⌜ (AdvanceIs (editionOf edition) (now (pool .entry)) (now (rows .entry)) i (state receivedBegins 0 false) (state parameters 0 false) (now (output .entry)) at r (now (output .exit))) × Beyond i r ⌝ }
 {
     let t = text(rows, pool, i, RECEIVED_BY, 0, NO_CODE, output, at);

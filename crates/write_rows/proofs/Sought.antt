@@ -1,4 +1,4 @@
--- The row ahead by its four numbers, and whether it is of a kind and level.
+-- Whether the row ahead is of a kind and level.
 use Prim.Native.Nat.{ℕ, _+_}
 use mathlib.Core.List.{List, _∷_}
 use mathlib.Core.Logic.{_⊎_, inl, inr}
@@ -9,8 +9,6 @@ use Rattle.table.specs.Rows.{rowWith, noRow, NoRow, RowAhead, AheadIs, viewed, 
 use Rattle.laws.specs.Rows.{cellsAt}
 use Rattle.write_rows.specs.Stages.{NotOf, SoughtIs}
 use Rattle.table.specs.declared.rows.Ahead.{Ahead}
-
--- Of a kind and level
 
 module _ {pool rows : List ℕ} {i : ℕ} {r : Ahead} (kind level : ℕ) (a : AheadIs pool rows i r) where
   pub not-sought : {x : Ahead} → (r .kind ≡ kind → r .level ≡ level → ⊥) → x ≡ noRow → SoughtIs pool rows i kind level x

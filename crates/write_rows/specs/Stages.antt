@@ -44,7 +44,7 @@ pub record RowTaken (l : List Move) (level : ℕ) (pool rows : List ℕ) (i : �
   pub laid : Laid before at (lead move ++ writeValue (move .form) (row .view)) after p
 
 -- what a stage asks: the row ahead is one of the table or its end, and bytes can be laid
-pub record Ready (rows : List ℕ) (i : ℕ) (part : List ℕ) (at : ℕ) : Type 0 where
+pub record StageRequires (rows : List ℕ) (i : ℕ) (part : List ℕ) (at : ℕ) : Type 0 where
   pub inside : i ≤ roomOf rows
   pub layable : Layable part at
 

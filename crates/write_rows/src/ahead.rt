@@ -14,7 +14,7 @@ ghost use Prim.Native.Nat.{_≤_};
 ghost use Rattle.meaning.specs.Kinds.{payloadLength};
 ghost use Rattle.meaning.specs.Editions.{Next, opens, on_▸_▸_▸_};
 ghost use Rattle.meaning.specs.Memory.{roomOf};
-ghost use Rattle.write_rows.specs.Stages.{Ready, SoughtIs, TakeRequires, TriedIs};
+ghost use Rattle.write_rows.specs.Stages.{StageRequires, SoughtIs, TakeRequires, TriedIs};
 
 // The row at i, if it is of this kind and level and its bytes are all in the pool; else a row of kind 0, which no room takes.
 pub fn look_for(rows: &[u32], pool: &[u8], i: usize, kind: u32, level: u32) -> Ahead
@@ -89,7 +89,7 @@ pub fn opened(
 // "06 payload length, number": tries row i as one, and lays the code and its bytes.
 // Where it is another row, or its bytes are no number, nothing is laid.
 pub fn number(rows: &[u32], pool: &[u8], i: usize, output: &mut [u8], at: usize) -> Tried
-    requires { ⌜ Ready (now rows) i (now output) at ⌝ }
+    requires { ⌜ StageRequires (now rows) i (now output) at ⌝ }
     ensures { λ r. ⌜ ((n : Next) → TriedIs (on 0x06 ▸ payloadLength ▸ Rattle.meaning.specs.Editions.number ▸ n ∷ []) 0 (now (pool .entry)) (now (rows .entry)) i (now (output .entry)) at r (now (output .exit))) ⌝ }
 {
     let r = look_for(rows, pool, i, PAYLOAD_LENGTH, 0);

@@ -14,7 +14,7 @@ ghost use Rattle.meaning.specs.Editions.{Next, anyValues};
 ghost use Rattle.table.specs.Rows.{u32Most};
 ghost use Rattle.write_rows.specs.Laying.{Layable, Laid};
 ghost use Rattle.write_rows.specs.Codes.{blockBytes};
-ghost use Rattle.write_rows.specs.Stages.{Ready, TriedIs};
+ghost use Rattle.write_rows.specs.Stages.{StageRequires, TriedIs};
 
 // "16, 17, 19 with a length of 1, 2, 4 bytes .. and that many bytes": lays the code of the shortest length form that the bytes
 // have room in, the length and the bytes. Answers the count behind them.
@@ -41,7 +41,7 @@ fn block(bytes: &[u8], output: &mut [u8], at: usize) -> usize
 // "Any-value: 14 and a text, or .. that many bytes": tries row i as one of this level, and lays it.
 // Where it is another row, or of the text's kind with bytes that are no text, nothing is laid.
 pub fn any(rows: &[u32], pool: &[u8], i: usize, level: u32, output: &mut [u8], at: usize) -> Tried
-    requires { ⌜ Ready (now rows) i (now output) at ⌝ }
+    requires { ⌜ StageRequires (now rows) i (now output) at ⌝ }
     ensures { λ r. ⌜ ((n : Next) → TriedIs (anyValues n) level (now (pool .entry)) (now (rows .entry)) i (now (output .entry)) at r (now (output .exit))) ⌝ }
 {
     let r = look_for(rows, pool, i, ANY_BYTES, level);

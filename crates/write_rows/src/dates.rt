@@ -12,7 +12,7 @@ ghost use mathlib.Core.List.{_++_};
 ghost use Rattle.meaning.specs.Editions.{Next, sharedDate, ownDates};
 ghost use Rattle.table.specs.Told.{editionOf};
 ghost use Rattle.write_rows.specs.Codes.{codeInB, codeInD, dateCode};
-ghost use Rattle.write_rows.specs.Stages.{Ready, TriedIs};
+ghost use Rattle.write_rows.specs.Stages.{StageRequires, TriedIs};
 
 // "Codes in B: 20 absolute, 21 absolute with designator." Takes a row's kind, and whether its bytes have a designator's length.
 // Answers the code; 0 where a row of this kind is no date of B.
@@ -63,7 +63,7 @@ pub fn date(
     output: &mut [u8],
     at: usize,
 ) -> Tried
-    requires { ⌜ Ready (now rows) i (now output) at ⌝ }
+    requires { ⌜ StageRequires (now rows) i (now output) at ⌝ }
     ensures { λ r. ⌜ ((n : Next) → TriedIs (sharedDate n ++ ownDates (editionOf edition) n) level (now (pool .entry)) (now (rows .entry)) i (now (output .entry)) at r (now (output .exit))) ⌝ }
 {
     let r = look_ahead(rows, pool, i);

@@ -6,12 +6,12 @@ use crate::lay::put;
 use table::kinds::OWN_REPRESENTATION;
 use table::kinds::STANDARD_REPRESENTATION;
 ghost use Rattle.meaning.specs.Editions.{Next, representations};
-ghost use Rattle.write_rows.specs.Stages.{Ready, TriedIs};
+ghost use Rattle.write_rows.specs.Stages.{StageRequires, TriedIs};
 
 // "Representation: 10, 11 or 12, or 00 and a text": tries row i as one, and lays it.
 // Where it is another row, or its bytes are none of these, nothing is laid.
 pub fn representation(rows: &[u32], pool: &[u8], i: usize, output: &mut [u8], at: usize) -> Tried
-    requires { ⌜ Ready (now rows) i (now output) at ⌝ }
+    requires { ⌜ StageRequires (now rows) i (now output) at ⌝ }
     ensures { λ r. ⌜ ((n : Next) → TriedIs (representations n) 0 (now (pool .entry)) (now (rows .entry)) i (now (output .entry)) at r (now (output .exit))) ⌝ }
 {
     let r = look_for(rows, pool, i, STANDARD_REPRESENTATION, 0);

@@ -3,7 +3,7 @@ use Prim.Native.Nat.{_-_, _≤_}
 use Rattle.meaning.specs.Memory.{roomOf}
 use Rattle.table.specs.Told.{editionOf}
 use Rattle.write_envelopes.proofs.Checking.{ends-later, here, measured-ended, measured-stuck, row-inside}
-use Rattle.write_envelopes.proofs.Writing.{Writing, writing-ends, writing-length, writing-none, writing-noted, writing-on, writing-starts, writing-stuck}
+use Rattle.write_envelopes.proofs.Writing.{WritingAt, writing-ends, writing-length, writing-none, writing-noted, writing-on, writing-starts, writing-stuck}
 use Rattle.write_envelopes.specs.Whole.{Writable}
 use borrow.Author.Needs.{needs}
 use mathlib.Core.Bool.{false}
@@ -13,7 +13,7 @@ use Rattle.write_envelopes.proofs.envelope.put_all.Statement.{statement
 use Rattle.write_envelopes.proofs.envelope.put_all.Tie as tie
 
 abbrev Inv-loop : tie.InvT-loop
-Inv-loop edition rows pool lengths output₀ i₀ k₀ at₀ output i k at = (i ≤ roomOf rows) × ((w : Writable (editionOf edition) rows pool lengths output₀) → Writing (editionOf edition) pool rows lengths output₀ (w .bytes-needed) i k at output)
+Inv-loop edition rows pool lengths output₀ i₀ k₀ at₀ output i k at = (i ≤ roomOf rows) × ((w : Writable (editionOf edition) rows pool lengths output₀) → WritingAt (editionOf edition) pool rows lengths output₀ (w .bytes-needed) i k at output)
 
 abbrev μ-loop : tie.MeasureT-loop
 μ-loop edition rows pool lengths output₀ i₀ k₀ at₀ output i k at = roomOf rows - i

@@ -1,4 +1,4 @@
--- `stage::needed`: by the two answers.
+-- `advance::needed`: by the two answers.
 use Rattle.write_rows.specs.Stages.{afterNeeded}
 use borrow.Author.Needs.{needs}
 use mathlib.Core.Path.{ap, sym}
