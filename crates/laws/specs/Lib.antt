@@ -12,6 +12,8 @@ pub mod ReadAt
 pub mod Shapes
 pub mod Rooms
 pub mod AgentRooms
+pub mod Finishing
+pub mod Frames
 pub mod Fits
 pub mod WrittenRead
 pub mod PlainRows
