@@ -60,7 +60,6 @@ module _ (s : List ℕ) (base : Bool) (least at head n : ℕ) (room : at + head 
           let d : drop (n - head) (from s (at + head) (length s)) ≡ from s (at + n) (length s) = from-drop s (n - head) (at + head) (length s) (omega arith) (omega arith) ∙ ap (λ (x : ℕ). from s x (length s)) q in
           rw (le-ltb n least low, le-ltb envelopeMost n high, le-ltb (head + length (from s (at + head) (length s))) n (omega (arith, all-is)), front, d) refl
 
-
 -- The length's bytes
 
 module _ (s : List ℕ) (at : ℕ) (base : Bool) (here : at < length s) where
