@@ -42,7 +42,7 @@ returns c =
     let l = c .before .before .loop in
     let a = c .before .before .before .before .before .args in
     let k : l .here < a .end = p .ensures .inside (omega arith) in
-    going (l .herenv .4 ∙ passed-at (source (toldOf (a .told)) (a .s .now) (a .end)) (l .here) (l .count) (l .rows) (p .result) (p .ensures) 1 (c .if1 .taken) (omega arith) (state parameters 0 false) (outer closed) (parameters-stop _)) (omega arith) (omega arith) (omega arith)
+    going (l .inv .4 ∙ passed-at (source (toldOf (a .told)) (a .s .now) (a .end)) (l .here) (l .count) (l .rows) (p .result) (p .ensures) 1 (c .if1 .taken) (omega arith) (state parameters 0 false) (outer closed) (parameters-stop _)) (omega arith) (omega arith) (omega arith)
 
 read-parameter-requires : tie.Need-read-parameter-requires Inv-loop μ-loop
 read-parameter-requires c κs =
