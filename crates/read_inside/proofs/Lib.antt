@@ -1,3 +1,1 @@
-pub mod Stages
-pub mod Values
 pub mod ReceivedRooms

@@ -1,11 +1,11 @@
 // "Agent: 02, name text, optionally 02 and addresses (texts, then 01), optionally 03 and resolvers (an agent list), extras, 01."
 // Each function answers the place behind what it read with the rows then, or the first refusal.
-use crate::Stage;
-use crate::look::CLOSING;
-use crate::look::fault;
-use crate::look::peek;
-use crate::rows;
-use crate::texts;
+use read_rows::Stage;
+use read_rows::look::CLOSING;
+use read_rows::look::fault;
+use read_rows::look::peek;
+use read_rows::rows;
+use read_rows::texts;
 use table::codes::agent_extra;
 use table::kinds::ADDRESS;
 use table::kinds::ADDRESSES_OPEN;
@@ -23,7 +23,7 @@ ghost use Rattle.meaning.specs.Editions.{state, go, agentEnds, listEnds, agentL
 ghost use Rattle.laws.specs.Pouring.{Ready};
 ghost use Rattle.laws.specs.Shapes.{InList};
 ghost use Rattle.table.specs.Told.{toldOf};
-ghost use Rattle.read_inside.specs.Stages.{StateRead, TextRead};
+ghost use Rattle.read_rows.specs.Stages.{StateRead, TextRead};
 
 // "Agent list: agents, then 01", the agents of this level; "12: agent of level 9, its 02".
 pub fn read_list(

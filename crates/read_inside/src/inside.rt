@@ -1,16 +1,16 @@
 // "Extension: FD, length, received object, parameters, 01. Base: FE, length, representation, date, parameters, 01": what stands behind the length.
 // Each function answers the place behind what it read with the rows then, or the first refusal.
-use crate::Stage;
 use crate::parameters::read_parameters;
 use crate::received::read_received;
-use crate::rows;
+use read_rows::Stage;
+use read_rows::rows;
 use table::told::Told;
 ghost use mathlib.Core.Bool.{true, false};
 ghost use Rattle.meaning.specs.Editions.{state, parameters, closed};
 ghost use Rattle.meaning.specs.Headers.{start};
 ghost use Rattle.laws.specs.Pouring.{Ready};
 ghost use Rattle.table.specs.Told.{toldOf};
-ghost use Rattle.read_inside.specs.Stages.{StateRead};
+ghost use Rattle.read_rows.specs.Stages.{StateRead};
 
 // The inside of a base or of an extension, from behind its length up to its 01; nothing is read from `end` on.
 pub fn read_inside(

@@ -1,14 +1,14 @@
 // "Parameters, any order, repeats allowed", up to the envelope's 01.
 // Each function answers the place behind what it read with the rows then, or the first refusal.
-use crate::Stage;
 use crate::agents::read_list;
 use crate::agents::read_one;
-use crate::look::CLOSING;
-use crate::look::fault;
-use crate::look::peek;
 use crate::received::read_received;
-use crate::rows;
-use crate::texts;
+use read_rows::Stage;
+use read_rows::look::CLOSING;
+use read_rows::look::fault;
+use read_rows::look::peek;
+use read_rows::rows;
+use read_rows::texts;
 use table::kinds::BEHAVIOUR_OPENS;
 use table::kinds::COMMENTS;
 use table::kinds::ENCRYPTED_ITEM;
@@ -31,7 +31,8 @@ ghost use Rattle.meaning.specs.Editions.{state, parameters, ownText, agentList,
 ghost use Rattle.laws.specs.Pouring.{Ready, Peeked};
 ghost use Rattle.laws.specs.Shapes.{NoCode};
 ghost use Rattle.table.specs.Told.{toldOf};
-ghost use Rattle.read_inside.specs.Stages.{StateRead, TextRead, OpenedRead, ParameterRead};
+ghost use Rattle.read_rows.specs.Stages.{StateRead, TextRead};
+ghost use Rattle.read_inside.specs.Stages.{OpenedRead, ParameterRead};
 
 // All parameters, and the 01 that closes the envelope.
 pub fn read_parameters(

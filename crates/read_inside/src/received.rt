@@ -1,8 +1,8 @@
 // "Received object: by (text), date, then optionally and in this order 02 from, 03 id, 04 via (texts), then in D extras, then 01."
 // Each function answers the place behind what it read with the rows then, or the first refusal.
-use crate::Stage;
-use crate::rows;
-use crate::texts;
+use read_rows::Stage;
+use read_rows::rows;
+use read_rows::texts;
 use table::codes::received_extra;
 use table::kinds::RECEIVED_BY;
 use table::kinds::RECEIVED_FROM;
@@ -13,7 +13,7 @@ ghost use mathlib.Core.Bool.{false};
 ghost use Rattle.meaning.specs.Editions.{state, receivedBegins, afterDate, parameters};
 ghost use Rattle.laws.specs.Pouring.{Ready};
 ghost use Rattle.table.specs.Told.{toldOf};
-ghost use Rattle.read_inside.specs.Stages.{StateRead};
+ghost use Rattle.read_rows.specs.Stages.{StateRead};
 
 // A received object, from its first text up to its 01.
 pub fn read_received(

@@ -18,8 +18,8 @@ use Rattle.laws.specs.ReadAt.{alike-at, opened-at, passed-at, text-at, too-deep
 use Rattle.laws.specs.Rooms.{end-alike, step-alike}
 use Rattle.laws.specs.Shapes.{InList}
 use Rattle.table.specs.Told.{toldOf}
-use Rattle.read_inside.proofs.Stages.{arrives, begun, foreign-byte, going, handed, moved-to, ready-inside, refusing, row-fits, went}
-use Rattle.read_inside.specs.Stages.{Ran}
+use Rattle.read_rows.specs.Joining.{arrives, begun, foreign-byte, going, handed, moved-to, ready-inside, refusing, row-fits, went}
+use Rattle.read_rows.specs.Stages.{Ran}
 use borrow.Fn.Kinds.{In}
 use borrow.Fn.PlainCycle.{Measures, is, falls, and}
 use Rattle.read_inside.proofs.agents.read_agent.Reads as read-agent
@@ -30,8 +30,8 @@ use Rattle.read_inside.proofs.agents.read_list.Kinds as read-list-kinds
 use Rattle.read_inside.proofs.agents.+read_agent+read_list.Lts-read_list as read-list-lts
 use Rattle.read_inside.proofs.agents.behind_resolvers.Reads as behind-resolvers-reads
 use Rattle.read_inside.proofs.agents.name_and_addresses.Reads as name-and-addresses-reads
-use Rattle.read_inside.proofs.look.fault.Reads as fault-reads
-use Rattle.read_inside.proofs.look.peek.Reads as peek-reads
+use Rattle.read_rows.proofs.look.fault.Reads as fault-reads
+use Rattle.read_rows.proofs.look.peek.Reads as peek-reads
 use Rattle.table.proofs.rows.put_row.Reads as put-row-reads
 use Rattle.read_inside.proofs.agents.+read_agent+read_list.{statement}
 use Rattle.read_inside.proofs.agents.+read_agent+read_list.Tie.{close}

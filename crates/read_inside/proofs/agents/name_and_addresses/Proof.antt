@@ -11,7 +11,7 @@ use Rattle.laws.specs.AgentRooms.{address-texts, name-addresses, name-else}
 use Rattle.laws.specs.Pouring.{ready-opened, ready-to, source}
 use Rattle.laws.specs.ReadAt.{alike-at, opened-at}
 use Rattle.laws.specs.Rooms.{end-alike, step-alike}
-use Rattle.read_inside.proofs.Stages.{begun, going, handed, moved-to, ready-inside, row-fits, went}
+use Rattle.read_rows.specs.Joining.{begun, going, handed, moved-to, ready-inside, row-fits, went}
 use Rattle.read_inside.proofs.agents.name_and_addresses.Statement.{statement}
 use Rattle.read_inside.proofs.agents.name_and_addresses.Tie as tie
 

@@ -9,7 +9,7 @@ use Rattle.laws.specs.AgentRooms.{one-name, one-none}
 use Rattle.laws.specs.Pouring.{ready-next, source}
 use Rattle.laws.specs.ReadAt.{text-at}
 use Rattle.table.specs.Told.{toldOf}
-use Rattle.read_inside.proofs.Stages.{begun, foreign-byte}
+use Rattle.read_rows.specs.Joining.{begun, foreign-byte}
 use Rattle.read_inside.proofs.agents.read_one.Statement.{statement}
 use Rattle.read_inside.proofs.agents.read_one.Tie as tie
 

@@ -6,7 +6,7 @@ use borrow.Author.Needs.{needs}
 use Rattle.meaning.specs.Headers.{start}
 use Rattle.laws.specs.Pouring.{runAt, source}
 use Rattle.table.specs.Told.{toldOf}
-use Rattle.read_inside.proofs.Stages.{begun}
+use Rattle.read_rows.specs.Joining.{begun}
 use Rattle.read_inside.proofs.inside.read_front.Statement.{statement}
 use Rattle.read_inside.proofs.inside.read_front.Tie as tie
 

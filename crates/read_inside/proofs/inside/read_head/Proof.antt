@@ -5,7 +5,7 @@ use Rattle.meaning.specs.Editions.{headDate, headRepresentation, parameters, st
 use Rattle.meaning.specs.Told.{B, told}
 use Rattle.laws.specs.Rooms.{head-date, head-representation}
 use Rattle.table.specs.Told.{toldOf}
-use Rattle.read_inside.proofs.Stages.{begun, handed, moved-to, went}
+use Rattle.read_rows.specs.Joining.{begun, handed, moved-to, went}
 use Rattle.read_inside.proofs.inside.read_head.Statement.{statement}
 use Rattle.read_inside.proofs.inside.read_head.Tie as tie
 

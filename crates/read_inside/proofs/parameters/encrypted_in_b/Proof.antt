@@ -12,7 +12,7 @@ use Rattle.laws.specs.Pouring.{source}
 use Rattle.laws.specs.ReadAt.{opened-at}
 use Rattle.laws.specs.Rooms.{encrypted-look, parameters-none}
 use Rattle.table.specs.Told.{editionOf, toldOf}
-use Rattle.read_inside.proofs.Stages.{begun, foreign-byte}
+use Rattle.read_rows.specs.Joining.{begun, foreign-byte}
 use Rattle.read_inside.proofs.parameters.encrypted_in_b.Statement.{statement}
 use Rattle.read_inside.proofs.parameters.encrypted_in_b.Tie as tie
 

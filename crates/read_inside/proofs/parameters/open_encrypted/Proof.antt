@@ -5,7 +5,7 @@ use borrow.Author.Needs.{needs}
 use Rattle.meaning.specs.Editions.{encryptedTexts, parameters, state}
 use Rattle.laws.specs.Pouring.{ready-opened}
 use Rattle.laws.specs.Rooms.{encrypted-texts}
-use Rattle.read_inside.proofs.Stages.{row-fits}
+use Rattle.read_rows.specs.Joining.{row-fits}
 use Rattle.read_inside.proofs.parameters.open_encrypted.Statement.{statement}
 use Rattle.read_inside.proofs.parameters.open_encrypted.Tie as tie
 

@@ -4,7 +4,7 @@ use native.Mathlib.Omega.{arith}
 use borrow.Author.Needs.{needs}
 use Rattle.laws.specs.AgentRooms.{not-single}
 use Rattle.laws.specs.Pouring.{ready-opened}
-use Rattle.read_inside.proofs.Stages.{row-fits}
+use Rattle.read_rows.specs.Joining.{row-fits}
 use Rattle.read_inside.proofs.parameters.open_list.Statement.{statement}
 use Rattle.read_inside.proofs.parameters.open_list.Tie as tie
 

@@ -10,7 +10,7 @@ use Rattle.laws.specs.Pouring.{ready-next, source}
 use Rattle.laws.specs.ReadAt.{number-at, opened-at, passed-at, text-at}
 use Rattle.laws.specs.Rooms.{parameter-representation}
 use Rattle.table.specs.Told.{toldOf}
-use Rattle.read_inside.proofs.Stages.{begun}
+use Rattle.read_rows.specs.Joining.{begun}
 use Rattle.read_inside.proofs.parameters.read_parameter.Statement.{statement}
 use Rattle.read_inside.proofs.parameters.read_parameter.Tie as tie
 

@@ -12,7 +12,7 @@ use Rattle.laws.specs.Pouring.{runAt, source}
 use Rattle.laws.specs.ReadAt.{passed-at}
 use Rattle.laws.specs.Rooms.{parameters-stop}
 use Rattle.table.specs.Told.{toldOf}
-use Rattle.read_inside.proofs.Stages.{begun, going, handed, moved-to, went}
+use Rattle.read_rows.specs.Joining.{begun, going, handed, moved-to, went}
 use Rattle.read_inside.proofs.parameters.read_parameters.Statement.{statement}
 use Rattle.read_inside.proofs.parameters.read_parameters.Tie as tie
 

@@ -7,9 +7,9 @@ use Rattle.meaning.specs.Editions.{afterDate, afterFrom, afterId, afterVia, par
 use Rattle.laws.specs.Pouring.{ready-to}
 use Rattle.laws.specs.Rooms.{from-optional, id-optional, via-optional}
 use Rattle.table.specs.Told.{editionOf, toldOf}
+use Rattle.read_rows.specs.Joining.{begun, handed, moved-to, went}
+use Rattle.read_rows.specs.Stages.{StateRead}
 use Rattle.read_inside.proofs.ReceivedRooms.{received-code, received-extras}
-use Rattle.read_inside.proofs.Stages.{begun, handed, moved-to, went}
-use Rattle.read_inside.specs.Stages.{StateRead}
 use Rattle.read_inside.proofs.received.behind_date.Statement.{statement}
 use Rattle.read_inside.proofs.received.behind_date.Tie as tie
 

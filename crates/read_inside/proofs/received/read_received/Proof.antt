@@ -9,8 +9,8 @@ use Rattle.laws.specs.Pouring.{ready-to, source}
 use Rattle.laws.specs.ReadAt.{only-text}
 use Rattle.laws.specs.Rooms.{by-look, date-room}
 use Rattle.table.specs.Told.{toldOf}
-use Rattle.read_inside.proofs.Stages.{begun, handed, moved-to, went}
-use Rattle.read_inside.specs.Stages.{StateRead}
+use Rattle.read_rows.specs.Joining.{begun, handed, moved-to, went}
+use Rattle.read_rows.specs.Stages.{StateRead}
 use Rattle.read_inside.proofs.received.read_received.Statement.{statement}
 use Rattle.read_inside.proofs.received.read_received.Tie as tie
 
