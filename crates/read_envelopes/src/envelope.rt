@@ -1,41 +1,39 @@
-// "Extension: FD, length, received object, parameters, 01. Base: FE, length, representation, date, parameters, 01."
-use crate::Stage;
+// One envelope: its identifier and length, its own row, its inside, and whether its 01 stands at the declared end.
 use crate::frame::Frame;
 use crate::frame::frame_at;
-use crate::kinds;
-use crate::parameters::read_parameters;
-use crate::received::read_received;
-use crate::rows;
-use values::Allows;
+use read_inside::inside::read_inside;
+use read_rows::Stage;
+use table::kinds::BASE_OPENS;
+use table::kinds::EXTENSION_OPENS;
+use table::refusals::CLOSED_EARLY;
+use table::rows::put_row;
+use table::told::Told;
 ghost use mathlib.Core.Path.{_≡_};
-ghost use mathlib.Core.Bool.{true, false};
-ghost use Rattle.meaning.specs.Told.{Edition, known, labelOf};
-ghost use Rattle.meaning.specs.Editions.{state, parameters, closed};
 ghost use Prim.Native.Nat.{_+_, _*_, _≤_, _<_};
 ghost use lib.ListN.{length};
-ghost use Rattle.meaning.specs.Headers.{opening, start, envelopeMost};
-ghost use Rattle.reader.specs.Stages.{Ready, Known, StateRead, headerMost};
-ghost use Rattle.reader.specs.Headers.{EnvelopeRead, EnvelopeOpened, endedBy, closedBy};
+ghost use Rattle.meaning.specs.Headers.{opening, envelopeMost};
+ghost use Rattle.laws.specs.Pouring.{headerMost, Ready};
+ghost use Rattle.table.specs.Told.{toldOf};
+ghost use Rattle.read_envelopes.specs.Envelopes.{EnvelopeRead, EnvelopeOpened, endedBy, closedBy};
 
-// The base ends the header; behind an extension stands the next envelope.
+// The place behind an envelope and the rows then, or a refusal. The base ends the header; behind an extension stands the next envelope.
 pub enum Envelope {
     Base { at: usize, rows: usize },
     Extension { at: usize, rows: usize },
     Refused { refusal: u32, at: usize },
 }
 
-// The envelope at a place, of which `left` may still come.
+// Takes the envelope at a place, of which `left` may still come, with n rows so far. Answers which it was, or the first refusal.
 pub fn read_envelope(
     s: &[u8],
     at: usize,
     left: u32,
     rows: &mut [u32],
     n: usize,
-    allows: Allows,
+    told: Told,
 ) -> Envelope
-    requires { ⌜ (at ≤ length (now s)) × (n ≤ at) × (at + left * envelopeMost ≤ headerMost) × (Known (allows .edition)) ⌝ }
-    ensures { λ r. ⌜ ((e : Edition) → labelOf (allows .edition) ≡ known e →
-        EnvelopeRead e (now (s .entry)) left at n (now (rows .entry)) r (now (rows .exit))) ⌝ }
+    requires { ⌜ (at ≤ length (now s)) × (n ≤ at) × (at + left * envelopeMost ≤ headerMost) ⌝ }
+    ensures { λ r. ⌜ EnvelopeRead (toldOf told) (now (s .entry)) left at n (now (rows .entry)) r (now (rows .exit)) ⌝ }
 {
     let f = frame_at(s, at, left);
     match f {
@@ -43,11 +41,11 @@ pub fn read_envelope(
             refusal: refusal,
             at: place,
         },
-        Frame::Opens { base, first, end } => read_opened(s, at, first, end, rows, n, base, allows),
+        Frame::Opens { base, first, end } => read_opened(s, at, first, end, rows, n, base, told),
     }
 }
 
-// An envelope's own row and its inside.
+// Takes an envelope at `at` whose inside lies from `first` up to `end`. Puts its own row, and reads its inside.
 fn read_opened(
     s: &[u8],
     at: usize,
@@ -56,29 +54,25 @@ fn read_opened(
     rows: &mut [u32],
     n: usize,
     base: bool,
-    allows: Allows,
+    told: Told,
 ) -> Envelope
-    requires { ⌜ (at < first) × (Ready (now s) end first n) × (n ≤ at) × (Known (allows .edition)) ⌝ }
-    ensures { λ r. ⌜ ((e : Edition) → labelOf (allows .edition) ≡ known e →
-        EnvelopeOpened e (now (s .entry)) at first end base n (now (rows .entry)) r (now (rows .exit))) ⌝ }
+    requires { ⌜ (at < first) × (Ready (now s) end first n) × (n ≤ at) ⌝ }
+    ensures { λ r. ⌜ EnvelopeOpened (toldOf told) (now (s .entry)) at first end base n (now (rows .entry)) r (now (rows .exit)) ⌝ }
 {
-    rows::put_row(rows, n, opening_kind(base), 0, at, 0);
-    let k = n + 1;
-    let r = read_inside(s, end, first, rows, k, base, allows);
+    put_row(rows, n, opening_kind(base), 0, at, 0);
+    let opened = n + 1;
+    let r = read_inside(s, end, first, rows, opened, base, told);
     ended(r, end, base)
 }
 
+// The kind of an envelope's own row.
 fn opening_kind(base: bool) -> u32
     ensures { λ r. ⌜ r ≡ opening base ⌝ }
 {
-    if base {
-        kinds::BASE_OPENS
-    } else {
-        kinds::EXTENSION_OPENS
-    }
+    if base { BASE_OPENS } else { EXTENSION_OPENS }
 }
 
-// "13: closing 01 before the declared end, byte after it."
+// Takes what the inside answered. Answers the envelope behind it, or hands the refusal up.
 fn ended(r: Stage, end: usize, base: bool) -> Envelope
     ensures { λ answer. ⌜ answer ≡ endedBy base end r ⌝ }
 {
@@ -91,12 +85,13 @@ fn ended(r: Stage, end: usize, base: bool) -> Envelope
     }
 }
 
+// Takes the place behind an envelope's 01. "13: closing 01 before the declared end, byte after it."
 fn closed(at: usize, rows: usize, end: usize, base: bool) -> Envelope
     ensures { λ answer. ⌜ answer ≡ closedBy base end at rows ⌝ }
 {
     if at != end {
         return Envelope::Refused {
-            refusal: 13,
+            refusal: CLOSED_EARLY,
             at: at,
         };
     }
@@ -104,58 +99,4 @@ fn closed(at: usize, rows: usize, end: usize, base: bool) -> Envelope
         return Envelope::Base { at: at, rows: rows };
     }
     Envelope::Extension { at: at, rows: rows }
-}
-
-// The inside of an envelope, behind its length.
-fn read_inside(
-    s: &[u8],
-    end: usize,
-    at: usize,
-    rows: &mut [u32],
-    n: usize,
-    base: bool,
-    allows: Allows,
-) -> Stage
-    requires { ⌜ (Ready (now s) end at n) × (Known (allows .edition)) ⌝ }
-    ensures { λ r. ⌜ ((e : Edition) → labelOf (allows .edition) ≡ known e →
-        StateRead e (now (s .entry)) end (start base) at n (now (rows .entry)) r (state closed 0 false) (now (rows .exit))) ⌝ }
-{
-    let r = read_front(s, end, at, rows, n, base, allows);
-    let Stage::Go { at: p, rows: m } = r else {
-        return r;
-    };
-    read_parameters(s, end, p, rows, m, allows)
-}
-
-// What stands before an envelope's parameters.
-fn read_front(
-    s: &[u8],
-    end: usize,
-    at: usize,
-    rows: &mut [u32],
-    n: usize,
-    base: bool,
-    allows: Allows,
-) -> Stage
-    requires { ⌜ (Ready (now s) end at n) × (Known (allows .edition)) ⌝ }
-    ensures { λ r. ⌜ ((e : Edition) → labelOf (allows .edition) ≡ known e →
-        StateRead e (now (s .entry)) end (start base) at n (now (rows .entry)) r (state parameters 0 false) (now (rows .exit))) ⌝ }
-{
-    if base {
-        return read_head(s, end, at, rows, n, allows);
-    }
-    read_received(s, end, at, rows, n, allows)
-}
-
-// "Base: .. representation, date".
-fn read_head(s: &[u8], end: usize, at: usize, rows: &mut [u32], n: usize, allows: Allows) -> Stage
-    requires { ⌜ (Ready (now s) end at n) × (Known (allows .edition)) ⌝ }
-    ensures { λ r. ⌜ ((e : Edition) → labelOf (allows .edition) ≡ known e →
-        StateRead e (now (s .entry)) end (start true) at n (now (rows .entry)) r (state parameters 0 false) (now (rows .exit))) ⌝ }
-{
-    let r = rows::representation(s, end, at, rows, n);
-    let Stage::Go { at: p, rows: m } = r else {
-        return r;
-    };
-    rows::date(s, end, p, rows, m, 0, allows)
 }

@@ -1,32 +1,40 @@
 // "A header is zero or more extension envelopes, then one base envelope."
-use crate::Stage;
 use crate::envelope::Envelope;
 use crate::envelope::read_envelope;
-use values::Allows;
-ghost use mathlib.Core.Path.{_≡_};
-ghost use Rattle.meaning.specs.Told.{Edition, known, labelOf};
-ghost use Rattle.reader.specs.Stages.{Known};
-ghost use Rattle.reader.specs.Headers.{HeaderRead};
+use read_rows::Stage;
+use table::limits::ENVELOPES_MOST;
+use table::told::Told;
+ghost use Rattle.table.specs.Told.{toldOf};
+ghost use Rattle.read_envelopes.specs.Headers.{HeaderRead};
 
-// The header at the front of s, its rows from row 0 on. A slice with no room takes no rows: they are counted.
-pub fn read_header(s: &[u8], rows: &mut [u32], allows: Allows) -> Stage
-    requires { ⌜ Known (allows .edition) ⌝ }
-    ensures { λ r. ⌜ ((e : Edition) → labelOf (allows .edition) ≡ known e → HeaderRead e (now (s .entry)) (now (rows .entry)) r (now (rows .exit))) ⌝ }
+// Takes the header at the front of s. Answers the place behind it and how many rows it has, or the first refusal.
+// Its rows are put from row 0 on where `rows` has room for them; a slice with no room takes none, and they are only counted.
+pub fn read_header(s: &[u8], rows: &mut [u32], told: Told) -> Stage
+    ensures { λ r. ⌜ HeaderRead (toldOf told) (now (s .entry)) (now (rows .entry)) r (now (rows .exit)) ⌝ }
 {
     let mut at: usize = 0;
     let mut n: usize = 0;
-    let mut left: u32 = 16;
+    let mut left: u32 = ENVELOPES_MOST;
     loop {
-        let r = read_envelope(s, at, left, rows, n, allows);
+        let r = read_envelope(s, at, left, rows, n, told);
         match r {
             Envelope::Refused { refusal, at: place } => return Stage::Refused {
                 refusal: refusal,
                 at: place,
             },
-            Envelope::Base { at: p, rows: m } => return Stage::Go { at: p, rows: m },
-            Envelope::Extension { at: p, rows: m } => {
-                at = p;
-                n = m;
+            Envelope::Base {
+                at: behind,
+                rows: count,
+            } => return Stage::Go {
+                at: behind,
+                rows: count,
+            },
+            Envelope::Extension {
+                at: behind,
+                rows: count,
+            } => {
+                at = behind;
+                n = count;
                 left -= 1;
             }
         }

@@ -1,7 +1,7 @@
 -- `envelope::closed`: by whether the 01 stood at the declared end.
 use borrow.Author.Tests.{eq-eqb, ne-eqb}
-use Rattle.reader.proofs.envelope.closed.Statement.{statement}
-use Rattle.reader.proofs.envelope.closed.Tie as tie
+use Rattle.read_envelopes.proofs.envelope.closed.Statement.{statement}
+use Rattle.read_envelopes.proofs.envelope.closed.Tie as tie
 
 returns : tie.Need-returns
 returns c = simp (ne-eqb _ _ (c .if1 .taken))

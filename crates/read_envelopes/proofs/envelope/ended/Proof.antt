@@ -1,8 +1,8 @@
 -- `envelope::ended`: by the case of the inside's stage.
 use mathlib.Core.Path.{_∙_, refl}
 use borrow.Author.Needs.{needs}
-use Rattle.reader.proofs.envelope.ended.Statement.{statement}
-use Rattle.reader.proofs.envelope.ended.Tie as tie
+use Rattle.read_envelopes.proofs.envelope.ended.Statement.{statement}
+use Rattle.read_envelopes.proofs.envelope.ended.Tie as tie
 
 enum-known-r : tie.Need-enum-known-r
 enum-known-r c = search needs

@@ -1,10 +1,10 @@
 -- `envelope::read_envelope`: the frame's refusal, or the envelope that it opens.
 use native.Mathlib.Omega.{arith}
 use borrow.Author.Needs.{needs}
-use Rattle.laws.specs.Envelopes.{before}
-use Rattle.reader.proofs.Frames.{envelope-read, envelope-refused, opens-fit}
-use Rattle.reader.proofs.envelope.read_envelope.Statement.{statement}
-use Rattle.reader.proofs.envelope.read_envelope.Tie as tie
+use Rattle.table.specs.Told.{toldOf}
+use Rattle.read_envelopes.proofs.Frames.{envelope-read, envelope-refused, opens-fit}
+use Rattle.read_envelopes.proofs.envelope.read_envelope.Statement.{statement}
+use Rattle.read_envelopes.proofs.envelope.read_envelope.Tie as tie
 
 frame-at-requires : tie.Need-frame-at-requires
 frame-at-requires c κs = search needs
@@ -20,16 +20,16 @@ read-opened-requires c κs =
     let a = c .before .before .before .before .before .before .before .args in
     let u = opens-fit (c .before .before .f2 .given .1) (c .before .before .before .before .frame-at .ensures) in
     let h = c .before .before .before .before .before .before .before .pre in
-    (omega (arith, u), record { whole = u .2; small = omega (arith, u, h); before = u .1; few = omega (arith, u, h) }, h .1, h .3)
+    (omega (arith, u), record { whole = u .2; small = omega (arith, u, h); before = u .1; few = omega (arith, u, h) }, h .1)
 
 returns : tie.Need-returns
-returns c e is = envelope-refused e (c .before .before .before .before .before .before .args .n) (c .before .before .before .before .before .before .args .rows .now) (c .before .f .given .1) (c .before .before .before .frame-at .ensures)
+returns c = envelope-refused (toldOf (c .before .before .before .before .before .before .args .told)) (c .before .before .before .before .before .before .args .n) (c .before .before .before .before .before .before .args .rows .now) (c .before .f .given .1) (c .before .before .before .frame-at .ensures)
 
 same-length : tie.Need-same-length
 same-length c = search needs
 
 returns-2 : tie.Need-returns-2
-returns-2 c e is = envelope-read e (c .before .before .before .before .before .before .before .before .before .before .args .n) (c .before .before .before .before .before .before .before .before .before .before .args .rows .now) (c .before .before .before .before .before .f2 .given .1) (c .before .before .before .before .before .before .before .frame-at .ensures) (c .before .before .read-opened .ensures e is)
+returns-2 c = envelope-read (toldOf (c .before .before .before .before .before .before .before .before .before .before .args .told)) (c .before .before .before .before .before .before .before .before .before .before .args .n) (c .before .before .before .before .before .before .before .before .before .before .args .rows .now) (c .before .before .before .before .before .f2 .given .1) (c .before .before .before .before .before .before .before .frame-at .ensures) (c .before .before .read-opened .ensures)
 
 pub read-envelope-spec : {M : Type 1} → statement M
 read-envelope-spec =

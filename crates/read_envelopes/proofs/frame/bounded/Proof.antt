@@ -1,9 +1,10 @@
 -- `frame::bounded`: the tests in their order, then the declared bytes as places.
 use native.Mathlib.Omega.{arith}
 use borrow.Author.Needs.{needs}
-use Rattle.reader.proofs.Frames.{frame-opens, frame-refused, too-far, too-long, too-low}
-use Rattle.reader.proofs.frame.bounded.Statement.{statement}
-use Rattle.reader.proofs.frame.bounded.Tie as tie
+use Rattle.laws.specs.Frames.{opens-at, too-far, too-long, too-low}
+use Rattle.read_envelopes.proofs.Frames.{frame-opens, frame-refused}
+use Rattle.read_envelopes.proofs.frame.bounded.Statement.{statement}
+use Rattle.read_envelopes.proofs.frame.bounded.Tie as tie
 
 add-first : tie.Need-add-first
 add-first c = search needs
@@ -27,7 +28,7 @@ add-end : tie.Need-add-end
 add-end c = search needs
 
 returns-4 : tie.Need-returns-4
-returns-4 c = let a = c .before .before .before .args in frame-opens (a .s .now) (a .base) (a .least) (a .at) (a .head) (a .n) (c .before .before .before .pre .0) (c .before .before .if1 .left) (c .before .if2 .left) (c .before .before .before .pre .1) (omega arith) (omega arith)
+returns-4 c = let a = c .before .before .before .args in frame-opens (opens-at (a .s .now) (a .base) (a .least) (a .at) (a .head) (a .n) (c .before .before .before .pre .0) (c .before .before .if1 .left) (c .before .if2 .left) (omega arith) (omega arith)) (c .before .before .before .pre .1) (omega arith) (c .before .if2 .left) (omega arith)
 
 pub bounded-spec : {M : Type 1} → statement M
 bounded-spec =

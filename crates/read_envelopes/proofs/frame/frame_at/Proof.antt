@@ -2,13 +2,13 @@
 use mathlib.Core.Path.{refl}
 use borrow.Author.Needs.{needs}
 use borrow.Author.Tests.{ne-eqb}
-use Rattle.reader.specs.Headers.{Identified}
-use Rattle.reader.proofs.Frames.{no-envelope, no-identifier}
-use Rattle.reader.proofs.frame.frame_at.Statement.{statement}
-use Rattle.reader.proofs.frame.frame_at.Tie as tie
+use Rattle.laws.specs.Frames.{Identified, no-envelope, no-identifier}
+use Rattle.read_envelopes.proofs.Frames.{refused-at-frame}
+use Rattle.read_envelopes.proofs.frame.frame_at.Statement.{statement}
+use Rattle.read_envelopes.proofs.frame.frame_at.Tie as tie
 
 returns : tie.Need-returns
-returns c = let a = c .before .before .args in no-identifier (a .s .now) (a .at) (a .left) (c .before .before .pre) (c .if1 .taken)
+returns c = let a = c .before .before .args in refused-at-frame (λ t. no-identifier (a .s .now) (a .at) (a .left) t (c .if1 .taken))
 
 shared-slice-read-b : tie.Need-shared-slice-read-b
 shared-slice-read-b c = search needs
@@ -30,7 +30,7 @@ returns-3 c = c .counted2 .ensures
 returns-4 : tie.Need-returns-4
 returns-4 c =
     let a = c .before .before .before .before .before .args in
-    no-envelope (a .s .now) (a .at) (a .left) (c .before .before .before .if1 .left) (rw (ne-eqb _ 0xfd (c .before .if2 .left), ne-eqb _ 0xfe (c .if3 .left)) refl)
+    refused-at-frame (λ t. no-envelope (a .s .now) (a .at) (a .left) t (c .before .before .before .if1 .left) (rw (ne-eqb _ 0xfd (c .before .if2 .left), ne-eqb _ 0xfe (c .if3 .left)) refl))
 
 pub frame-at-spec : {M : Type 1} → statement M
 frame-at-spec =

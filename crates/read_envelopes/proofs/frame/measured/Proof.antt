@@ -1,15 +1,16 @@
 -- `frame::measured`: two bytes, and four more if they are zero.
 use native.Mathlib.Omega.{arith}
 use borrow.Author.Needs.{needs}
-use Rattle.reader.proofs.Frames.{long-form, no-length, no-long-length, short-form}
-use Rattle.reader.proofs.frame.measured.Statement.{statement}
-use Rattle.reader.proofs.frame.measured.Tie as tie
+use Rattle.laws.specs.Frames.{long-form, no-length, no-long-length, short-form}
+use Rattle.read_envelopes.proofs.Frames.{frame-begun, frame-refused}
+use Rattle.read_envelopes.proofs.frame.measured.Statement.{statement}
+use Rattle.read_envelopes.proofs.frame.measured.Tie as tie
 
 sub-if1 : tie.Need-sub-if1
 sub-if1 c = search needs
 
 returns : tie.Need-returns
-returns c = let a = c .before .before .args in no-length (a .s .now) (a .at) (a .base) (c .before .before .pre) (c .if1 .taken)
+returns c = let a = c .before .before .args in frame-refused (no-length (a .s .now) (a .at) (a .base) (c .before .before .pre) (c .if1 .taken))
 
 add-two-bytes : tie.Need-add-two-bytes
 add-two-bytes c = search needs
@@ -23,9 +24,9 @@ bounded-requires c κs = (omega arith, omega arith, omega arith)
 returns-2 : tie.Need-returns-2
 returns-2 c =
     let entry = c .before .before .before .before .before in
-    let given = entry .args in
+    let a = entry .args in
     let two-bytes = c .before .before .two-bytes in
-    let a = given in short-form (a .s .now) (a .at) (a .base) (entry .pre) (two-bytes .result) (c .before .before .before .if1 .left) (two-bytes .ensures .0) (c .before .if2 .taken) (c .bounded .ensures)
+    frame-begun (short-form (a .s .now) (a .at) (a .base) (entry .pre) (two-bytes .result) (c .before .before .before .if1 .left) (two-bytes .ensures .0) (c .before .if2 .taken)) (c .bounded .ensures)
 
 sub-if3 : tie.Need-sub-if3
 sub-if3 c = search needs
@@ -33,9 +34,9 @@ sub-if3 c = search needs
 returns-3 : tie.Need-returns-3
 returns-3 c =
     let entry = c .before .before .before .before .before in
-    let given = entry .args in
+    let a = entry .args in
     let two-bytes = c .before .before .two-bytes in
-    let a = given in no-long-length (a .s .now) (a .at) (a .base) (entry .pre) (two-bytes .result) (c .before .before .before .if1 .left) (two-bytes .ensures .0) (c .before .if2 .left) (c .if3 .taken)
+    frame-refused (no-long-length (a .s .now) (a .at) (a .base) (entry .pre) (two-bytes .result) (c .before .before .before .if1 .left) (two-bytes .ensures .0) (c .before .if2 .left) (c .if3 .taken))
 
 add-four-bytes : tie.Need-add-four-bytes
 add-four-bytes c = search needs
@@ -49,9 +50,9 @@ bounded-requires-2 c κs = search needs
 returns-4 : tie.Need-returns-4
 returns-4 c =
     let entry = c .before .before .before .before .before .before .before in
-    let given = entry .args in
+    let a = entry .args in
     let two-bytes = c .before .before .before .before .two-bytes in
-    let a = given in long-form (a .s .now) (a .at) (a .base) (entry .pre) (two-bytes .result) (c .before .before .before .before .before .if1 .left) (two-bytes .ensures .0) (c .before .four-bytes .result) (c .before .before .before .if2 .left) (c .before .before .if3 .left) (c .before .four-bytes .ensures) (c .bounded2 .ensures)
+    frame-begun (long-form (a .s .now) (a .at) (a .base) (entry .pre) (two-bytes .result) (c .before .before .before .before .before .if1 .left) (two-bytes .ensures .0) (c .before .four-bytes .result) (c .before .before .before .if2 .left) (c .before .before .if3 .left) (c .before .four-bytes .ensures .0)) (c .bounded2 .ensures)
 
 pub measured-spec : {M : Type 1} → statement M
 measured-spec =
