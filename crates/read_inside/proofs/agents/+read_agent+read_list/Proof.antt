@@ -117,18 +117,6 @@ module _ (t : ℕ) where
       ∙ ap (λ (q : State). runAt i q (at + 1) (n + 1) (c .before .before .before .before .put-row .last .0)) (list-down (a .level) single))
       (c .read-list .ensures single (λ _ h. omega (arith, low))))
 
-read-agent-name-and-addresses-requires : (t : ℕ) → read-agent-lts.Need-name-and-addresses-requires (agent-calls t) (read-agent-at t) read-agent.Post
-read-agent-name-and-addresses-requires t c κs = search needs
-
-read-agent-enum-known-named : (t : ℕ) → read-agent-lts.Need-enum-known-named (agent-calls t) (read-agent-at t) read-agent.Post
-read-agent-enum-known-named t c = search needs
-
-read-agent-enum-told : (t : ℕ) → read-agent-lts.Need-enum-told (agent-calls t) (read-agent-at t) read-agent.Post
-read-agent-enum-told t c = search needs
-
-read-agent-same-length : (t : ℕ) → read-agent-lts.Need-same-length (agent-calls t) (read-agent-at t) read-agent.Post
-read-agent-same-length t c = search needs
-
 read-agent-returns : (t : ℕ) → read-agent-lts.Need-returns (agent-calls t) (read-agent-at t) read-agent.Post
 read-agent-returns t c single = handed (c .enum-told .given .1) (c .before .before .before .before .name-and-addresses .ensures (toldOf (c .before .before .before .before .before .before .before .before .args .told)) single)
 
@@ -137,9 +125,6 @@ read-agent-peek-requires t c κs = ready-inside (ready-to (c .before .before .be
 
 read-agent-behind-resolvers-requires : (t : ℕ) → read-agent-lts.Need-behind-resolvers-requires (agent-calls t) (read-agent-at t) read-agent.Post
 read-agent-behind-resolvers-requires t c κs = ready-to (c .before .before .before .before .before .before .before .before .before .before .before .before .pre .1 .0) (went-on t (c .before .before .before .before))
-
-read-agent-same-length-2 : (t : ℕ) → read-agent-lts.Need-same-length-2 (agent-calls t) (read-agent-at t) read-agent.Post
-read-agent-same-length-2 t c = search needs
 
 read-agent-returns-2 : (t : ℕ) → read-agent-lts.Need-returns-2 (agent-calls t) (read-agent-at t) read-agent.Post
 read-agent-returns-2 t c single =
@@ -161,9 +146,6 @@ read-agent-add-first t c = let h = row-fits (ready-to (c .before .before .before
 read-agent-add-opened : (t : ℕ) → read-agent-lts.Need-add-opened (agent-calls t) (read-agent-at t) read-agent.Post
 read-agent-add-opened t c = let h = row-fits (ready-to (c .before .before .before .before .before .before .before .before .before .before .before .before .before .before .before .pre .1 .0) (went-on t (c .before .before .before .before .before .before .before))) in omega arith
 
-read-agent-add-read-list : (t : ℕ) → read-agent-lts.Need-add-read-list (agent-calls t) (read-agent-at t) read-agent.Post
-read-agent-add-read-list t c = search needs
-
 read-agent-read-list-requires : (t : ℕ) → read-agent-lts.Need-read-list-requires (agent-calls t) (read-agent-at t) read-agent.Post
 read-agent-read-list-requires t c κs =
     let k = c .before .before .before .before .before .before .peek .ensures .inside (omega arith) in
@@ -171,24 +153,12 @@ read-agent-read-list-requires t c κs =
     let measure = pre .0 in
     (omega (arith, measure, pre .1 .2), (ready-opened (ready-to (pre .1 .0) (went-on t (c .before .before .before .before .before .before .before .before))) k, omega arith, omega (arith, pre .1 .2)))
 
-read-agent-enum-known-resolvers : (t : ℕ) → read-agent-lts.Need-enum-known-resolvers (agent-calls t) (read-agent-at t) read-agent.Post
-read-agent-enum-known-resolvers t c = search needs
-
-read-agent-enum-told-2 : (t : ℕ) → read-agent-lts.Need-enum-told-2 (agent-calls t) (read-agent-at t) read-agent.Post
-read-agent-enum-told-2 t c = search needs
-
-read-agent-same-length-3 : (t : ℕ) → read-agent-lts.Need-same-length-3 (agent-calls t) (read-agent-at t) read-agent.Post
-read-agent-same-length-3 t c = search needs
-
 read-agent-returns-3 : (t : ℕ) → read-agent-lts.Need-returns-3 (agent-calls t) (read-agent-at t) read-agent.Post
 read-agent-returns-3 t c single = handed (c .enum-told2 .given .1) (resolved t (c .before .before .before .before) single)
 
 read-agent-behind-resolvers-requires-2 : (t : ℕ) → read-agent-lts.Need-behind-resolvers-requires-2 (agent-calls t) (read-agent-at t) read-agent.Post
 read-agent-behind-resolvers-requires-2 t c κs =
     ready-to (c .before .before .before .before .before .before .before .before .before .before .before .before .before .before .before .before .before .before .before .before .before .before .before .pre .1 .0) (moved-to (c .before .before .resolvers .given .1) (resolved t (c .before .before .before .before .before .before) true))
-
-read-agent-same-length-4 : (t : ℕ) → read-agent-lts.Need-same-length-4 (agent-calls t) (read-agent-at t) read-agent.Post
-read-agent-same-length-4 t c = search needs
 
 read-agent-returns-4 : (t : ℕ) → read-agent-lts.Need-returns-4 (agent-calls t) (read-agent-at t) read-agent.Post
 read-agent-returns-4 t c single =
@@ -227,15 +197,6 @@ module _ (t : ℕ) where
 read-list-loop-holds : (t : ℕ) → read-list-lts.Need-loop-holds (list-calls t) (read-list-at t) read-list.Post read-list-Inv-loop read-list-μ-loop
 read-list-loop-holds t c = let f = c .before .before .pre .1 .0 in (omega arith, omega arith, omega arith, refl, λ single h. refl)
 
-read-list-peek-requires : (t : ℕ) → read-list-lts.Need-peek-requires (list-calls t) (read-list-at t) read-list.Post read-list-Inv-loop read-list-μ-loop
-read-list-peek-requires t c κs = search needs
-
-read-list-add-behind : (t : ℕ) → read-list-lts.Need-add-behind (list-calls t) (read-list-at t) read-list.Post read-list-Inv-loop read-list-μ-loop
-read-list-add-behind t c = search needs
-
-read-list-same-length : (t : ℕ) → read-list-lts.Need-same-length (list-calls t) (read-list-at t) read-list.Post read-list-Inv-loop read-list-μ-loop
-read-list-same-length t c = search needs
-
 read-list-returns : (t : ℕ) → read-list-lts.Need-returns (list-calls t) (read-list-at t) read-list.Post read-list-Inv-loop read-list-μ-loop
 read-list-returns t c single h =
     let p = c .before .peek in
@@ -243,12 +204,6 @@ read-list-returns t c single h =
     let a = c .before .before .before .before .before .args in
     let k : l .here < a .end = p .ensures .inside (omega arith) in
     going (l .inv .4 single h ∙ passed-at (source (toldOf (a .told)) (a .s .now) (a .end)) (l .here) (l .count) (l .rows) (p .result) (p .ensures) 1 (c .if1 .taken) (omega arith) (state agentList (a .level) single) listEnds (list-stop _)) (omega arith) (omega arith) (omega arith)
-
-read-list-fault-requires : (t : ℕ) → read-list-lts.Need-fault-requires (list-calls t) (read-list-at t) read-list.Post read-list-Inv-loop read-list-μ-loop
-read-list-fault-requires t c κs = search needs
-
-read-list-same-length-2 : (t : ℕ) → read-list-lts.Need-same-length-2 (list-calls t) (read-list-at t) read-list.Post read-list-Inv-loop read-list-μ-loop
-read-list-same-length-2 t c = search needs
 
 read-list-returns-2 : (t : ℕ) → read-list-lts.Need-returns-2 (list-calls t) (read-list-at t) read-list.Post read-list-Inv-loop read-list-μ-loop
 read-list-returns-2 t c single h =
@@ -258,9 +213,6 @@ read-list-returns-2 t c single h =
     begun (le-refl _) (l .inv .4 single h)
     (foreign-byte (source (toldOf (a .told)) (a .s .now) (a .end)) (l .here) (l .count) (l .rows) (p .result) (p .ensures) (state agentList (a .level) single) (c .fault .ensures) (list-none _ (p .result) (c .before .before .if1 .left) (c .before .if2 .taken)) refl refl)
 
-read-list-same-length-3 : (t : ℕ) → read-list-lts.Need-same-length-3 (list-calls t) (read-list-at t) read-list.Post read-list-Inv-loop read-list-μ-loop
-read-list-same-length-3 t c = search needs
-
 read-list-returns-3 : (t : ℕ) → read-list-lts.Need-returns-3 (list-calls t) (read-list-at t) read-list.Post read-list-Inv-loop read-list-μ-loop
 read-list-returns-3 t c single h =
     let p = c .before .before .before .peek in
@@ -269,9 +221,6 @@ read-list-returns-3 t c single h =
     let deep : ltb levelMost (a .level) ≡ true = lt-ltb levelMost (a .level) (omega arith) in
     refusing (l .inv .4 single h ∙ too-deep-at (source (toldOf (a .told)) (a .s .now) (a .end)) (l .here) (l .count) (l .rows) (p .result) (p .ensures) 0x02 (c .before .if2 .left) (omega arith) (state agentList (a .level) single) (on 0x02 ▸ agentName ▸ text ▸ stay afterName) (list-name _) deep)
 
-read-list-add-name : (t : ℕ) → read-list-lts.Need-add-name (list-calls t) (read-list-at t) read-list.Post read-list-Inv-loop read-list-μ-loop
-read-list-add-name t c = search needs
-
 read-list-read-agent-requires : (t : ℕ) → read-list-lts.Need-read-agent-requires (list-calls t) (read-list-at t) read-list.Post read-list-Inv-loop read-list-μ-loop
 read-list-read-agent-requires t c κs =
     let k = c .before .before .before .before .peek .ensures .inside (omega arith) in
@@ -279,15 +228,6 @@ read-list-read-agent-requires t c κs =
     let measure = pre .0 in
     let f = pre .1 .0 in
     (omega (arith, measure), (record { whole = f .whole; small = f .small; before = omega arith; few = omega arith }, pre .1 .1, omega arith))
-
-read-list-enum-known-r : (t : ℕ) → read-list-lts.Need-enum-known-r (list-calls t) (read-list-at t) read-list.Post read-list-Inv-loop read-list-μ-loop
-read-list-enum-known-r t c = search needs
-
-read-list-enum-told : (t : ℕ) → read-list-lts.Need-enum-told (list-calls t) (read-list-at t) read-list.Post read-list-Inv-loop read-list-μ-loop
-read-list-enum-told t c = search needs
-
-read-list-same-length-4 : (t : ℕ) → read-list-lts.Need-same-length-4 (list-calls t) (read-list-at t) read-list.Post read-list-Inv-loop read-list-μ-loop
-read-list-same-length-4 t c = search needs
 
 read-list-returns-4 : (t : ℕ) → read-list-lts.Need-returns-4 (list-calls t) (read-list-at t) read-list.Post read-list-Inv-loop read-list-μ-loop
 read-list-returns-4 t c single h = handed (c .enum-told .given .1) (once-more t (c .before .before .before .before) single h)
@@ -306,26 +246,26 @@ pub +read-agent+read-list-spec : {M : Type 1} → statement M
 +read-agent+read-list-spec = close μ-read-agent μ-read-list (λ t. read-agent-lts.spec (agent-calls t)
     (read-agent-at t)
     read-agent.Post
-    (read-agent-name-and-addresses-requires t)
-    (read-agent-enum-known-named t)
-    (read-agent-enum-told t)
-    (read-agent-same-length t)
+    (λ c κs. search needs)
+    (λ c. search needs)
+    (λ c. search needs)
+    (λ c. search needs)
     (read-agent-returns t)
     (read-agent-peek-requires t)
     (read-agent-behind-resolvers-requires t)
-    (read-agent-same-length-2 t)
+    (λ c. search needs)
     (read-agent-returns-2 t)
     (read-agent-put-row-requires t)
     (read-agent-add-first t)
     (read-agent-add-opened t)
-    (read-agent-add-read-list t)
+    (λ c. search needs)
     (read-agent-read-list-requires t)
-    (read-agent-enum-known-resolvers t)
-    (read-agent-enum-told-2 t)
-    (read-agent-same-length-3 t)
+    (λ c. search needs)
+    (λ c. search needs)
+    (λ c. search needs)
     (read-agent-returns-3 t)
     (read-agent-behind-resolvers-requires-2 t)
-    (read-agent-same-length-4 t)
+    (λ c. search needs)
     (read-agent-returns-4 t))
     λ t. read-list-lts.spec (list-calls t)
     (read-list-at t)
@@ -333,20 +273,20 @@ pub +read-agent+read-list-spec : {M : Type 1} → statement M
     read-list-Inv-loop
     read-list-μ-loop
     (read-list-loop-holds t)
-    (read-list-peek-requires t)
-    (read-list-add-behind t)
-    (read-list-same-length t)
+    (λ c κs. search needs)
+    (λ c. search needs)
+    (λ c. search needs)
     (read-list-returns t)
-    (read-list-fault-requires t)
-    (read-list-same-length-2 t)
+    (λ c κs. search needs)
+    (λ c. search needs)
     (read-list-returns-2 t)
-    (read-list-same-length-3 t)
+    (λ c. search needs)
     (read-list-returns-3 t)
-    (read-list-add-name t)
+    (λ c. search needs)
     (read-list-read-agent-requires t)
-    (read-list-enum-known-r t)
-    (read-list-enum-told t)
-    (read-list-same-length-4 t)
+    (λ c. search needs)
+    (λ c. search needs)
+    (λ c. search needs)
     (read-list-returns-4 t)
     (read-list-loop-less t)
     (read-list-loop-again t)
