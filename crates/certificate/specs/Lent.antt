@@ -20,8 +20,8 @@ use Rattle.laws.specs.Ties.{SameMeaning, written-known}
 use Rattle.laws.specs.WriterRefusals.{WriterRefusal, no-edition, no-table, past-limit, no-room}
 use Rattle.laws.specs.Demands.{refused-shape, unwritten-shape}
 use Rattle.listing.specs.Listed.{table-length}
-use Rattle.values.specs.declared.encode.Encoded.{Encoded}
-use Rattle.reader.specs.declared.Answer as reader
+use Rattle.coders.specs.declared.encode.Encoded.{Encoded}
+use Rattle.table.specs.declared.reply.Reply as reader
 use Rattle.reader.specs.Promises.{ReadPromise}
 use Rattle.table.specs.declared.reply.Reply as writer
 use Rattle.writer.specs.Promise.{WritePromise}
@@ -35,7 +35,7 @@ abbrev pub behindRows : ℕ → List ℕ → List ℕ
 behindRows count lent = drop (count * rowWidth) lent
 
 -- what the reader answers and leaves where a header is accepted and its rows have room
-pub record Filled (place : ℕ) (rows : List Placed) (before : List ℕ) (a : reader.Answer) (after : List ℕ) : Type 0 where
+pub record Filled (place : ℕ) (rows : List Placed) (before : List ℕ) (a : reader.Reply) (after : List ℕ) : Type 0 where
   pub answers : a .answer ≡ 0
   pub ends : a .place ≡ place
   pub count : a .rows ≡ length rows
@@ -57,7 +57,7 @@ pub laid-behind : (lent front : List ℕ) {n : ℕ} → length front ≡ n → d
 unfolding laidOver
 laid-behind lent front {n} h = drop-at front (drop (length front) lent) n h ∙ ap (λ (k : ℕ). drop k lent) h
 
-module _ {place : ℕ} {rows : List Placed} {before after : List ℕ} {a : reader.Answer} (f : Filled place rows before a after) where
+module _ {place : ℕ} {rows : List Placed} {before after : List ℕ} {a : reader.Reply} (f : Filled place rows before a after) where
   table-long : length (tableOf rows) ≡ a .rows * rowWidth
   table-long = table-length rows ∙ ap (λ (n : ℕ). n * rowWidth) (sym (f .count))
 
@@ -72,7 +72,7 @@ bytes-written {bytes} {before = before} {a = a} l = ap (take (a .place)) (l .lea
 
 -- The reader
 
-module _ {edition : ℕ} {input before after : List ℕ} {a : reader.Answer} (p : ReadPromise edition input before a after) where
+module _ {edition : ℕ} {input before after : List ℕ} {a : reader.Reply} (p : ReadPromise edition input before a after) where
   abbrev AcceptedCall : Type 0
   AcceptedCall = (place : ℕ) × (rows : List Placed) × (read edition input ≡ accepted place rows) × Filled place rows before a after
 

@@ -7,6 +7,13 @@ pub mod Values
 pub mod Tables
 pub mod Lookups
 pub mod Steps
+pub mod Pouring
+pub mod ReadAt
+pub mod Shapes
+pub mod Rooms
+pub mod AgentRooms
+pub mod Finishing
+pub mod Frames
 pub mod Fits
 pub mod WrittenRead
 pub mod PlainRows

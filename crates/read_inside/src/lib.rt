@@ -1,0 +1,5 @@
+// The inside of one envelope, as rows in lent memory.
+mod agents;
+pub mod inside;
+mod parameters;
+mod received;
