@@ -16,17 +16,16 @@ use Rattle.meaning.specs.Plain.{digitsWithin, digitsOf, packed, decodeNumber, n
 use Rattle.meaning.specs.Cases.{hex, aDate, baseWith, inMemory, baseRows, replyIs, outcomeIs}
 use Rattle.laws.specs.Logic.{areBytes}
 use Rattle.laws.specs.Ties.{plainTable}
-use Rattle.table.specs.declared.reply.Reply as reader
+use Rattle.table.specs.declared.reply.Reply as declared
 use Rattle.reader.specs.Promises.{ReadPromise}
-use Rattle.table.specs.declared.reply.Reply as writer
 use Rattle.writer.specs.Promise.{WritePromise}
 
-pub some-read : (edition : ℕ) (input before : List ℕ) → (a : reader.Reply) × (after : List ℕ) × ReadPromise edition input before a after
+pub some-read : (edition : ℕ) (input before : List ℕ) → (a : declared.Reply) × (after : List ℕ) × ReadPromise edition input before a after
 some-read edition input before =
     let r = readAnswer edition input before in
     (record { answer = r .answer; place = r .place; rows = r .rows }, readRows edition input before, record { answers = refl; rows = refl })
 
-pub some-write : (edition : ℕ) (rows pool before : List ℕ) → (a : writer.Reply) × (after : List ℕ) × WritePromise edition rows pool before a after
+pub some-write : (edition : ℕ) (rows pool before : List ℕ) → (a : declared.Reply) × (after : List ℕ) × WritePromise edition rows pool before a after
 some-write edition rows pool before =
     let r = writeAnswer edition rows pool before in
     (record { answer = r .answer; place = r .place; rows = r .rows }, writeOutput edition rows pool before, record { answers = refl; leaves = refl })
