@@ -52,17 +52,10 @@ pub fn read_parameters(
         let b = peek(s, end, here);
         if b == CLOSING {
             let behind = here + 1;
-            return Stage::Go {
-                at: behind,
-                rows: count,
-            };
+            return Stage::Go(behind, count);
         }
         let r = read_parameter(s, end, here, rows, count, b, told);
-        let Stage::Go {
-            at: after_parameter,
-            rows: with_parameter,
-        } = r
-        else {
+        let Stage::Go(after_parameter, with_parameter) = r else {
             return r;
         };
         here = after_parameter;
@@ -104,11 +97,7 @@ fn own_parameter(s: &[u8], end: usize, at: usize, rows: &mut [u32], n: usize) ->
     ensures { λ r. ⌜ ((t : meaning.Told) → TextRead t (now (s .entry)) end ownKey 0 (state ownText 0 false) at n (now (rows .entry)) r (state parameters 0 false) (now (rows .exit))) ⌝ }
 {
     let key = rows::text(s, end, at, rows, n, OWN_KEY, 0);
-    let Stage::Go {
-        at: after_key,
-        rows: with_key,
-    } = key
-    else {
+    let Stage::Go(after_key, with_key) = key else {
         return key;
     };
     rows::text(s, end, after_key, rows, with_key, OWN_VALUE, 0)

@@ -27,7 +27,7 @@ pub fn read(edition: u32, input: &[u8], rows: &mut [u32]) -> Reply
     let counted = survey(edition, input, &mut rows[..0]);
     match counted {
         Stage::Refused { refusal, at } => refused(refusal, at),
-        Stage::Go { at, rows: n } => fill(edition, input, rows, at, n),
+        Stage::Go(at, n) => fill(edition, input, rows, at, n),
     }
 }
 
@@ -74,7 +74,7 @@ pub fn payload_part(edition: u32, input: &[u8]) -> Part
 {
     let mut none = [0u32; 1];
     let r = survey(edition, input, &mut none[..0]);
-    let Stage::Go { at: first, rows: _ } = r else {
+    let Stage::Go(first, _) = r else {
         return Part { start: 0, end: 0 };
     };
     Part {
