@@ -1,7 +1,7 @@
 // "Extension: FD, length, received object, parameters, 01. Base: FE, length, representation, date, parameters, 01": what stands behind the length.
 // Each function answers the place behind what it read with the rows then, or the first refusal.
 use crate::parameters::read_parameters;
-use crate::received::read_received;
+use read_objects::received::read_received;
 use read_rows::Stage;
 use read_rows::rows;
 use table::told::Told;

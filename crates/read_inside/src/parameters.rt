@@ -1,8 +1,8 @@
 // "Parameters, any order, repeats allowed", up to the envelope's 01.
 // Each function answers the place behind what it read with the rows then, or the first refusal.
-use crate::agents::read_list;
-use crate::agents::read_one;
-use crate::received::read_received;
+use read_objects::agents::read_list;
+use read_objects::agents::read_one;
+use read_objects::received::read_received;
 use read_rows::Stage;
 use read_rows::look::CLOSING;
 use read_rows::look::fault;
