@@ -24,7 +24,7 @@ use Rattle.table.specs.Told.{labelIs, toldOf}
 use Rattle.read_rows.specs.declared.Stage.{Stage}
 use Rattle.read_rows.specs.declared.Stage.the-variants.{Go, Refused}
 use Rattle.read_envelopes.specs.Headers.{fillingOf, PlaceFits, HeaderRead}
-use Rattle.reader.specs.Promises.{ReadPromise, PartPromise, PayloadPromise, Counted, Surveyed}
+use Rattle.reader.specs.Promises.{ReadPromise, PartPromise, PayloadPromise, AcceptedHeader, Surveyed}
 
 -- One pass
 
@@ -43,7 +43,7 @@ module _ (edition : ℕ) (input m : List ℕ) (label : Label) (is : labelIs labe
 -- What the first pass found
 
 module _ (edition : ℕ) (input m left : List ℕ) where
-  accepted-by : (p n : ℕ) (a : Answer) → read edition input ≡ a → finish a 0 m ≡ filled p n left → p ≤ length input → Counted edition input p n
+  accepted-by : (p n : ℕ) (a : Answer) → read edition input ≡ a → finish a 0 m ≡ filled p n left → p ≤ length input → AcceptedHeader edition input p n
   accepted-by p n (refused refusal place) h q w = absurd (let z : _≡_ {A = ℕ} 0 1 = cc in omega arith)
   accepted-by p n (accepted place rs) h q w =
       let u : place ≡ p = cc in
@@ -57,7 +57,7 @@ module _ (edition : ℕ) (input m left : List ℕ) where
       rw (u, v) refl
   refused-by refusal p (accepted place rs) q = absurd (let z : _≡_ {A = ℕ} 0 1 = cc in omega arith)
 
-  pub header-counted : {r : Stage} {p n : ℕ} → r ≡ Go p n → Surveyed edition input m r left → Counted edition input p n
+  pub header-counted : {r : Stage} {p n : ℕ} → r ≡ Go p n → Surveyed edition input m r left → AcceptedHeader edition input p n
   unfolding fillingOf PlaceFits
   header-counted {p = p} {n = n} h a =
       let is = rw h at (a .is) in
@@ -86,7 +86,7 @@ module _ (edition : ℕ) (input m left : List ℕ) where
 
 -- The second pass, and what is promised
 
-module _ (edition : ℕ) (input m : List ℕ) (place n : ℕ) (a : Counted edition input place n) where
+module _ (edition : ℕ) (input m : List ℕ) (place n : ℕ) (a : AcceptedHeader edition input place n) where
   -- "14: all well, but rows exceed the room"
   pub too-many : roomOf m < n → ReadPromise edition input m (record { answer = 14; place = place; rows = n }) m
   unfolding readAnswer readRows

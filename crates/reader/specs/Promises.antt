@@ -35,7 +35,7 @@ pub record Surveyed (edition : ℕ) (input before : List ℕ) (r : Stage) (after
   pub fits : PlaceFits input r
 
 -- what the first pass found: the header is accepted, with n rows
-pub record Counted (edition : ℕ) (input : List ℕ) (place n : ℕ) : Type 0 where
+pub record AcceptedHeader (edition : ℕ) (input : List ℕ) (place n : ℕ) : Type 0 where
   pub rows : List Placed
   pub is : read edition input ≡ accepted place rows
   pub count : length rows ≡ n

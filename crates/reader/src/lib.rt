@@ -9,7 +9,7 @@ use table::rows::room;
 use table::told::Label;
 use table::told::Told;
 use table::told::label_of;
-ghost use Rattle.reader.specs.Promises.{ReadPromise, PartPromise, PayloadPromise, Counted, Surveyed};
+ghost use Rattle.reader.specs.Promises.{ReadPromise, PartPromise, PayloadPromise, AcceptedHeader, Surveyed};
 
 // A part of the input: its first place, and the place behind its last byte.
 #[repr(C)]
@@ -49,7 +49,7 @@ fn survey(edition: u32, input: &[u8], rows: &mut [u32]) -> Stage
 
 // The second pass, over a header that is accepted and has n rows. "14: all well, but rows exceed the room": then no row changes.
 fn fill(edition: u32, input: &[u8], rows: &mut [u32], place: usize, n: usize) -> Reply
-    requires { ⌜ Counted edition (now input) place n ⌝ }
+    requires { ⌜ AcceptedHeader edition (now input) place n ⌝ }
     ensures { λ r. ⌜ ReadPromise edition (now (input .entry)) (now (rows .entry)) r (now (rows .exit)) ⌝ }
 {
     if room(rows.len()) < n {
