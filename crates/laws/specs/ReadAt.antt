@@ -8,7 +8,7 @@ use lib.Dec.{eqb, ltb}
 use lib.ListN.{length}
 use borrow.Author.Tests.{lt-ltb, ltb-true, ne-eqb}
 use Rattle.meaning.specs.Basics.{pick}
-use Rattle.meaning.specs.Bytes.{takeText, takeNumber}
+use Rattle.meaning.specs.Bytes.{takeText}
 use Rattle.meaning.specs.Editions.{State, Next, go, text, number, opens, isQuiet, Move, noCode, moves, on_▸_▸_▸_, pass_▸_}
 use Rattle.meaning.specs.Reading.{takeValue, reachBack, none, hit, look, isClosed, strange, tooDeep, Step, fails, next, stepTaken, stepMove, step, onward, inside}
 use Rattle.laws.specs.From.{from, from-length}

@@ -11,7 +11,7 @@ use Rattle.read_rows.specs.declared.Stage.the-variants.{Go, Refused}
 use Rattle.read_envelopes.specs.declared.envelope.Envelope.{Envelope}
 use Rattle.read_envelopes.specs.declared.envelope.Envelope.the-variants as envelope
 use Rattle.read_envelopes.specs.Envelopes.{behindEnvelope, EnvelopeFits, OthersCome, EnvelopeRead}
-use Rattle.read_envelopes.specs.Headers.{outcome, PlaceFits, HeaderRead}
+use Rattle.read_envelopes.specs.Headers.{fillingOf, PlaceFits, HeaderRead}
 
 module _ {t : Told} {s : List ℕ} {left at n : ℕ} {m kept : List ℕ} {r : Envelope} where
   pub extension-fits : {p k : ℕ} → r ≡ envelope.Extension p k → EnvelopeRead t s left at n m r kept → (at + 3 ≤ p) × (p ≤ length s) × (k ≤ p) × (p ≤ at + envelopeMost) × (1 ≤ left)
@@ -27,11 +27,11 @@ module _ {t : Told} {s : List ℕ} {left at n : ℕ} {m kept : List ℕ} {r : En
 
   module _ {before : List ℕ} where
     pub header-refused : {refusal p : ℕ} → r ≡ envelope.Refused refusal p → finish (header envelopesMost t 0 s) 0 before ≡ headerAt t s left at n m → EnvelopeRead t s left at n m r kept → HeaderRead t s before (Refused refusal p) kept
-    unfolding behindEnvelope outcome PlaceFits
+    unfolding behindEnvelope fillingOf PlaceFits
     header-refused h q a = let is = rw h at (a .is) in record { is = q ∙ is; fits = tt }
 
     pub header-based : {p k : ℕ} → r ≡ envelope.Base p k → finish (header envelopesMost t 0 s) 0 before ≡ headerAt t s left at n m → EnvelopeRead t s left at n m r kept → HeaderRead t s before (Go p k) kept
-    unfolding behindEnvelope EnvelopeFits outcome PlaceFits
+    unfolding behindEnvelope EnvelopeFits fillingOf PlaceFits
     header-based h q a =
         let is = rw h at (a .is) in
         let fits = rw h at (a .fits) in

@@ -11,14 +11,14 @@ use Rattle.read_rows.specs.declared.Stage.{Stage}
 use Rattle.read_rows.specs.declared.Stage.the-variants.{Go, Refused}
 
 -- what each case of a header's stage says, with the memory m
-unfoldable pub outcome : List ℕ → Stage → Filling
-outcome m (Go p n) = filled p n m
-outcome m (Refused refusal p) = stopped refusal p
+unfoldable pub fillingOf : List ℕ → Stage → Filling
+fillingOf m (Go p n) = filled p n m
+fillingOf m (Refused refusal p) = stopped refusal p
 
 unfoldable pub PlaceFits : List ℕ → Stage → Type 0
 PlaceFits s (Go p n) = p ≤ length s
 PlaceFits s (Refused refusal p) = Unit {0}
 
 pub record HeaderRead (t : Told) (s : List ℕ) (m : List ℕ) (r : Stage) (left : List ℕ) : Type 0 where
-  pub is : finish (header envelopesMost t 0 s) 0 m ≡ outcome left r
+  pub is : finish (header envelopesMost t 0 s) 0 m ≡ fillingOf left r
   pub fits : PlaceFits s r

@@ -81,7 +81,7 @@ fn ended(r: Stage, end: usize, base: bool) -> Envelope
             refusal: refusal,
             at: at,
         },
-        Stage::Go { at, rows } => closed(at, rows, end, base),
+        Stage::Go(at, rows) => closed(at, rows, end, base),
     }
 }
 

@@ -25,10 +25,7 @@ pub fn read_header(s: &[u8], rows: &mut [u32], told: Told) -> Stage
             Envelope::Base {
                 at: behind,
                 rows: count,
-            } => return Stage::Go {
-                at: behind,
-                rows: count,
-            },
+            } => return Stage::Go(behind, count),
             Envelope::Extension {
                 at: behind,
                 rows: count,

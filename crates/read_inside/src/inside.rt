@@ -1,7 +1,7 @@
 // "Extension: FD, length, received object, parameters, 01. Base: FE, length, representation, date, parameters, 01": what stands behind the length.
 // Each function answers the place behind what it read with the rows then, or the first refusal.
 use crate::parameters::read_parameters;
-use crate::received::read_received;
+use read_objects::received::read_received;
 use read_rows::Stage;
 use read_rows::rows;
 use table::told::Told;
@@ -26,11 +26,7 @@ pub fn read_inside(
     ensures { λ r. ⌜ StateRead (toldOf told) (now (s .entry)) end (start base) at n (now (rows .entry)) r (state closed 0 false) (now (rows .exit)) ⌝ }
 {
     let front = read_front(s, end, at, rows, n, base, told);
-    let Stage::Go {
-        at: after_front,
-        rows: with_front,
-    } = front
-    else {
+    let Stage::Go(after_front, with_front) = front else {
         return front;
     };
     read_parameters(s, end, after_front, rows, with_front, told)
@@ -61,11 +57,7 @@ fn read_head(s: &[u8], end: usize, at: usize, rows: &mut [u32], n: usize, told: 
     ensures { λ r. ⌜ StateRead (toldOf told) (now (s .entry)) end (start true) at n (now (rows .entry)) r (state parameters 0 false) (now (rows .exit)) ⌝ }
 {
     let representation = rows::representation(s, end, at, rows, n);
-    let Stage::Go {
-        at: after_representation,
-        rows: with_representation,
-    } = representation
-    else {
+    let Stage::Go(after_representation, with_representation) = representation else {
         return representation;
     };
     rows::date(

@@ -1,8 +1,8 @@
 // "Parameters, any order, repeats allowed", up to the envelope's 01.
 // Each function answers the place behind what it read with the rows then, or the first refusal.
-use crate::agents::read_list;
-use crate::agents::read_one;
-use crate::received::read_received;
+use read_objects::agents::read_list;
+use read_objects::agents::read_one;
+use read_objects::received::read_received;
 use read_rows::Stage;
 use read_rows::look::CLOSING;
 use read_rows::look::fault;
@@ -52,17 +52,10 @@ pub fn read_parameters(
         let b = peek(s, end, here);
         if b == CLOSING {
             let behind = here + 1;
-            return Stage::Go {
-                at: behind,
-                rows: count,
-            };
+            return Stage::Go(behind, count);
         }
         let r = read_parameter(s, end, here, rows, count, b, told);
-        let Stage::Go {
-            at: after_parameter,
-            rows: with_parameter,
-        } = r
-        else {
+        let Stage::Go(after_parameter, with_parameter) = r else {
             return r;
         };
         here = after_parameter;
@@ -104,11 +97,7 @@ fn own_parameter(s: &[u8], end: usize, at: usize, rows: &mut [u32], n: usize) ->
     ensures { λ r. ⌜ ((t : meaning.Told) → TextRead t (now (s .entry)) end ownKey 0 (state ownText 0 false) at n (now (rows .entry)) r (state parameters 0 false) (now (rows .exit))) ⌝ }
 {
     let key = rows::text(s, end, at, rows, n, OWN_KEY, 0);
-    let Stage::Go {
-        at: after_key,
-        rows: with_key,
-    } = key
-    else {
+    let Stage::Go(after_key, with_key) = key else {
         return key;
     };
     rows::text(s, end, after_key, rows, with_key, OWN_VALUE, 0)

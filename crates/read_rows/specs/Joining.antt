@@ -1,5 +1,5 @@
 -- How the stages' answers are put together: a refusal goes up, reading goes on from where a stage went to, an equation stands before or behind it.
-use Prim.Native.Nat.{ℕ, _+_, _≤_, _<_}
+use Prim.Native.Nat.{ℕ, _≤_}
 use mathlib.Core.List.{List}
 use mathlib.Core.Bool.{Bool, true, false}
 use mathlib.Core.Path.{_≡_, ap, _∙_}

@@ -103,10 +103,7 @@ fn keep(value: Value, rows: &mut [u32], n: usize, level: u32) -> Stage
         } => {
             put_row(rows, n, kind, level, start, length);
             let next = n + 1;
-            Stage::Go {
-                at: after,
-                rows: next,
-            }
+            Stage::Go(after, next)
         }
     }
 }

@@ -31,7 +31,7 @@ pub fn optional(
     ensures { λ r. ⌜ ((t : meaning.Told) (q d : State) → Optional t q d code kind level → StateRead t (now (s .entry)) end q at n (now (rows .entry)) r d (now (rows .exit))) ⌝ }
 {
     if peek(s, end, at) != code {
-        return Stage::Go { at: at, rows: n };
+        return Stage::Go(at, n);
     }
     let first = at + 1;
     rows::text(s, end, first, rows, n, kind, level)
@@ -55,17 +55,10 @@ pub fn texts(
     loop {
         if peek(s, end, here) == CLOSING {
             let behind = here + 1;
-            return Stage::Go {
-                at: behind,
-                rows: count,
-            };
+            return Stage::Go(behind, count);
         }
         let r = rows::text(s, end, here, rows, count, kind, level);
-        let Stage::Go {
-            at: after_text,
-            rows: with_text,
-        } = r
-        else {
+        let Stage::Go(after_text, with_text) = r else {
             return r;
         };
         here = after_text;
@@ -93,21 +86,14 @@ pub fn extras(
         let b = peek(s, end, here);
         if b == CLOSING {
             let behind = here + 1;
-            return Stage::Go {
-                at: behind,
-                rows: count,
-            };
+            return Stage::Go(behind, count);
         }
         if b != code {
             return fault(b, here);
         }
         let key = here + 1;
         let r = extra(s, end, key, rows, count, level, told);
-        let Stage::Go {
-            at: after_extra,
-            rows: with_extra,
-        } = r
-        else {
+        let Stage::Go(after_extra, with_extra) = r else {
             return r;
         };
         here = after_extra;
@@ -129,11 +115,7 @@ fn extra(
     ensures { λ r. ⌜ ((q d : State) → Shaped (toldOf told) q d level 7 anyValues → TextRead (toldOf told) (now (s .entry)) end extraKey level q at n (now (rows .entry)) r d (now (rows .exit))) ⌝ }
 {
     let key = rows::text(s, end, at, rows, n, EXTRA_KEY, level);
-    let Stage::Go {
-        at: after_key,
-        rows: with_key,
-    } = key
-    else {
+    let Stage::Go(after_key, with_key) = key else {
         return key;
     };
     rows::any(s, end, after_key, rows, with_key, level, told)

@@ -13,7 +13,7 @@ use Rattle.meaning.specs.Headers.{Answer, refused, accepted, labelled, read}
 use Rattle.meaning.specs.Memory.{reply, roomOf, readAnswer, readRows}
 use Rattle.meaning.specs.Payload.{partStart, partEnd, partBytes, payloadStart, payloadEnd, payloadBytes}
 use Rattle.laws.specs.Rows.{putAll, put-all-over}
-use Rattle.laws.specs.Pouring.{Filling, filled, stopped}
+use Rattle.laws.specs.Pouring.{filled, stopped}
 use Rattle.laws.specs.Finishing.{finish}
 use Rattle.table.specs.declared.reply.Reply.{Reply}
 use Rattle.table.specs.Reply.{replyOf}
@@ -23,8 +23,8 @@ use Rattle.table.specs.declared.told.Label.the-variants.{Known, Unknown}
 use Rattle.table.specs.Told.{labelIs, toldOf}
 use Rattle.read_rows.specs.declared.Stage.{Stage}
 use Rattle.read_rows.specs.declared.Stage.the-variants.{Go, Refused}
-use Rattle.read_envelopes.specs.Headers.{outcome, PlaceFits, HeaderRead}
-use Rattle.reader.specs.Promises.{ReadPromise, PartPromise, PayloadPromise, Counted, Surveyed}
+use Rattle.read_envelopes.specs.Headers.{fillingOf, PlaceFits, HeaderRead}
+use Rattle.reader.specs.Promises.{ReadPromise, PartPromise, PayloadPromise, AcceptedHeader, Surveyed}
 
 -- One pass
 
@@ -34,7 +34,7 @@ read-labelled edition input label h = ap (labelled input) (sym h)
 
 module _ (edition : ℕ) (input m : List ℕ) (label : Label) (is : labelIs label ≡ labelOf edition) where
   pub unknown-edition : {left : List ℕ} → label ≡ Unknown → Surveyed edition input m (Refused 1 0) left
-  unfolding outcome PlaceFits
+  unfolding fillingOf PlaceFits
   unknown-edition h = record { is = ap (λ (x : Answer). finish x 0 m) (read-labelled edition input label is ∙ ap (λ (x : Label). labelled input (labelIs x)) h); fits = tt }
 
   pub known-edition : {e : Edition} {left : List ℕ} {r : Stage} → label ≡ Known e → HeaderRead (toldOf (record { edition = e })) input m r left → Surveyed edition input m r left
@@ -43,7 +43,7 @@ module _ (edition : ℕ) (input m : List ℕ) (label : Label) (is : labelIs labe
 -- What the first pass found
 
 module _ (edition : ℕ) (input m left : List ℕ) where
-  accepted-by : (p n : ℕ) (a : Answer) → read edition input ≡ a → finish a 0 m ≡ filled p n left → p ≤ length input → Counted edition input p n
+  accepted-by : (p n : ℕ) (a : Answer) → read edition input ≡ a → finish a 0 m ≡ filled p n left → p ≤ length input → AcceptedHeader edition input p n
   accepted-by p n (refused refusal place) h q w = absurd (let z : _≡_ {A = ℕ} 0 1 = cc in omega arith)
   accepted-by p n (accepted place rs) h q w =
       let u : place ≡ p = cc in
@@ -57,15 +57,15 @@ module _ (edition : ℕ) (input m left : List ℕ) where
       rw (u, v) refl
   refused-by refusal p (accepted place rs) q = absurd (let z : _≡_ {A = ℕ} 0 1 = cc in omega arith)
 
-  pub header-counted : {r : Stage} {p n : ℕ} → r ≡ Go p n → Surveyed edition input m r left → Counted edition input p n
-  unfolding outcome PlaceFits
+  pub header-counted : {r : Stage} {p n : ℕ} → r ≡ Go p n → Surveyed edition input m r left → AcceptedHeader edition input p n
+  unfolding fillingOf PlaceFits
   header-counted {p = p} {n = n} h a =
       let is = rw h at (a .is) in
       let fits = rw h at (a .fits) in
       accepted-by p n (read edition input) refl is fits
 
   header-refused : {r : Stage} {refusal p : ℕ} → r ≡ Refused refusal p → Surveyed edition input m r left → read edition input ≡ refused refusal p
-  unfolding outcome
+  unfolding fillingOf
   header-refused {refusal = refusal} {p = p} h a = let is = rw h at (a .is) in refused-by refusal p (read edition input) is
 
   pub refusal-answered : (before : List ℕ) {r : Stage} {refusal p : ℕ} {answer : Reply} → r ≡ Refused refusal p → Surveyed edition input m r left → replyOf answer ≡ reply refusal p 0 → ReadPromise edition input before answer before
@@ -86,7 +86,7 @@ module _ (edition : ℕ) (input m left : List ℕ) where
 
 -- The second pass, and what is promised
 
-module _ (edition : ℕ) (input m : List ℕ) (place n : ℕ) (a : Counted edition input place n) where
+module _ (edition : ℕ) (input m : List ℕ) (place n : ℕ) (a : AcceptedHeader edition input place n) where
   -- "14: all well, but rows exceed the room"
   pub too-many : roomOf m < n → ReadPromise edition input m (record { answer = 14; place = place; rows = n }) m
   unfolding readAnswer readRows
@@ -95,8 +95,8 @@ module _ (edition : ℕ) (input m : List ℕ) (place n : ℕ) (a : Counted editi
       let q : leb (length (a .rows)) (roomOf m) ≡ false = lt-leb (length (a .rows)) (roomOf m) (omega arith) in
       record { answers = rw (a .is, q, c) refl; rows = rw (a .is, q) refl }
 
-  filled-by : (left : List ℕ) (r : Stage) → finish (accepted place (a .rows)) 0 m ≡ outcome left r → putAll (a .rows) 0 m ≡ left
-  unfolding outcome
+  filled-by : (left : List ℕ) (r : Stage) → finish (accepted place (a .rows)) 0 m ≡ fillingOf left r → putAll (a .rows) 0 m ≡ left
+  unfolding fillingOf
   filled-by left (Go p k) q = cc
   filled-by left (Refused refusal p) q = absurd (let z : _≡_ {A = ℕ} 0 1 = cc in omega arith)
 

@@ -10,7 +10,7 @@ use Rattle.laws.specs.Finishing.{finish}
 use Rattle.table.specs.declared.reply.Reply.{Reply}
 use Rattle.table.specs.Reply.{replyOf}
 use Rattle.read_rows.specs.declared.Stage.{Stage}
-use Rattle.read_envelopes.specs.Headers.{outcome, PlaceFits}
+use Rattle.read_envelopes.specs.Headers.{fillingOf, PlaceFits}
 use Rattle.reader.specs.declared.Part.{Part}
 
 pub record ReadPromise (edition : ℕ) (input before : List ℕ) (answer : Reply) (after : List ℕ) : Type 0 where
@@ -31,11 +31,11 @@ pub record PayloadPromise (edition : ℕ) (input part : List ℕ) : Type 0 where
 
 -- what one pass over the header comes to, with the rows in lent memory
 pub record Surveyed (edition : ℕ) (input before : List ℕ) (r : Stage) (after : List ℕ) : Type 0 where
-  pub is : finish (read edition input) 0 before ≡ outcome after r
+  pub is : finish (read edition input) 0 before ≡ fillingOf after r
   pub fits : PlaceFits input r
 
 -- what the first pass found: the header is accepted, with n rows
-pub record Counted (edition : ℕ) (input : List ℕ) (place n : ℕ) : Type 0 where
+pub record AcceptedHeader (edition : ℕ) (input : List ℕ) (place n : ℕ) : Type 0 where
   pub rows : List Placed
   pub is : read edition input ≡ accepted place rows
   pub count : length rows ≡ n

@@ -9,7 +9,7 @@ use table::rows::room;
 use table::told::Label;
 use table::told::Told;
 use table::told::label_of;
-ghost use Rattle.reader.specs.Promises.{ReadPromise, PartPromise, PayloadPromise, Counted, Surveyed};
+ghost use Rattle.reader.specs.Promises.{ReadPromise, PartPromise, PayloadPromise, AcceptedHeader, Surveyed};
 
 // A part of the input: its first place, and the place behind its last byte.
 #[repr(C)]
@@ -27,7 +27,7 @@ pub fn read(edition: u32, input: &[u8], rows: &mut [u32]) -> Reply
     let counted = survey(edition, input, &mut rows[..0]);
     match counted {
         Stage::Refused { refusal, at } => refused(refusal, at),
-        Stage::Go { at, rows: n } => fill(edition, input, rows, at, n),
+        Stage::Go(at, n) => fill(edition, input, rows, at, n),
     }
 }
 
@@ -49,7 +49,7 @@ fn survey(edition: u32, input: &[u8], rows: &mut [u32]) -> Stage
 
 // The second pass, over a header that is accepted and has n rows. "14: all well, but rows exceed the room": then no row changes.
 fn fill(edition: u32, input: &[u8], rows: &mut [u32], place: usize, n: usize) -> Reply
-    requires { ⌜ Counted edition (now input) place n ⌝ }
+    requires { ⌜ AcceptedHeader edition (now input) place n ⌝ }
     ensures { λ r. ⌜ ReadPromise edition (now (input .entry)) (now (rows .entry)) r (now (rows .exit)) ⌝ }
 {
     if room(rows.len()) < n {
@@ -74,7 +74,7 @@ pub fn payload_part(edition: u32, input: &[u8]) -> Part
 {
     let mut none = [0u32; 1];
     let r = survey(edition, input, &mut none[..0]);
-    let Stage::Go { at: first, rows: _ } = r else {
+    let Stage::Go(first, _) = r else {
         return Part { start: 0, end: 0 };
     };
     Part {

@@ -9,9 +9,9 @@ use Rattle.laws.specs.Rooms.{from-optional, id-optional, via-optional}
 use Rattle.table.specs.Told.{editionOf, toldOf}
 use Rattle.read_rows.specs.Joining.{begun, handed, moved-to, went}
 use Rattle.read_rows.specs.Stages.{StateRead}
-use Rattle.read_inside.proofs.ReceivedRooms.{received-code, received-extras}
-use Rattle.read_inside.proofs.received.behind_date.Statement.{statement}
-use Rattle.read_inside.proofs.received.behind_date.Tie as tie
+use Rattle.read_objects.proofs.ReceivedRooms.{received-code, received-extras}
+use Rattle.read_objects.proofs.received.behind_date.Statement.{statement}
+use Rattle.read_objects.proofs.received.behind_date.Tie as tie
 
 from-read : (c : tie.After-optional) → StateRead (toldOf (c .before .before .before .before .args .told)) (c .before .before .before .before .args .s .now) (c .before .before .before .before .args .end) (state afterDate 1 false) (c .before .before .before .before .args .at) (c .before .before .before .before .args .n) (c .before .before .before .before .args .rows .now) (c .optional .result) (state afterFrom 1 false) (c .optional .last .1 .1 .1 .0)
 from-read c = c .optional .ensures (toldOf (c .before .before .before .before .args .told)) (state afterDate 1 false) (state afterFrom 1 false) (from-optional _)

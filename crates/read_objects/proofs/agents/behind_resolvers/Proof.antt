@@ -4,8 +4,8 @@ use borrow.Author.Needs.{needs}
 use Rattle.meaning.specs.Editions.{afterResolvers, agentEnds, agentExtra, go, state}
 use Rattle.laws.specs.AgentRooms.{agent-code, agent-extras}
 use Rattle.table.specs.Told.{editionOf}
-use Rattle.read_inside.proofs.agents.behind_resolvers.Statement.{statement}
-use Rattle.read_inside.proofs.agents.behind_resolvers.Tie as tie
+use Rattle.read_objects.proofs.agents.behind_resolvers.Statement.{statement}
+use Rattle.read_objects.proofs.agents.behind_resolvers.Tie as tie
 
 agent-extra-requires : tie.Need-agent-extra-requires
 agent-extra-requires c κs = search needs

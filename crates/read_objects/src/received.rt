@@ -28,19 +28,11 @@ pub fn read_received(
     ensures { λ r. ⌜ StateRead (toldOf told) (now (s .entry)) end (state receivedBegins 0 false) at n (now (rows .entry)) r (state parameters 0 false) (now (rows .exit)) ⌝ }
 {
     let by = rows::text(s, end, at, rows, n, RECEIVED_BY, 0);
-    let Stage::Go {
-        at: after_by,
-        rows: with_by,
-    } = by
-    else {
+    let Stage::Go(after_by, with_by) = by else {
         return by;
     };
     let date = rows::date(s, end, after_by, rows, with_by, 1, told);
-    let Stage::Go {
-        at: after_date,
-        rows: with_date,
-    } = date
-    else {
+    let Stage::Go(after_date, with_date) = date else {
         return date;
     };
     behind_date(s, end, after_date, rows, with_date, told)
@@ -52,27 +44,15 @@ fn behind_date(s: &[u8], end: usize, at: usize, rows: &mut [u32], n: usize, told
     ensures { λ r. ⌜ StateRead (toldOf told) (now (s .entry)) end (state afterDate 1 false) at n (now (rows .entry)) r (state parameters 0 false) (now (rows .exit)) ⌝ }
 {
     let from = texts::optional(s, end, at, rows, n, 0x02, RECEIVED_FROM, 1);
-    let Stage::Go {
-        at: after_from,
-        rows: with_from,
-    } = from
-    else {
+    let Stage::Go(after_from, with_from) = from else {
         return from;
     };
     let id = texts::optional(s, end, after_from, rows, with_from, 0x03, RECEIVED_ID, 1);
-    let Stage::Go {
-        at: after_id,
-        rows: with_id,
-    } = id
-    else {
+    let Stage::Go(after_id, with_id) = id else {
         return id;
     };
     let via = texts::optional(s, end, after_id, rows, with_id, 0x04, RECEIVED_VIA, 1);
-    let Stage::Go {
-        at: after_via,
-        rows: with_via,
-    } = via
-    else {
+    let Stage::Go(after_via, with_via) = via else {
         return via;
     };
     let edition = told.edition;

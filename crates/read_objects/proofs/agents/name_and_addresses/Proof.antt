@@ -12,8 +12,8 @@ use Rattle.laws.specs.Pouring.{ready-opened, ready-to, source}
 use Rattle.laws.specs.ReadAt.{alike-at, opened-at}
 use Rattle.laws.specs.Rooms.{end-alike, step-alike}
 use Rattle.read_rows.specs.Joining.{begun, going, handed, moved-to, ready-inside, row-fits, went}
-use Rattle.read_inside.proofs.agents.name_and_addresses.Statement.{statement}
-use Rattle.read_inside.proofs.agents.name_and_addresses.Tie as tie
+use Rattle.read_objects.proofs.agents.name_and_addresses.Statement.{statement}
+use Rattle.read_objects.proofs.agents.name_and_addresses.Tie as tie
 
 went-on : (c : tie.After-name) → (c .before .before .before .before .before .before .before .before .args .at + 1 ≤ c .name .given .0 .0) × (c .name .given .0 .0 ≤ c .before .before .before .before .before .before .before .before .args .end) × (c .name .given .0 .1 .0 ≤ c .name .given .0 .0)
 went-on c = moved-to (c .name .given .1) (c .before .before .before .before .text .ensures (told B) (state parameters 0 false))

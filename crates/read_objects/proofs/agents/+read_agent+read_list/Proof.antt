@@ -22,19 +22,19 @@ use Rattle.read_rows.specs.Joining.{arrives, begun, foreign-byte, going, handed
 use Rattle.read_rows.specs.Stages.{Ran}
 use borrow.Fn.Kinds.{In}
 use borrow.Fn.PlainCycle.{Measures, is, falls, and}
-use Rattle.read_inside.proofs.agents.read_agent.Reads as read-agent
-use Rattle.read_inside.proofs.agents.read_agent.Kinds as read-agent-kinds
-use Rattle.read_inside.proofs.agents.+read_agent+read_list.Lts-read_agent as read-agent-lts
-use Rattle.read_inside.proofs.agents.read_list.Reads as read-list
-use Rattle.read_inside.proofs.agents.read_list.Kinds as read-list-kinds
-use Rattle.read_inside.proofs.agents.+read_agent+read_list.Lts-read_list as read-list-lts
-use Rattle.read_inside.proofs.agents.behind_resolvers.Reads as behind-resolvers-reads
-use Rattle.read_inside.proofs.agents.name_and_addresses.Reads as name-and-addresses-reads
+use Rattle.read_objects.proofs.agents.read_agent.Reads as read-agent
+use Rattle.read_objects.proofs.agents.read_agent.Kinds as read-agent-kinds
+use Rattle.read_objects.proofs.agents.+read_agent+read_list.Lts-read_agent as read-agent-lts
+use Rattle.read_objects.proofs.agents.read_list.Reads as read-list
+use Rattle.read_objects.proofs.agents.read_list.Kinds as read-list-kinds
+use Rattle.read_objects.proofs.agents.+read_agent+read_list.Lts-read_list as read-list-lts
+use Rattle.read_objects.proofs.agents.behind_resolvers.Reads as behind-resolvers-reads
+use Rattle.read_objects.proofs.agents.name_and_addresses.Reads as name-and-addresses-reads
 use Rattle.read_rows.proofs.look.fault.Reads as fault-reads
 use Rattle.read_rows.proofs.look.peek.Reads as peek-reads
 use Rattle.table.proofs.rows.put_row.Reads as put-row-reads
-use Rattle.read_inside.proofs.agents.+read_agent+read_list.{statement}
-use Rattle.read_inside.proofs.agents.+read_agent+read_list.Tie.{close}
+use Rattle.read_objects.proofs.agents.+read_agent+read_list.{statement}
+use Rattle.read_objects.proofs.agents.+read_agent+read_list.Tie.{close}
 
 abbrev μ-read-agent : Measures 2 read-agent-kinds.ps ℕ
 μ-read-agent κs a = 2 * (9 - a .1 .1 .1 .1 .1 .0)

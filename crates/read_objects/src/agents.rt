@@ -45,10 +45,7 @@ pub fn read_list(
         let b = peek(s, end, here);
         if b == CLOSING {
             let behind = here + 1;
-            return Stage::Go {
-                at: behind,
-                rows: count,
-            };
+            return Stage::Go(behind, count);
         }
         if b != 0x02 {
             return fault(b, here);
@@ -61,11 +58,7 @@ pub fn read_list(
         }
         let name = here + 1;
         let r = read_agent(s, end, name, rows, count, level, told);
-        let Stage::Go {
-            at: after_agent,
-            rows: with_agent,
-        } = r
-        else {
+        let Stage::Go(after_agent, with_agent) = r else {
             return r;
         };
         here = after_agent;
@@ -101,11 +94,7 @@ fn read_agent(
         TextRead (toldOf told) (now (s .entry)) end agentName level (state afterName level single) at n (now (rows .entry)) r (go agentEnds (state afterResolvers level single)) (now (rows .exit))) ⌝ }
 {
     let named = name_and_addresses(s, end, at, rows, n, level);
-    let Stage::Go {
-        at: after_addresses,
-        rows: with_addresses,
-    } = named
-    else {
+    let Stage::Go(after_addresses, with_addresses) = named else {
         return named;
     };
     if peek(s, end, after_addresses) != 0x03 {
@@ -122,11 +111,7 @@ fn read_agent(
     let first = after_addresses + 1;
     let opened = with_addresses + 1;
     let resolvers = read_list(s, end, first, rows, opened, level + 1, told);
-    let Stage::Go {
-        at: after_resolvers,
-        rows: with_resolvers,
-    } = resolvers
-    else {
+    let Stage::Go(after_resolvers, with_resolvers) = resolvers else {
         return resolvers;
     };
     behind_resolvers(s, end, after_resolvers, rows, with_resolvers, level, told)
@@ -146,11 +131,7 @@ fn name_and_addresses(
         TextRead t (now (s .entry)) end agentName level (state afterName level single) at n (now (rows .entry)) r (state afterAddresses level single) (now (rows .exit))) ⌝ }
 {
     let name = rows::text(s, end, at, rows, n, AGENT_NAME, level);
-    let Stage::Go {
-        at: after_name,
-        rows: with_name,
-    } = name
-    else {
+    let Stage::Go(after_name, with_name) = name else {
         return name;
     };
     if peek(s, end, after_name) != 0x02 {

@@ -11,8 +11,8 @@ use Rattle.laws.specs.Rooms.{by-look, date-room}
 use Rattle.table.specs.Told.{toldOf}
 use Rattle.read_rows.specs.Joining.{begun, handed, moved-to, went}
 use Rattle.read_rows.specs.Stages.{StateRead}
-use Rattle.read_inside.proofs.received.read_received.Statement.{statement}
-use Rattle.read_inside.proofs.received.read_received.Tie as tie
+use Rattle.read_objects.proofs.received.read_received.Statement.{statement}
+use Rattle.read_objects.proofs.received.read_received.Tie as tie
 
 by-read : (c : tie.After-text) → StateRead (toldOf (c .before .before .before .before .args .told)) (c .before .before .before .before .args .s .now) (c .before .before .before .before .args .end) (state receivedBegins 0 false) (c .before .before .before .before .args .at) (c .before .before .before .before .args .n) (c .before .before .before .before .args .rows .now) (c .text .result) (state receivedDate 1 false) (c .text .last .1 .1 .1 .0)
 by-read c =

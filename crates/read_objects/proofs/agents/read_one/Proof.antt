@@ -10,8 +10,8 @@ use Rattle.laws.specs.Pouring.{ready-next, source}
 use Rattle.laws.specs.ReadAt.{text-at}
 use Rattle.table.specs.Told.{toldOf}
 use Rattle.read_rows.specs.Joining.{begun, foreign-byte}
-use Rattle.read_inside.proofs.agents.read_one.Statement.{statement}
-use Rattle.read_inside.proofs.agents.read_one.Tie as tie
+use Rattle.read_objects.proofs.agents.read_one.Statement.{statement}
+use Rattle.read_objects.proofs.agents.read_one.Tie as tie
 
 peek-requires : tie.Need-peek-requires
 peek-requires c κs = search needs
