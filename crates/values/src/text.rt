@@ -43,8 +43,9 @@ pub fn run(s: &[u8], end: usize, at: usize) -> usize
     requires { ⌜ Inside (now s) end at ⌝ }
     ensures { λ r. ⌜ Run (now (s .entry)) end at r ⌝ }
 {
-    let i = stretches(s, end, at);
-    let mut k = past_four(s, end, i);
+    let i = sixteens(s, end, at);
+    let j = past_eight(s, end, i);
+    let mut k = past_four(s, end, j);
     while k < end {
         if s[k] < FIRST_TEXT {
             return k;
@@ -52,23 +53,6 @@ pub fn run(s: &[u8], end: usize, at: usize) -> usize
         k += 1;
     }
     k
-}
-
-// Past stretches of text, as far as they go: most texts are short, so two of eight come before those of sixteen.
-fn stretches(s: &[u8], end: usize, at: usize) -> usize
-    requires { ⌜ Inside (now s) end at ⌝ }
-    ensures { λ r. ⌜ Skipped (now (s .entry)) end at r ⌝ }
-{
-    let first = past_eight(s, end, at);
-    if first == at {
-        return first;
-    }
-    let second = past_eight(s, end, first);
-    if second == first {
-        return second;
-    }
-    let last = sixteens(s, end, second);
-    past_eight(s, end, last)
 }
 
 // Past sixteen bytes at a time while all of them are text.
@@ -87,7 +71,6 @@ fn sixteens(s: &[u8], end: usize, at: usize) -> usize
     i
 }
 
-// Past eight bytes if all of them are text, else nowhere.
 fn past_eight(s: &[u8], end: usize, at: usize) -> usize
     requires { ⌜ Inside (now s) end at ⌝ }
     ensures { λ r. ⌜ Skipped (now (s .entry)) end at r ⌝ }
@@ -100,7 +83,6 @@ fn past_eight(s: &[u8], end: usize, at: usize) -> usize
     at
 }
 
-// Past four bytes if all of them are text, else nowhere.
 fn past_four(s: &[u8], end: usize, at: usize) -> usize
     requires { ⌜ Inside (now s) end at ⌝ }
     ensures { λ r. ⌜ Skipped (now (s .entry)) end at r ⌝ }
@@ -113,7 +95,7 @@ fn past_four(s: &[u8], end: usize, at: usize) -> usize
     at
 }
 
-// Whether the next sixteen bytes are all text: `&` and not `&&`, so that it is one comparison of vectors.
+// Whether the next bytes are all text: `&` and not `&&`, so that it is one comparison of vectors.
 fn sixteen(s: &[u8], i: usize) -> bool
     requires { ⌜ i + 16 ≤ length (now s) ⌝ }
     ensures { λ r. ⌜ r ≡ textRun (now (s .entry)) i 15 ⌝ }
@@ -121,7 +103,6 @@ fn sixteen(s: &[u8], i: usize) -> bool
     eight(s, i) & eight(s, i + 8)
 }
 
-// .. the next eight.
 fn eight(s: &[u8], i: usize) -> bool
     requires { ⌜ i + 8 ≤ length (now s) ⌝ }
     ensures { λ r. ⌜ r ≡ textRun (now (s .entry)) i 7 ⌝ }
@@ -129,7 +110,6 @@ fn eight(s: &[u8], i: usize) -> bool
     four(s, i) & four(s, i + 4)
 }
 
-// .. the next four.
 fn four(s: &[u8], i: usize) -> bool
     requires { ⌜ i + 4 ≤ length (now s) ⌝ }
     ensures { λ r. ⌜ r ≡ textRun (now (s .entry)) i 3 ⌝ }

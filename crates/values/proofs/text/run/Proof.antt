@@ -9,25 +9,28 @@ use Rattle.values.proofs.text.run.Statement.{statement}
 use Rattle.values.proofs.text.run.Tie as tie
 
 abbrev Inv-loop : tie.InvT-loop
-Inv-loop s end at i k₀ k = Skipped s end at k
+Inv-loop s end at i j k₀ k = Skipped s end at k
 
 abbrev μ-loop : tie.MeasureT-loop
-μ-loop s end at i k₀ k = end - k
+μ-loop s end at i j k₀ k = end - k
 
-stretches-requires : tie.Need-stretches-requires Inv-loop μ-loop
-stretches-requires c κs = c .before .pre
+sixteens-requires : tie.Need-sixteens-requires Inv-loop μ-loop
+sixteens-requires c κs = c .before .pre
+
+past-eight-requires : tie.Need-past-eight-requires Inv-loop μ-loop
+past-eight-requires c κs = record { whole = c .before .before .pre .whole; before = c .sixteens .ensures .before }
 
 past-four-requires : tie.Need-past-four-requires Inv-loop μ-loop
-past-four-requires c κs = record { whole = c .before .before .pre .whole; before = c .stretches .ensures .before }
+past-four-requires c κs = record { whole = c .before .before .before .pre .whole; before = c .past-eight .ensures .before }
 
 loop-holds : tie.Need-loop-holds Inv-loop μ-loop
-loop-holds c = skipped-on (c .before .stretches .ensures) (c .past-four .ensures)
+loop-holds c = skipped-on (skipped-on (c .before .before .sixteens .ensures) (c .before .past-eight .ensures)) (c .past-four .ensures)
 
 shared-slice-read-if1 : tie.Need-shared-slice-read-if1 Inv-loop μ-loop
-shared-slice-read-if1 c = omega (arith, c .before .before .before .before .before .before .pre .whole, c .before .loop-test .taken)
+shared-slice-read-if1 c = omega (arith, c .before .before .before .before .before .before .before .pre .whole, c .before .loop-test .taken)
 
 returns : tie.Need-returns Inv-loop μ-loop
-returns c = let l = c .before .before .before .loop in record { skipped = l .inv; stops = λ h. no-text (getD (c .before .before .before .before .before .before .before .args .s .now) (l .k) 0) (c .if1 .taken) }
+returns c = let l = c .before .before .before .loop in record { skipped = l .inv; stops = λ h. no-text (getD (c .before .before .before .before .before .before .before .before .args .s .now) (l .k) 0) (c .if1 .taken) }
 
 add-k : tie.Need-add-k Inv-loop μ-loop
 add-k c = search needs
@@ -37,7 +40,7 @@ loop-less c = search needs
 
 loop-again : tie.Need-loop-again Inv-loop μ-loop
 loop-again c =
-    let entry = c .before .before .before .before .before .before .before in
+    let entry = c .before .before .before .before .before .before .before .before in
     let a = entry .args in
     let l = c .before .before .before .loop in
     skipped-on (l .inv) (run-skipped (a .s .now) (a .end) (entry .pre .whole) (l .k) 0 (omega (arith, c .before .before .loop-test .taken)) (one-text (a .s .now) (l .k) (c .if1 .left)))
@@ -51,7 +54,8 @@ run-spec =
     (tie.spec
     Inv-loop
     μ-loop
-    stretches-requires
+    sixteens-requires
+    past-eight-requires
     past-four-requires
     loop-holds
     shared-slice-read-if1
