@@ -1,6 +1,7 @@
 // "Extra: code 04 in B, 05 in D; key text; any-value."
 use crate::advance::Advance;
 use crate::advance::Tried;
+use crate::ahead::look_for;
 use crate::ahead::text;
 use crate::any::any;
 use crate::lay::put;
@@ -15,7 +16,32 @@ ghost use Rattle.write_rows.specs.Stages.{TakeRequires, AdvanceIs};
 
 // Lays every extra of this level from row `from` on, each behind the code, and the 01. Answers the first row that is no key, and the
 // place behind the 01. Stuck at the row behind a key that is no any-value.
+// Most often there are none, so the row ahead is looked at before anything is called.
 pub fn extras(
+    rows: &[u32],
+    pool: &[u8],
+    from: usize,
+    level: u32,
+    code: u32,
+    output: &mut [u8],
+    at: usize,
+) -> Advance
+    requires { ⌜ TakeRequires (now rows) from extraKey code (now output) at ⌝ }
+    ensures { λ r. ⌜ ((edition : Edition) (room : Room) (single : Bool) (st₁ : State) → ExtrasIn edition room level single code st₁ →
+        AdvanceIs edition (now (pool .entry)) (now (rows .entry)) from (state room level single) st₁ (now (output .entry)) at r (now (output .exit))) ⌝ }
+{
+    let r = look_for(rows, pool, from, EXTRA_KEY, level);
+    if r.kind == 0 {
+        return Advance::Go {
+            row: from,
+            at: put(output, at, CLOSING),
+        };
+    }
+    some_extras(rows, pool, from, level, code, output, at)
+}
+
+// .. extra by extra.
+fn some_extras(
     rows: &[u32],
     pool: &[u8],
     from: usize,
