@@ -4,4 +4,5 @@ pub mod Answers
 pub mod Numbers
 pub mod Counting
 pub mod Dates
+pub mod DateSteps
 pub mod Blocks

@@ -11,6 +11,7 @@ use table::refusals::ENVELOPE_ENDS;
 use table::told::Edition;
 ghost use mathlib.Core.Path.{_≡_};
 ghost use mathlib.Core.List.{List, []};
+ghost use mathlib.Core.Bool.{true};
 ghost use Prim.Native.Nat.{ℕ, _+_, _≤_, _<_};
 ghost use lib.ListN.{length, getD};
 ghost use Rattle.meaning.specs.Bytes.{pairWithin, passes, half, letter, lastDay, dateChecks, takeDate};
@@ -18,7 +19,7 @@ ghost use Rattle.meaning.specs.Told.{Told, B, D};
 ghost use Rattle.laws.specs.From.{from};
 ghost use Rattle.table.specs.Told.{editionOf};
 ghost use Rattle.values.specs.Stages.{Inside, Valued, Coded};
-ghost use Rattle.values.specs.Dates.{reaching, absoluteCheck, checkAt, earlier, dateLength, DateCode, datesOf};
+ghost use Rattle.values.specs.Dates.{reaching, absoluteCheck, checkAt, earlier, dateLength, Passing, DateCode, datesOf};
 
 // What a date's code says: its kind, whether it is absolute, and whether a designator follows.
 pub enum Form {
@@ -54,7 +55,7 @@ pub fn bytes(s: &[u8], end: usize, at: usize, kind: u32, absolute: bool, designa
     ensures { λ r. ⌜ Valued (now (s .entry)) end at kind 0 (takeDate (dateChecks (reaching absolute) designated) [] (from (now (s .entry)) at end)) r ⌝ }
 {
     let length = length_of(designated);
-    let mut j: usize = 0;
+    let mut j = passed(s, end, at, absolute);
     while j < length {
         if end - at <= j {
             return Value::Refused {
@@ -89,6 +90,32 @@ pub fn length_of(designated: bool) -> usize
         return 10;
     }
     9
+}
+
+// How many bytes of a date pass at a first look: all nine, where they are there and pass together, or none.
+fn passed(s: &[u8], end: usize, at: usize, absolute: bool) -> usize
+    requires { ⌜ Inside (now s) end at ⌝ }
+    ensures { λ r. ⌜ (r ≤ 9) × (at + r ≤ end) × Passing (now (s .entry)) at absolute r ⌝ }
+{
+    if end - at < 9 {
+        return 0;
+    }
+    if nine_pass(s, at, absolute) {
+        return 9;
+    }
+    0
+}
+
+// Whether the nine bytes of the date that begins at `at` all pass their checks.
+fn nine_pass(s: &[u8], at: usize, absolute: bool) -> bool
+    requires { ⌜ at + 9 ≤ length (now s) ⌝ }
+    ensures { λ r. ⌜ (r ≡ true → Passing (now (s .entry)) at absolute 9) ⌝ }
+{
+    let year = byte_passes(s, at, 0, absolute) & byte_passes(s, at, 1, absolute);
+    let day = byte_passes(s, at, 2, absolute) & byte_passes(s, at, 3, absolute);
+    let minute = byte_passes(s, at, 4, absolute) & byte_passes(s, at, 5, absolute);
+    let second = byte_passes(s, at, 6, absolute) & byte_passes(s, at, 7, absolute);
+    year & day & minute & second & byte_passes(s, at, 8, absolute)
 }
 
 // Whether byte j of the date that begins at `at` passes its check.
