@@ -7,13 +7,14 @@ use mathlib.Core.Path.{_≡_, refl, ap, sym, _∙_}
 use native.Mathlib.Nat.{zero-add}
 use native.Mathlib.Numerals.{add-one}
 use native.Mathlib.Omega.{arith}
-use lib.Dec.{eqb, leb}
+use lib.Dec.{T, eqb, leb}
 use lib.ListN.{length, getD, set, drop, length-append}
 use borrow.Author.Tests.{le-leb}
-use Rattle.meaning.specs.Basics.{pick}
+use Rattle.meaning.specs.Basics.{pick, every}
 use Rattle.meaning.specs.Headers.{Placed}
 use Rattle.meaning.specs.Memory.{rowWidth, numbersOf, tableOf, roomOf, laidOver, cellOf, cellsOf}
 use Rattle.meaning.specs.Writing.{Cell, broken}
+use Rattle.laws.specs.Logic.{both}
 
 -- Putting rows
 
@@ -112,6 +113,16 @@ cells-indexed pool (kind ∷ (level ∷ (start ∷ (len ∷ rows)))) =
     let q : suc (suc (suc (suc (length rows)))) / rowWidth ≡ suc (length rows / rowWidth) = omega arith in
     ap (λ (x : List Cell). cellOf pool kind level start len ∷ x) (cells-indexed pool rows ∙ sym (cells-shift pool kind level start len rows 0 (roomOf rows)))
     ∙ ap (cellsFor pool (kind ∷ level ∷ start ∷ len ∷ rows) 0) (sym q)
+
+-- what holds of a row's cell, whatever its numbers are, and of a broken one, holds of every cell
+pub every-cell : (test : Cell → Bool) (pool : List ℕ) → ((kind level start len : ℕ) → T (test (cellOf pool kind level start len))) → T (test broken) → (rows : List ℕ) → T (every test (cellsOf pool rows))
+unfolding cellsOf
+every-cell test pool f b [] = tt
+every-cell test pool f b (kind ∷ []) = both (test broken) true b tt
+every-cell test pool f b (kind ∷ (level ∷ [])) = both (test broken) true b tt
+every-cell test pool f b (kind ∷ (level ∷ (start ∷ []))) = both (test broken) true b tt
+every-cell test pool f b (kind ∷ (level ∷ (start ∷ (len ∷ rows)))) =
+    both (test (cellOf pool kind level start len)) (every test (cellsOf pool rows)) (f kind level start len) (every-cell test pool f b rows)
 
 -- the table's cells are those from row 0 on
 pub cells-are : (pool rows : List ℕ) → cellsOf pool rows ≡ cellsAt pool rows 0
