@@ -26,11 +26,26 @@ static int means_the_same(const uint32_t *a, const uint8_t *pool_of_a, const uin
     return 1;
 }
 
+/* No encrypted list, no relative date, no date with a designator and no extra: both editions have all of it. */
+static int is_plain(const uint32_t *row, size_t rows)
+{
+    enum { DATE_ABSOLUTE = 5, DATE_BACKWARD = 7, EXTRA_KEY = 19, ENCRYPTED_OPENS = 25, DATE_BYTES = 9 };
+    for (; rows-- > 0; row += ROW_NUMBERS) {
+        if (row[KIND] == EXTRA_KEY || row[KIND] == ENCRYPTED_OPENS || (DATE_ABSOLUTE < row[KIND] && row[KIND] <= DATE_BACKWARD))
+            return 0;
+        if (row[KIND] == DATE_ABSOLUTE && row[LENGTH] != DATE_BYTES)
+            return 0;
+    }
+    return 1;
+}
+
+/* A plain table is the same under the other edition; any other is refused with 7 or 9. */
 static void check_crossing(struct tally *tally, uint32_t edition, const struct header *header, struct answer wrote, size_t rows)
 {
     struct answer crossed = both_read(tally, edition, written_bytes, wrote.place, MOST_ROWS * ROW_NUMBERS / 16, table_again);
     int same = crossed.answer == ACCEPTED && crossed.rows == rows && means_the_same(table, header->bytes, table_again, written_bytes, rows);
-    demand(tally, same || crossed.answer == 7 || crossed.answer == 9, "demand 3", edition, header->bytes, header->length);
+    int holds = is_plain(table, rows) ? same : crossed.answer == 7 || crossed.answer == 9;
+    demand(tally, holds, "demand 3", edition, header->bytes, header->length);
 }
 
 /* Read then written: the same bytes. Written then read: the same table. Read under the other edition: the same, or 7 or 9. */

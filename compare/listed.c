@@ -1,6 +1,5 @@
-/* listed LIST_B LIST_D VECTORS: runs the listing programs, given as shell words, on every accepted case of read.tsv and holds
-   what they print against the case's cells; and on cases at the programs' own bounds, against the second program.
-   Without a folder of vectors (-) only the latter. */
+/* listed LIST_B LIST_D FOLDER: runs the listing programs, given as shell words, on every accepted case of the folder's read.tsv and
+   holds what they print against the case's cells; and on cases at the programs' own bounds, against the second program. */
 #define _POSIX_C_SOURCE 200809L
 
 #include "second.h"
@@ -162,7 +161,7 @@ int main(int count, char **arguments)
 {
     struct tally tally = {0, 0};
     if (count != 4) {
-        fputs("usage: listed LIST_B LIST_D VECTORS|-\n", stderr);
+        fputs("usage: listed LIST_B LIST_D FOLDER\n", stderr);
         return 2;
     }
     program[EDITION_B] = arguments[1];
@@ -174,8 +173,7 @@ int main(int count, char **arguments)
     check_second(&tally, "65,537 bytes", SECOND_LISTING_INPUT + 1);
     check_second(&tally, "cut", comments(9) - 1);
     check_second(&tally, "nothing", 0);
-    if (strcmp(arguments[3], "-") != 0)
-        check_recorded(&tally, arguments[3]);
+    check_recorded(&tally, arguments[3]);
     printf("%lu passed, %lu failed\n", tally.passed, tally.failed);
     return tally.failed == 0 ? 0 : 1;
 }

@@ -105,7 +105,7 @@ static const char *list_opened(uint32_t kind)
     switch (kind) {
     case GAMULISYAN_TO_OPENS:
         return "to";
-    case GAMULISYAN_INTENDED_RECEIVER_OPENS:
+    case GAMULISYAN_RECEIVER_OPENS:
         return "intended receiver";
     default:
         return NULL;

@@ -9,7 +9,7 @@ use std::io::{Read, Write};
 use std::process::ExitCode;
 
 const TO_OPENS: u32 = 12;
-const INTENDED_RECEIVER_OPENS: u32 = 14;
+const RECEIVER_OPENS: u32 = 14;
 const AGENT_NAME: u32 = 15;
 const ADDRESS: u32 = 17;
 /// An agent and its addresses stand at this level directly under its list; the agents of resolvers stand deeper.
@@ -19,7 +19,7 @@ const LISTED_AGENT: u32 = 1;
 fn list_opened(kind: u32) -> Option<&'static str> {
     match kind {
         TO_OPENS => Some("to"),
-        INTENDED_RECEIVER_OPENS => Some("intended receiver"),
+        RECEIVER_OPENS => Some("intended receiver"),
         _ => None,
     }
 }

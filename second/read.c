@@ -141,7 +141,7 @@ static bool read_representation(struct reader *reader)
     uint8_t code;
     if (!take_code(reader, &code))
         return false;
-    if (code == REPRESENTATION_OWN)
+    if (code == OWN_REPRESENTATION)
         return read_text(reader, KIND_OWN_REPRESENTATION, LEVEL_ENVELOPE);
     if (code < REPRESENTATION_FIRST || code > REPRESENTATION_LAST)
         return refuse_code(reader);

@@ -184,7 +184,7 @@ static bool write_extras(struct writer *writer, uint32_t level)
 static bool write_representation(struct writer *writer)
 {
     if (is_ahead(writer, KIND_OWN_REPRESENTATION, LEVEL_ENVELOPE))
-        return write_coded_text(writer, KIND_OWN_REPRESENTATION, LEVEL_ENVELOPE, REPRESENTATION_OWN);
+        return write_coded_text(writer, KIND_OWN_REPRESENTATION, LEVEL_ENVELOPE, OWN_REPRESENTATION);
     if (!is_ahead_in_pool(writer, KIND_STANDARD_REPRESENTATION, LEVEL_ENVELOPE) || writer->ahead.length != 1)
         return false;
     uint8_t representation = *viewed(writer);

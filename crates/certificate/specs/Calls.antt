@@ -11,7 +11,7 @@ use lib.Dec.{T, leb}
 use lib.ListN.{length, take, drop, take-append-drop}
 use lib.Seq.{length-take-le}
 use Rattle.meaning.specs.Basics.{pick}
-use Rattle.meaning.specs.Editions.{Edition}
+use Rattle.meaning.specs.Told.{Edition}
 use Rattle.meaning.specs.Headers.{Placed, Answer, refused, accepted, read}
 use Rattle.meaning.specs.Writing.{Written, written, unwritten}
 use Rattle.meaning.specs.Memory.{tableOf, cellsOf, roomOf, laidOver, Reply, readReply, readMemory, readAnswer, readRows, writeReply, writeMemory, write, writeAnswer, writeOutput}
@@ -21,10 +21,9 @@ use Rattle.laws.specs.PlainRows.{other}
 use Rattle.laws.specs.Ties.{numberOf, SameMeaning, plainTable}
 use Rattle.laws.specs.Demands.{read-then-written, ReadsSame, written-then-read, RefusedSevenOrNine, label-cannot-lie, payload-alters-nothing, accepted-shape}
 use Rattle.listing.specs.Listed.{table-length}
-use Rattle.reader.specs.declared.Answer as reader
+use Rattle.table.specs.declared.reply.Reply as declared
 use Rattle.reader.specs.declared.Part.{Part}
 use Rattle.reader.specs.Promises.{ReadPromise, PartPromise, PayloadPromise}
-use Rattle.writer.specs.declared.Answer as writer
 use Rattle.writer.specs.Promise.{WritePromise}
 use Rattle.certificate.specs.OneAnswer.{one-read}
 use Rattle.certificate.specs.Lent.{firstRows, behindRows, rows-read, rows-behind, bytes-written, accepted-call, fills, refuses, lays, written-call, same-count}
@@ -33,13 +32,13 @@ use Rattle.certificate.specs.Lent.{firstRows, behindRows, rows-read, row
 -- An accepted header's rows, written under the same edition with the input as pool, where the output has room: its bytes up to the payload
 -- stand at the output's front, and nothing behind them changed.
 
-pub record SameBytes (input : List ℕ) (was : reader.Answer) (output : List ℕ) (answer : writer.Answer) (after : List ℕ) : Type 0 where
+pub record SameBytes (input : List ℕ) (was : declared.Reply) (output : List ℕ) (answer : declared.Reply) (after : List ℕ) : Type 0 where
   pub answers : answer .answer ≡ 0
   pub ends : answer .place ≡ was .place
   pub count : answer .rows ≡ was .rows
   pub leaves : after ≡ laidOver output (take (was .place) input)
 
-pub read-write-same-bytes : {edition : ℕ} {input before rows output after : List ℕ} {a : reader.Answer} {b : writer.Answer} → T (areBytes input)
+pub read-write-same-bytes : {edition : ℕ} {input before rows output after : List ℕ} {a : declared.Reply} {b : declared.Reply} → T (areBytes input)
     → ReadPromise edition input before a rows → a .answer ≡ 0 → WritePromise edition (firstRows (a .rows) rows) input output b after → a .place ≤ length output
     → SameBytes input a output b after
 read-write-same-bytes {edition} {input} {rows = rows} {output = output} {a = a} t p z q room =
@@ -60,10 +59,10 @@ read-write-same-bytes {edition} {input} {rows = rows} {output = output} {a = a} 
 -- with as many rows, which mean the same; nothing behind them changed.
 
 -- the bytes at the output's front, and a payload
-abbrev pub sent : writer.Answer → List ℕ → List ℕ → List ℕ
+abbrev pub sent : declared.Reply → List ℕ → List ℕ → List ℕ
 sent was out payload = take (was .place) out ++ payload
 
-pub record SameTable (rows pool : List ℕ) (was : writer.Answer) (input before : List ℕ) (answer : reader.Answer) (after : List ℕ) : Type 0 where
+pub record SameTable (rows pool : List ℕ) (was : declared.Reply) (input before : List ℕ) (answer : declared.Reply) (after : List ℕ) : Type 0 where
   pub answers : answer .answer ≡ 0
   pub ends : answer .place ≡ was .place
   pub count : answer .rows ≡ was .rows
@@ -71,7 +70,7 @@ pub record SameTable (rows pool : List ℕ) (was : writer.Answer) (input before 
   pub leaves : behindRows (answer .rows) after ≡ behindRows (answer .rows) before
 
 -- under any edition that reads the written bytes as the same table
-same-table : {edition reading : ℕ} {rows pool output out before after bytes : List ℕ} {a : writer.Answer} {b : reader.Answer} (p : WritePromise edition rows pool output a out) → write edition rows pool (length output) ≡ written bytes
+same-table : {edition reading : ℕ} {rows pool output out before after bytes : List ℕ} {a : declared.Reply} {b : declared.Reply} (p : WritePromise edition rows pool output a out) → write edition rows pool (length output) ≡ written bytes
     → (payload : List ℕ) → ReadPromise reading (sent a out payload) before b after → a .rows ≤ roomOf before → ReadsSame reading bytes payload rows pool → SameTable rows pool a (sent a out payload) before b after
 same-table {reading = reading} {out = out} {after = after} {bytes = bytes} {a = a} {b = b} p w payload q room (found, is, means) =
     let l = lays p w in
@@ -86,7 +85,7 @@ same-table {reading = reading} {out = out} {after = after} {bytes = bytes} {a = 
       leaves = rows-behind f;
     }
 
-pub write-read-same-table : {edition : ℕ} {rows pool output out before after : List ℕ} {a : writer.Answer} {b : reader.Answer} → T (areBytes pool)
+pub write-read-same-table : {edition : ℕ} {rows pool output out before after : List ℕ} {a : declared.Reply} {b : declared.Reply} → T (areBytes pool)
     → WritePromise edition rows pool output a out → a .answer ≡ 0 → (payload : List ℕ) → ReadPromise edition (sent a out payload) before b after → a .rows ≤ roomOf before
     → SameTable rows pool a (sent a out payload) before b after
 write-read-same-table {edition} {rows} {pool} {output} t p z payload q room =
@@ -96,12 +95,12 @@ write-read-same-table {edition} {rows} {pool} {output} t p z payload q room =
 -- 3. "The label can't lie": "A table written under one edition and read under the other is the same table, or is refused with 7 or 9: never a different table."
 -- The same if the table is plain; refused if it is not, and then no row that was lent is changed.
 
-pub record RefusesLabel (before : List ℕ) (answer : reader.Answer) (after : List ℕ) : Type 0 where
+pub record RefusesLabel (before : List ℕ) (answer : declared.Reply) (after : List ℕ) : Type 0 where
   pub answers : (answer .answer ≡ 7) ⊎ (answer .answer ≡ 9)
   pub count : answer .rows ≡ 0
   pub leaves : after ≡ before
 
-pub label-never-lies : (e : Edition) {rows pool output out before after : List ℕ} {a : writer.Answer} {b : reader.Answer} → T (areBytes pool)
+pub label-never-lies : (e : Edition) {rows pool output out before after : List ℕ} {a : declared.Reply} {b : declared.Reply} → T (areBytes pool)
     → WritePromise (numberOf e) rows pool output a out → a .answer ≡ 0 → (payload : List ℕ) → ReadPromise (numberOf (other e)) (sent a out payload) before b after → a .rows ≤ roomOf before
     → ((plainTable rows pool ≡ true) × SameTable rows pool a (sent a out payload) before b after) ⊎ ((plainTable rows pool ≡ false) × RefusesLabel before b after)
 label-never-lies e {rows} {pool} {output} {out} {before} {after} {a} {b} t p z payload q room =
@@ -123,7 +122,7 @@ label-never-lies e {rows} {pool} {output} {out} {before} {after} {a} {b} t p z p
 -- 4. "Payload bytes and their number never alter an accepted answer."
 -- With another payload behind the header: the same answer, and the same rows.
 
-pub payload-changes-nothing : {edition : ℕ} {input before after later : List ℕ} {a b : reader.Answer} → T (areBytes input)
+pub payload-changes-nothing : {edition : ℕ} {input before after later : List ℕ} {a b : declared.Reply} → T (areBytes input)
     → ReadPromise edition input before a after → a .answer ≡ 0 → (payload : List ℕ) → ReadPromise edition (take (a .place) input ++ payload) before b later → (a ≡ b) × (after ≡ later)
 unfolding readAnswer readRows
 payload-changes-nothing {edition} {input} {before} {a = a} t p z payload q =
@@ -135,7 +134,7 @@ payload-changes-nothing {edition} {input} {before} {a = a} t p z payload q =
 -- 5. "The payload is handed back as a part of the caller's own input."
 -- Behind an accepted header stands the payload: its bytes, and as two numbers, from the answer's place to the input's end.
 
-pub payload-behind-header : {edition : ℕ} {input before after bytes : List ℕ} {a : reader.Answer} {part : Part} → ReadPromise edition input before a after → a .answer ≡ 0
+pub payload-behind-header : {edition : ℕ} {input before after bytes : List ℕ} {a : declared.Reply} {part : Part} → ReadPromise edition input before a after → a .answer ≡ 0
     → PayloadPromise edition input bytes → PartPromise edition input part → (take (a .place) input ++ bytes ≡ input) × (part .start ≡ a .place) × (part .end ≡ length input)
 unfolding payloadBytes payloadStart payloadEnd
 payload-behind-header {input = input} {a = a} p z q r =
@@ -145,7 +144,7 @@ payload-behind-header {input = input} {a = a} p z q r =
 
 -- 6. "A refused call changes nothing lent." Whatever refuses it: 14 and 16, for want of room, too.
 
-pub refused-read-changes-nothing : {edition : ℕ} {input before after : List ℕ} {a : reader.Answer} → ReadPromise edition input before a after → (a .answer ≡ 0 → ⊥) → after ≡ before
+pub refused-read-changes-nothing : {edition : ℕ} {input before after : List ℕ} {a : declared.Reply} → ReadPromise edition input before a after → (a .answer ≡ 0 → ⊥) → after ≡ before
 unfolding readAnswer readRows
 refused-read-changes-nothing {edition} {input} {before} {after} {a} p some = at (read edition input) (ap (λ (r : Reply). r .answer) (p .answers)) (p .rows)
   where
@@ -157,7 +156,7 @@ refused-read-changes-nothing {edition} {input} {before} {after} {a} p some = at 
     at (refused refusal place) r m = m
     at (accepted place rows) r m = fits rows (leb (length rows) (roomOf before)) r m
 
-pub refused-write-changes-nothing : {edition : ℕ} {rows pool before after : List ℕ} {a : writer.Answer} → WritePromise edition rows pool before a after → (a .answer ≡ 0 → ⊥) → after ≡ before
+pub refused-write-changes-nothing : {edition : ℕ} {rows pool before after : List ℕ} {a : declared.Reply} → WritePromise edition rows pool before a after → (a .answer ≡ 0 → ⊥) → after ≡ before
 unfolding writeAnswer writeOutput
 refused-write-changes-nothing {edition} {rows} {pool} {before} {after} {a} p some = at (write edition rows pool (length before)) (ap (λ (r : Reply). r .answer) (p .answers)) (p .leaves)
   where

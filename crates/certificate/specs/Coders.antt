@@ -10,11 +10,11 @@ use lib.ListN.{length, take}
 use Rattle.meaning.specs.Bytes.{numberMost}
 use Rattle.meaning.specs.Plain.{decoded, valueOf, numberValue, decodeNumber, numberDecoded, numberPlain, numberBytes, numberEncoded, numberOutput, dateOf, dateBytes, decodeDate, componentsOf, dateDecoded, datePlain, dateInRange, dateEncoded, dateOutput}
 use Rattle.laws.specs.Demands.{number-again, number-bytes-again, date-again, date-bytes-again}
-use Rattle.values.specs.declared.decode.DecodedNumber.{DecodedNumber}
-use Rattle.values.specs.declared.decode.DecodedDate.{DecodedDate}
-use Rattle.values.specs.declared.date.Date.{Date}
-use Rattle.values.specs.declared.encode.Encoded.{Encoded}
-use Rattle.values.specs.Plain.{NumberDecodes, NumberEncodes, DateDecodes, DateEncodes, plainOf}
+use Rattle.coders.specs.declared.decode.DecodedNumber.{DecodedNumber}
+use Rattle.coders.specs.declared.decode.DecodedDate.{DecodedDate}
+use Rattle.coders.specs.declared.Date.{Date}
+use Rattle.coders.specs.declared.encode.Encoded.{Encoded}
+use Rattle.coders.specs.Plain.{NumberDecodes, NumberEncodes, DateDecodes, DateEncodes, plainOf}
 use Rattle.certificate.specs.OneAnswer.{same-date}
 use Rattle.certificate.specs.Lent.{Encodes, encoded-call, encodes, encoded-front, decoded-call, decodes}
 

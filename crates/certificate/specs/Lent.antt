@@ -20,10 +20,9 @@ use Rattle.laws.specs.Ties.{SameMeaning, written-known}
 use Rattle.laws.specs.WriterRefusals.{WriterRefusal, no-edition, no-table, past-limit, no-room}
 use Rattle.laws.specs.Demands.{refused-shape, unwritten-shape}
 use Rattle.listing.specs.Listed.{table-length}
-use Rattle.values.specs.declared.encode.Encoded.{Encoded}
-use Rattle.reader.specs.declared.Answer as reader
+use Rattle.coders.specs.declared.encode.Encoded.{Encoded}
+use Rattle.table.specs.declared.reply.Reply as declared
 use Rattle.reader.specs.Promises.{ReadPromise}
-use Rattle.writer.specs.declared.Answer as writer
 use Rattle.writer.specs.Promise.{WritePromise}
 
 -- the rows at the front of lent memory, as numbers
@@ -35,14 +34,14 @@ abbrev pub behindRows : ℕ → List ℕ → List ℕ
 behindRows count lent = drop (count * rowWidth) lent
 
 -- what the reader answers and leaves where a header is accepted and its rows have room
-pub record Filled (place : ℕ) (rows : List Placed) (before : List ℕ) (a : reader.Answer) (after : List ℕ) : Type 0 where
+pub record Filled (place : ℕ) (rows : List Placed) (before : List ℕ) (a : declared.Reply) (after : List ℕ) : Type 0 where
   pub answers : a .answer ≡ 0
   pub ends : a .place ≡ place
   pub count : a .rows ≡ length rows
   pub leaves : after ≡ laidOver before (tableOf rows)
 
 -- what the writer answers and leaves where a table is written
-pub record Laid (bytes rows before : List ℕ) (a : writer.Answer) (after : List ℕ) : Type 0 where
+pub record Laid (bytes rows before : List ℕ) (a : declared.Reply) (after : List ℕ) : Type 0 where
   pub answers : a .answer ≡ 0
   pub ends : a .place ≡ length bytes
   pub count : a .rows ≡ roomOf rows
@@ -57,7 +56,7 @@ pub laid-behind : (lent front : List ℕ) {n : ℕ} → length front ≡ n → d
 unfolding laidOver
 laid-behind lent front {n} h = drop-at front (drop (length front) lent) n h ∙ ap (λ (k : ℕ). drop k lent) h
 
-module _ {place : ℕ} {rows : List Placed} {before after : List ℕ} {a : reader.Answer} (f : Filled place rows before a after) where
+module _ {place : ℕ} {rows : List Placed} {before after : List ℕ} {a : declared.Reply} (f : Filled place rows before a after) where
   table-long : length (tableOf rows) ≡ a .rows * rowWidth
   table-long = table-length rows ∙ ap (λ (n : ℕ). n * rowWidth) (sym (f .count))
 
@@ -67,12 +66,12 @@ module _ {place : ℕ} {rows : List Placed} {before after : List ℕ} {a : reade
   pub rows-behind : behindRows (a .rows) after ≡ behindRows (a .rows) before
   rows-behind = ap (behindRows (a .rows)) (f .leaves) ∙ laid-behind before (tableOf rows) table-long
 
-pub bytes-written : {bytes rows before after : List ℕ} {a : writer.Answer} → Laid bytes rows before a after → take (a .place) after ≡ bytes
+pub bytes-written : {bytes rows before after : List ℕ} {a : declared.Reply} → Laid bytes rows before a after → take (a .place) after ≡ bytes
 bytes-written {bytes} {before = before} {a = a} l = ap (take (a .place)) (l .leaves) ∙ laid-front before bytes (sym (l .ends))
 
 -- The reader
 
-module _ {edition : ℕ} {input before after : List ℕ} {a : reader.Answer} (p : ReadPromise edition input before a after) where
+module _ {edition : ℕ} {input before after : List ℕ} {a : declared.Reply} (p : ReadPromise edition input before a after) where
   abbrev AcceptedCall : Type 0
   AcceptedCall = (place : ℕ) × (rows : List Placed) × (read edition input ≡ accepted place rows) × Filled place rows before a after
 
@@ -135,7 +134,7 @@ rows-whole pool (kind ∷ (level ∷ (start ∷ (many ∷ rows)))) (row ∷ tabl
     let rest : cellsOf pool rows ≡ map cell table = cc q in let h = rows-whole pool rows table rest in
     omega arith
 
-module _ {edition : ℕ} {rows pool before after : List ℕ} {a : writer.Answer} (p : WritePromise edition rows pool before a after) where
+module _ {edition : ℕ} {rows pool before after : List ℕ} {a : declared.Reply} (p : WritePromise edition rows pool before a after) where
   abbrev WrittenCall : Type 0
   WrittenCall = (bytes : List ℕ) × (write edition rows pool (length before) ≡ written bytes) × Laid bytes rows before a after
 

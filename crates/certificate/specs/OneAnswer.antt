@@ -8,15 +8,14 @@ use lib.ListN.{length, replicate, length-replicate}
 use Rattle.meaning.specs.Memory.{Reply}
 use Rattle.meaning.specs.Plain.{Outcome, Date as PlainDate}
 use Rattle.meaning.specs.Listing.{inputMost}
-use Rattle.values.specs.declared.decode.DecodedNumber.{DecodedNumber}
-use Rattle.values.specs.declared.decode.DecodedDate.{DecodedDate}
-use Rattle.values.specs.declared.date.Date.{Date}
-use Rattle.values.specs.declared.encode.Encoded.{Encoded}
-use Rattle.values.specs.Plain.{NumberDecodes, NumberEncodes, DateDecodes, DateEncodes, plainOf}
-use Rattle.reader.specs.declared.Answer as reader
+use Rattle.coders.specs.declared.decode.DecodedNumber.{DecodedNumber}
+use Rattle.coders.specs.declared.decode.DecodedDate.{DecodedDate}
+use Rattle.coders.specs.declared.Date.{Date}
+use Rattle.coders.specs.declared.encode.Encoded.{Encoded}
+use Rattle.coders.specs.Plain.{NumberDecodes, NumberEncodes, DateDecodes, DateEncodes, plainOf}
+use Rattle.table.specs.declared.reply.Reply as declared
 use Rattle.reader.specs.declared.Part.{Part}
 use Rattle.reader.specs.Promises.{ReadPromise, PartPromise, PayloadPromise}
-use Rattle.writer.specs.declared.Answer as writer
 use Rattle.writer.specs.Promise.{WritePromise}
 use Rattle.listing.specs.declared.Piece.{Piece}
 use Rattle.listing.specs.Pieces.{NextPiece}
@@ -28,11 +27,11 @@ same : {A : Type 0} {x y named : A} → x ≡ named → y ≡ named → x ≡ y
 same p q = p ∙ sym q
 
 -- reading a header: answer, place and count of rows, and the lent rows
-pub one-read : {edition : ℕ} {input before after later : List ℕ} {a b : reader.Answer} → ReadPromise edition input before a after → ReadPromise edition input before b later → (a ≡ b) × (after ≡ later)
+pub one-read : {edition : ℕ} {input before after later : List ℕ} {a b : declared.Reply} → ReadPromise edition input before a after → ReadPromise edition input before b later → (a ≡ b) × (after ≡ later)
 one-read p q = (ap (λ (r : Reply). record { answer = r .answer; place = r .place; rows = r .rows }) (same (p .answers) (q .answers)), same (p .rows) (q .rows))
 
 -- writing a table: answer, place and count of rows, and the lent output
-pub one-write : {edition : ℕ} {rows pool before after later : List ℕ} {a b : writer.Answer} → WritePromise edition rows pool before a after → WritePromise edition rows pool before b later → (a ≡ b) × (after ≡ later)
+pub one-write : {edition : ℕ} {rows pool before after later : List ℕ} {a b : declared.Reply} → WritePromise edition rows pool before a after → WritePromise edition rows pool before b later → (a ≡ b) × (after ≡ later)
 one-write p q = (ap (λ (r : Reply). record { answer = r .answer; place = r .place; rows = r .rows }) (same (p .answers) (q .answers)), same (p .leaves) (q .leaves))
 
 -- the payload: the bytes of the part that is handed back
@@ -73,7 +72,7 @@ pub one-piece : (answer place count : ℕ) (rows bytes : List ℕ) {line byte : 
 one-piece answer place count rows bytes p q = one-answer p q
 
 -- reading a table for the listing: what the reader has
-pub one-table : {edition : ℕ} {input before after later : List ℕ} {a b : reader.Answer} → TablePromise edition input before a after → TablePromise edition input before b later → (a ≡ b) × (after ≡ later)
+pub one-table : {edition : ℕ} {input before after later : List ℕ} {a b : declared.Reply} → TablePromise edition input before a after → TablePromise edition input before b later → (a ≡ b) × (after ≡ later)
 one-table p q = one-read (p .reads) (q .reads)
 
 -- the line of an input that is too long: there is such an input

@@ -11,22 +11,21 @@ use Rattle.meaning.specs.Editions.{shared, own, moves}
 use Rattle.meaning.specs.Reading.{takeValue, find, look, stepMove, step, run, inside}
 use Rattle.meaning.specs.Headers.{envelope, header, read}
 use Rattle.meaning.specs.Writing.{valid, writeValue, wayOf, fit, fitRow, closeWithin, close, planOf, writeRows}
-use Rattle.meaning.specs.Memory.{cellsOf, laidOver, write, readAnswer, readRows, writeAnswer, writeOutput}
+use Rattle.meaning.specs.Memory.{row, cellsOf, laidOver, write, readAnswer, readRows, writeAnswer, writeOutput}
 use Rattle.meaning.specs.Plain.{digitsWithin, digitsOf, packed, decodeNumber, numberDecoded, numberBytes, numberEncoded, dateOf, decodeDate, dateDecoded, dateInRange, dateEncoded}
-use Rattle.meaning.specs.Cases.{hex, aDate, baseWith, baseRows, replyIs, outcomeIs}
+use Rattle.meaning.specs.Cases.{hex, aDate, baseWith, inMemory, baseRows, replyIs, outcomeIs}
 use Rattle.laws.specs.Logic.{areBytes}
 use Rattle.laws.specs.Ties.{plainTable}
-use Rattle.reader.specs.declared.Answer as reader
+use Rattle.table.specs.declared.reply.Reply as declared
 use Rattle.reader.specs.Promises.{ReadPromise}
-use Rattle.writer.specs.declared.Answer as writer
 use Rattle.writer.specs.Promise.{WritePromise}
 
-pub some-read : (edition : ℕ) (input before : List ℕ) → (a : reader.Answer) × (after : List ℕ) × ReadPromise edition input before a after
+pub some-read : (edition : ℕ) (input before : List ℕ) → (a : declared.Reply) × (after : List ℕ) × ReadPromise edition input before a after
 some-read edition input before =
     let r = readAnswer edition input before in
     (record { answer = r .answer; place = r .place; rows = r .rows }, readRows edition input before, record { answers = refl; rows = refl })
 
-pub some-write : (edition : ℕ) (rows pool before : List ℕ) → (a : writer.Answer) × (after : List ℕ) × WritePromise edition rows pool before a after
+pub some-write : (edition : ℕ) (rows pool before : List ℕ) → (a : declared.Reply) × (after : List ℕ) × WritePromise edition rows pool before a after
 some-write edition rows pool before =
     let r = writeAnswer edition rows pool before in
     (record { answer = r .answer; place = r .place; rows = r .rows }, writeOutput edition rows pool before, record { answers = refl; leaves = refl })
@@ -49,10 +48,10 @@ isWritten edition rows bytes count = replyIs 0 bytes count (writeAnswer edition 
 
 -- an encrypted list, which D lacks, and a forward date, which B lacks
 abbrev encrypted : List ℕ
-encrypted = baseRows 5 9 (25 ∷ 0 ∷ 14 ∷ 0 ∷ [])
+encrypted = inMemory (baseRows 5 9 (row 25 0 14 0 ∷ []))
 
 abbrev forwarded : List ℕ
-forwarded = baseRows 6 9 []
+forwarded = inMemory (baseRows 6 9 [])
 
 -- 42, and the header's date
 abbrev areCoded : Bool
@@ -60,7 +59,7 @@ areCoded =
     outcomeIs 0 2 (numberEncoded 42 2) && outcomeIs 0 2 (numberDecoded (hex 0x1_53_00)) && outcomeIs 0 9 (dateEncoded 5 (dateOf aDate) 9) && outcomeIs 0 9 (dateDecoded 5 aDate)
 
 pub premises : T (
-    areBytes aHeader && isRead 1 && isRead 2 && isWritten 1 (baseRows 5 9 []) 15 3 && isWritten 2 (baseRows 5 9 []) 15 3 && plainTable (baseRows 5 9 []) aHeader &&
+    areBytes aHeader && isRead 1 && isRead 2 && isWritten 1 (inMemory (baseRows 5 9 [])) 15 3 && isWritten 2 (inMemory (baseRows 5 9 [])) 15 3 && plainTable (inMemory (baseRows 5 9 [])) aHeader &&
     isWritten 1 encrypted 17 4 && not (plainTable encrypted aHeader) && isWritten 2 forwarded 15 3 && not (plainTable forwarded aHeader) && areCoded
     )
 unfolding textByte takeText textOk turn takeNumber numberOk lastDay passes takeDate dateOk highFirst tooWide takeBytes blockOf takeBlock blockOk shared own moves takeValue find look stepMove step run inside envelope header read valid writeValue wayOf fit fitRow closeWithin close planOf writeRows cellsOf laidOver write readAnswer readRows writeAnswer writeOutput digitsWithin digitsOf packed decodeNumber numberDecoded numberBytes numberEncoded decodeDate dateDecoded dateInRange dateEncoded

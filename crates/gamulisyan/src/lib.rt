@@ -1,17 +1,18 @@
 // The entries under the names that C and Rust programs link, each with its whole promise; nothing else. `include/gamulisyan.h` declares them.
 ghost use Rattle.reader.specs.Promises.{ReadPromise, PartPromise};
 ghost use Rattle.writer.specs.Promise.{WritePromise};
-ghost use Rattle.values.specs.Plain.{NumberDecodes, NumberEncodes, DateDecodes, DateEncodes, plainOf};
+ghost use Rattle.coders.specs.Plain.{NumberDecodes, NumberEncodes, DateDecodes, DateEncodes, plainOf};
 ghost use Rattle.gamulisyan.specs.Version.{version};
 ghost use mathlib.Core.Path.{_≡_};
+use coders::Date;
+use coders::decode::DecodedDate;
+use coders::decode::DecodedNumber;
+use coders::encode::Encoded;
 use reader::Part;
-use values::date::Date;
-use values::decode::DecodedDate;
-use values::decode::DecodedNumber;
-use values::encode::Encoded;
+use table::reply::Reply;
 
 #[no_mangle]
-pub extern "C" fn gamulisyan_read(edition: u32, input: &[u8], rows: &mut [u32]) -> reader::Answer
+pub extern "C" fn gamulisyan_read(edition: u32, input: &[u8], rows: &mut [u32]) -> Reply
     ensures { λ r. ⌜ ReadPromise edition (now (input .entry)) (now (rows .entry)) r (now (rows .exit)) ⌝ }
 {
     reader::read(edition, input, rows)
@@ -23,7 +24,7 @@ pub extern "C" fn gamulisyan_write(
     rows: &[u32],
     pool: &[u8],
     output: &mut [u8],
-) -> writer::Answer
+) -> Reply
     ensures { λ r. ⌜ WritePromise edition (now (rows .entry)) (now (pool .entry)) (now (output .entry)) r (now (output .exit)) ⌝ }
 {
     writer::write(edition, rows, pool, output)
@@ -40,28 +41,28 @@ pub extern "C" fn gamulisyan_payload(edition: u32, input: &[u8]) -> Part
 pub extern "C" fn gamulisyan_number_decode(bytes: &[u8]) -> DecodedNumber
     ensures { λ r. ⌜ NumberDecodes (now (bytes .entry)) r ⌝ }
 {
-    values::decode::number(bytes)
+    coders::decode::number(bytes)
 }
 
 #[no_mangle]
 pub extern "C" fn gamulisyan_number_encode(value: u64, output: &mut [u8]) -> Encoded
     ensures { λ r. ⌜ NumberEncodes value (now (output .entry)) (now (output .exit)) r ⌝ }
 {
-    values::encode::number(value, output)
+    coders::encode::number(value, output)
 }
 
 #[no_mangle]
 pub extern "C" fn gamulisyan_date_decode(kind: u32, bytes: &[u8]) -> DecodedDate
     ensures { λ r. ⌜ DateDecodes kind (now (bytes .entry)) r ⌝ }
 {
-    values::decode::date(kind, bytes)
+    coders::decode::date(kind, bytes)
 }
 
 #[no_mangle]
 pub extern "C" fn gamulisyan_date_encode(kind: u32, date: Date, output: &mut [u8]) -> Encoded
     ensures { λ r. ⌜ DateEncodes kind (plainOf date) (now (output .entry)) (now (output .exit)) r ⌝ }
 {
-    values::encode::date(kind, date, output)
+    coders::encode::date(kind, date, output)
 }
 
 // A line that `./release` stamps. The promise ties it to specs/Version.antt: a stamp of one and not the other is not proved.

@@ -9,7 +9,8 @@ use native.Mathlib.Omega.{arith}
 use lib.Dec.{T, eqb, eqb→eq, eqb-refl}
 use borrow.Author.Tests.{ne-eqb, eq-eqb}
 use Rattle.meaning.specs.Basics.{pick, every}
-use Rattle.meaning.specs.Editions.{Edition, Room, parameters, agentList, afterResolvers, State, state, Next, outer, inner, innerOne, stay, deeper, listEnds, agentEnds, listEnd, go, isQuiet, Move, closing, moves, shared, own}
+use Rattle.meaning.specs.Told.{Edition}
+use Rattle.meaning.specs.Editions.{Room, parameters, agentList, afterResolvers, State, state, Next, outer, inner, innerOne, stay, deeper, listEnds, agentEnds, listEnd, go, isQuiet, Move, closing, moves, shared, own}
 use Rattle.meaning.specs.Reading.{Row, Found, none, hit, find, orElse, hasCode, isClosed, next}
 use Rattle.meaning.specs.Writing.{standsFor, isPass, wayTo, byPass, atLevel, wayOf, unfit, fits, led, fitBy, fitRow, close}
 use Rattle.laws.specs.Logic.{left-of, right-of, either, or-left, or-right, is-false, not-both}

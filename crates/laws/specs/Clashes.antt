@@ -12,7 +12,8 @@ use borrow.Author.Tests.{lt-leb}
 use Rattle.meaning.specs.Basics.{pick, every}
 use Rattle.meaning.specs.Bytes.{Taken, took, failed, prefixed, isDigit, twoDigits, Check, pair, day, half, letter, lastDay, pairWithin, passes, Reach, absolute, relative, anyPair, dateChecks, takeDate, dateOk}
 use Rattle.meaning.specs.Kinds.{agentName}
-use Rattle.meaning.specs.Editions.{Edition, B, D, Room, State, Next, outer, inner, innerOne, stay, deeper, listEnds, agentEnds, go, Form, text, date, number, block, itself, opens, quiet, Move, noCode, moves}
+use Rattle.meaning.specs.Told.{Edition, B, D, Told, told}
+use Rattle.meaning.specs.Editions.{Room, State, Next, outer, inner, innerOne, stay, deeper, listEnds, agentEnds, go, Form, text, date, number, block, itself, opens, quiet, Move, noCode, moves}
 use Rattle.meaning.specs.Reading.{Row, takeValue, Found, none, hit, find, hasCode, look, isClosed, strange, tooDeep, fails, next, step, stepMove, fault, withRows, inside}
 use Rattle.meaning.specs.Writing.{valid, writeValue}
 use Rattle.laws.specs.Logic.{left-of, right-of, both, either, is-false}
@@ -25,16 +26,16 @@ use Rattle.laws.specs.PlainRows.{Alone, clashOk, clashWith, clashes, isD
 
 -- What the other edition does at a code that it lacks
 
-abbrev pub Refuses : Edition → State → List ℕ → Type 0
-Refuses e st s = (refusal : ℕ) × (left : ℕ) × (inside e st s ≡ fault refusal left) × T (eqb refusal 7 || eqb refusal 9)
+abbrev pub Refuses : Told → State → List ℕ → Type 0
+Refuses told st s = (refusal : ℕ) × (left : ℕ) × (inside told st s ≡ fault refusal left) × T (eqb refusal 7 || eqb refusal 9)
 
 lost-none : (o : Found) → T (isLost o) → o ≡ none
 lost-none none t = refl
 lost-none (hit m) t = absurd t
 
-step-lost : (e : Edition) (st : State) (b : ℕ) (s : List ℕ) → look b (moves e (st .room)) ≡ none → isClosed (st .room) ≡ false → step e st (b ∷ s) ≡ fails (strange (st .room)) (suc (length s))
+step-lost : (told : Told) (st : State) (b : ℕ) (s : List ℕ) → look b (moves (told .edition) (st .room)) ≡ none → isClosed (st .room) ≡ false → step told st (b ∷ s) ≡ fails (strange (st .room)) (suc (length s))
 unfolding step stepMove
-step-lost e st b s q h = rw (q, h) refl
+step-lost told st b s q h = rw (q, h) refl
 
 high-none : (l : List Move) (b : ℕ) → 0x20 ≤ b → T (every lowMove l) → (o : Found) → Hits (hasCode b) l o → o ≡ none
 high-none l b h t none i = refl
@@ -58,9 +59,9 @@ low-facts e r t =
     let u = right-of a (b && c) t in
     record { low = left-of a (b && c) t; ajar = is-false (isClosed r) (left-of b c u); seven = eqb→eq (strange r) 7 (right-of b c u) }
 
-step-high : (e : Edition) (st : State) (b : ℕ) (s : List ℕ) → 0x20 ≤ b → LowRoom e (st .room) → step e st (b ∷ s) ≡ fails 7 (suc (length s))
-step-high e st b s h f =
-    step-lost e st b s (look-high (moves e (st .room)) b h (f .low)) (f .ajar) ∙ ap (λ (k : ℕ). fails k (suc (length s))) (f .seven)
+step-high : (told : Told) (st : State) (b : ℕ) (s : List ℕ) → 0x20 ≤ b → LowRoom (told .edition) (st .room) → step told st (b ∷ s) ≡ fails 7 (suc (length s))
+step-high told st b s h f =
+    step-lost told st b s (look-high (moves (told .edition) (st .room)) b h (f .low)) (f .ajar) ∙ ap (λ (k : ℕ). fails k (suc (length s))) (f .seven)
 
 low-next : (e : Edition) (st : State) (n : Next) → T (lowNext e n) → LowRoom e ((go n st) .room)
 low-next e st (outer t) ok = low-facts e t ok
@@ -157,10 +158,10 @@ nine-failed : (g : Taken) → Nine g → (left : ℕ) × (g ≡ failed 9 left)
 nine-failed (took v s) i = absurd i
 nine-failed (failed refusal left) i = (left, ap (λ (k : ℕ). failed k left) i)
 
-step-failed : (e : Edition) (st : State) (m : Move) (b : ℕ) (s : List ℕ) {refusal left : ℕ} → look b (moves e (st .room)) ≡ hit m → tooDeep m st ≡ false → hasCode noCode m ≡ false
-    → takeValue (m .form) (suc (length s)) (m .code) s ≡ failed refusal left → step e st (b ∷ s) ≡ fails refusal left
+step-failed : (told : Told) (st : State) (m : Move) (b : ℕ) (s : List ℕ) {refusal left : ℕ} → look b (moves (told .edition) (st .room)) ≡ hit m → tooDeep m st ≡ false → hasCode noCode m ≡ false
+    → takeValue told (m .form) (suc (length s)) (m .code) s ≡ failed refusal left → step told st (b ∷ s) ≡ fails refusal left
 unfolding step stepMove
-step-failed e st m b s el ed eb es = rw (el, ed, eb, es) refl
+step-failed told st m b s el ed eb es = rw (el, ed, eb, es) refl
 
 abbrev pub Low : List ℕ → Type 0
 Low [] = ⊥
@@ -213,28 +214,28 @@ clash-of e r b (hit m) q t =
       low = right-of d f v;
     }
 
-form-date : (e : Edition) (r : Reach) (d : Bool) (st : State) (b : ℕ) (c : Clash e (st .room) b) (s : List ℕ) → T (isDateOf r d (c .by .form))
-    → takeValue (c .by .form) (suc (length s)) (c .by .code) s ≡ takeDate (dateChecks r d) [] s
+form-date : (told : Told) (e : Edition) (r : Reach) (d : Bool) (st : State) (b : ℕ) (c : Clash e (st .room) b) (s : List ℕ) → T (isDateOf r d (c .by .form))
+    → takeValue told (c .by .form) (suc (length s)) (c .by .code) s ≡ takeDate (dateChecks r d) [] s
 unfolding takeValue
-form-date e r d st b c s t = ap (λ (f : Form). takeValue f (suc (length s)) (c .by .code) s) (date-of r d (c .by .form) t)
+form-date told e r d st b c s t = ap (λ (f : Form). takeValue told f (suc (length s)) (c .by .code) s) (date-of r d (c .by .form) t)
 
 -- B's date with a designator, read by D: nine bytes of a forward date, then a letter where a code should stand
-read-by-D : (st : State) (b : ℕ) (u : List ℕ) (x : ℕ) (rest : List ℕ) (c : Clash D (st .room) b) → T (dateOk (dateChecks absolute false) [] u) → 0x20 ≤ x → Refuses D st (b ∷ (u ++ (x ∷ rest)))
+read-by-D : (st : State) (b : ℕ) (u : List ℕ) (x : ℕ) (rest : List ℕ) (c : Clash D (st .room) b) → T (dateOk (dateChecks absolute false) [] u) → 0x20 ≤ x → Refuses (told D) st (b ∷ (u ++ (x ∷ rest)))
 unfolding loose
 read-by-D st b u x rest c ok h =
     let s = u ++ (x ∷ rest) in
     let m = c .by in
-    let taken : takeValue (m .form) (suc (length s)) (m .code) s ≡ took u (x ∷ rest) = form-date D relative false st b c s (c .form) ∙ date-in (dateChecks relative false) [] u (x ∷ rest) (date-loose (dateChecks absolute false) [] u ok) in
-    let first = step-is D st m b s u (x ∷ rest) (c .found) (c .flat st) (rw (c .coded) taken) in
-    let second = step-high D (go (m .next) st) x rest h (low-next D st (m .next) (c .low)) in
-    (7, suc (length rest), inside-next D st (b ∷ s) first ∙ ap (withRows _) (inside-fails D (go (m .next) st) (x ∷ rest) second), tt)
+    let taken : takeValue (told D) (m .form) (suc (length s)) (m .code) s ≡ took u (x ∷ rest) = form-date (told D) D relative false st b c s (c .form) ∙ date-in (dateChecks relative false) [] u (x ∷ rest) (date-loose (dateChecks absolute false) [] u ok) in
+    let first = step-is (told D) st m b s u (x ∷ rest) (c .found) (c .flat st) (rw (c .coded) taken) in
+    let second = step-high (told D) (go (m .next) st) x rest h (low-next D st (m .next) (c .low)) in
+    (7, suc (length rest), inside-next (told D) st (b ∷ s) first ∙ ap (withRows _) (inside-fails (told D) (go (m .next) st) (x ∷ rest) second), tt)
 
 -- D's forward date, read by B: the code behind it is no designator
-read-by-B : (st : State) (b : ℕ) (v : List ℕ) (y : ℕ) (rest : List ℕ) (c : Clash B (st .room) b) → length v ≡ 9 → y < 0x20 → Refuses B st (b ∷ (v ++ (y ∷ rest)))
+read-by-B : (st : State) (b : ℕ) (v : List ℕ) (y : ℕ) (rest : List ℕ) (c : Clash B (st .room) b) → length v ≡ 9 → y < 0x20 → Refuses (told B) st (b ∷ (v ++ (y ∷ rest)))
 read-by-B st b v y rest c h k =
     let s = v ++ (y ∷ rest) in
     let (left, q) = nine-failed (takeDate (dateChecks absolute true) [] s) (date-short (dateChecks absolute false) letter [] v y rest h (letter-low y k)) in
-    (9, left, inside-fails B st (b ∷ s) (step-failed B st (c .by) b s (c .found) (c .flat st) (c .coded) (form-date B absolute true st b c s (c .form) ∙ q)), tt)
+    (9, left, inside-fails (told B) st (b ∷ s) (step-failed (told B) st (c .by) b s (c .found) (c .flat st) (c .coded) (form-date (told B) B absolute true st b c s (c .form) ∙ q)), tt)
 
 own-bytes : (st st′ : State) (row : Row) (m : Move) (bs : List ℕ) (r : Reach) (d : Bool) → hasCode noCode m ≡ false → T (isDateOf r d (m .form)) → Placing st row m st′ bs → (bs ≡ m .code ∷ row .view) × T (dateOk (dateChecks r d) [] (row .view))
 unfolding writeValue valid
@@ -243,12 +244,12 @@ own-bytes st st′ row m bs r d q t p =
     let o : m .code ∷ writeValue (m .form) (row .view) ≡ bs = rw q at (p .out) in
     (sym o ∙ ap (λ (x : Form). m .code ∷ writeValue x (row .view)) f, subst (λ (x : Form). T (valid x (m .code) (row .view))) f (p .ok))
 
-clash-refused : (e : Edition) (st st′ : State) (row : Row) (m : Move) (bs rest : List ℕ) → hasCode noCode m ≡ false → Clash (other e) (st .room) (m .code) → T (clashes e (m .form)) → Placing st row m st′ bs → Low rest → Refuses (other e) st (bs ++ rest)
+clash-refused : (e : Edition) (st st′ : State) (row : Row) (m : Move) (bs rest : List ℕ) → hasCode noCode m ≡ false → Clash (other e) (st .room) (m .code) → T (clashes e (m .form)) → Placing st row m st′ bs → Low rest → Refuses (told (other e)) st (bs ++ rest)
 clash-refused B st st′ row m bs rest q c t p lo =
     let (o, ok) = own-bytes st st′ row m bs absolute true q t p in
     at o (split-last (dateChecks absolute false) letter [] (row .view) ok)
   where
-    at : bs ≡ m .code ∷ row .view → Last (dateChecks absolute false) letter [] (row .view) → Refuses D st (bs ++ rest)
+    at : bs ≡ m .code ∷ row .view → Last (dateChecks absolute false) letter [] (row .view) → Refuses (told D) st (bs ++ rest)
     at o (u, x, before, e, ok, h) =
         let w : bs ++ rest ≡ m .code ∷ (u ++ (x ∷ rest)) = rw (o, e) (ap (λ (r : List ℕ). m .code ∷ r) (append-assoc u (x ∷ []) rest)) in
         rw w (read-by-D st (m .code) u x rest c ok (letter-high before x h))
@@ -257,15 +258,15 @@ clash-refused D st st′ row m bs (y ∷ rest) q c t p lo =
     let (o, ok) = own-bytes st st′ row m bs relative false q t p in
     rw o (read-by-B st (m .code) (row .view) y rest c (date-length (dateChecks relative false) [] (row .view) ok) lo)
 
-lost-refused : (e : Edition) (st st′ : State) (row : Row) (m : Move) (bs rest : List ℕ) → Alone e (st .room) m → Placing st row m st′ bs → look (m .code) (moves (other e) (st .room)) ≡ none → Refuses (other e) st (bs ++ rest)
+lost-refused : (e : Edition) (st st′ : State) (row : Row) (m : Move) (bs rest : List ℕ) → Alone e (st .room) m → Placing st row m st′ bs → look (m .code) (moves (other e) (st .room)) ≡ none → Refuses (told (other e)) st (bs ++ rest)
 lost-refused e st st′ row m bs rest o p q =
     let s = writeValue (m .form) (row .view) ++ rest in
     let a : m .code ∷ writeValue (m .form) (row .view) ≡ bs = rw (o .coded) at (p .out) in
-    (strange (st .room), suc (length s), rw (← a) (inside-fails (other e) st (m .code ∷ s) (step-lost (other e) st (m .code) s q (o .ajar))), o .refusal)
+    (strange (st .room), suc (length s), rw (← a) (inside-fails (told (other e)) st (m .code ∷ s) (step-lost (told (other e)) st (m .code) s q (o .ajar))), o .refusal)
 
 -- a row that the other edition lacks; the bytes behind it begin low, unless its move leads to no low room
 pub foreign-refused : (e : Edition) (st st′ : State) (row : Row) (m : Move) (bs rest : List ℕ) → Alone e (st .room) m → Placing st row m st′ bs → (LowRoom e (st′ .room) → Low rest)
-    → T (isLost (look (m .code) (moves (other e) (st .room)))) ⊎ T (clashOk e (st .room) m) → Refuses (other e) st (bs ++ rest)
+    → T (isLost (look (m .code) (moves (other e) (st .room)))) ⊎ T (clashOk e (st .room) m) → Refuses (told (other e)) st (bs ++ rest)
 foreign-refused e st st′ row m bs rest o p k (inl t) = lost-refused e st st′ row m bs rest o p (lost-none (look (m .code) (moves (other e) (st .room))) t)
 foreign-refused e st st′ row m bs rest o p k (inr t) =
     let mine = clash-of-mine (left-of (clashWith e (hit m)) (clashWith (other e) (look (m .code) (moves (other e) (st .room)))) t) in
@@ -277,5 +278,5 @@ foreign-refused e st st′ row m bs rest o p k (inr t) =
         let a = clashes e (m .form) in let c = not (hasCode noCode m) in let d = not (eqb (m .kind) agentName) in let f = lowNext e (m .next) in
         (left-of a (c && (d && f)) u, right-of d f (right-of c (d && f) (right-of a (c && (d && f)) u)))
 
-pub fault-behind : (e : Edition) (st st₁ : State) (s s₁ : List ℕ) → Path e st s [] st₁ s₁ → Refuses e st₁ s₁ → Refuses e st s
-fault-behind e st st₁ s s₁ p (refusal, left, q, t) = (refusal, left, inside-path e p ∙ ap (withRows []) q, t)
+pub fault-behind : (told : Told) (st st₁ : State) (s s₁ : List ℕ) → Path told st s [] st₁ s₁ → Refuses told st₁ s₁ → Refuses told st s
+fault-behind told st st₁ s s₁ p (refusal, left, q, t) = (refusal, left, inside-path told p ∙ ap (withRows []) q, t)

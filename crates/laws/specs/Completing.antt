@@ -10,7 +10,8 @@ use borrow.Author.Tests.{le-ltb}
 use Rattle.meaning.specs.Basics.{pick, every}
 use Rattle.meaning.specs.Bytes.{textByte, textOk, lastDay, passes, dateOk}
 use Rattle.meaning.specs.Kinds.{agentName}
-use Rattle.meaning.specs.Editions.{Edition, Room, receivedBegins, headRepresentation, headDate, parameters, ownText, parameterRepresentation, behaviourValue, encryptedTexts, receivedDate, afterDate, afterFrom, afterId, afterVia, receivedExtra, agentList, oneAgent, afterName, addressTexts, afterAddresses, afterResolvers, agentExtra, closed, State, state, Next, outer, inner, innerOne, stay, deeper, listEnds, agentEnds, listEnd, go, Form, text, date, number, block, itself, opens, quiet, isQuiet, Move, closing, moves, shared, own}
+use Rattle.meaning.specs.Told.{Edition}
+use Rattle.meaning.specs.Editions.{Room, receivedBegins, headRepresentation, headDate, parameters, ownText, parameterRepresentation, behaviourValue, encryptedTexts, receivedDate, afterDate, afterFrom, afterId, afterVia, receivedExtra, agentList, oneAgent, afterName, addressTexts, afterAddresses, afterResolvers, agentExtra, closed, State, state, Next, outer, inner, innerOne, stay, deeper, listEnds, agentEnds, listEnd, go, Form, text, date, number, block, itself, opens, quiet, isQuiet, Move, closing, moves, shared, own}
 use Rattle.meaning.specs.Reading.{Row, Found, none, hit, find, isClosed, tooDeep, levelMost}
 use Rattle.meaning.specs.Headers.{start}
 use Rattle.meaning.specs.Writing.{valid, writeValue, isPass, fits, lead, fitRow, close}

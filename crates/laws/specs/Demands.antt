@@ -8,11 +8,11 @@ use native.Mathlib.Omega.{arith}
 use lib.Dec.{T}
 use lib.ListN.{length, take, drop, length-append}
 use Rattle.meaning.specs.Basics.{every}
-use Rattle.meaning.specs.Editions.{Edition, Label, known, unknown, labelOf}
+use Rattle.meaning.specs.Told.{Edition, Label, B, D, known, unknown, labelOf, told}
 use Rattle.meaning.specs.Reading.{Row}
 use Rattle.meaning.specs.Headers.{Placed, meant, refused, accepted, header, envelopesMost, labelled, read}
 use Rattle.meaning.specs.Writing.{Cell, cell, wholePlan, written, unwritten, writeRows}
-use Rattle.meaning.specs.Memory.{tableOf, cellsOf, write}
+use Rattle.meaning.specs.Memory.{row, tableOf, cellsOf, write}
 use Rattle.laws.specs.Logic.{areBytes}
 use Rattle.laws.specs.Views.{AllIn, view-part}
 use Rattle.laws.specs.Envelopes.{header-read, header-crosses, CrossHeader}
@@ -25,7 +25,7 @@ use Rattle.meaning.specs.Reading.{takeValue, find, look, stepMove, step, run, i
 use Rattle.meaning.specs.Headers.{Answer, envelope}
 use Rattle.meaning.specs.Writing.{Written, valid, writeValue, wayOf, fit, fitRow, closeWithin, close, planOf}
 use Rattle.meaning.specs.Plain.{decoded, decodeNumber, numberValue, numberBytes, Date, dateOf, dateBytes, decodeDate, dateInRange}
-use Rattle.meaning.specs.Cases.{hex, baseWith, baseRows}
+use Rattle.meaning.specs.Cases.{hex, baseWith, inMemory, baseRows}
 use Rattle.laws.specs.Refusals.{refused-shape as header-refused}
 use Rattle.laws.specs.RowCounts.{table-few, length-meant}
 use Rattle.laws.specs.WriterRefusals.{WriterRefusal, writer-refusal}
@@ -57,7 +57,7 @@ pub written-then-read : (edition : ℕ) (rows pool : List ℕ) (room : ℕ) (byt
 written-then-read edition rows pool room bytes t q payload =
     let (e, k, a) = written-known edition rows pool room bytes q in
     let (table, n, c, w, few, fits) = written-writes e room (cellsOf pool rows) bytes a in
-    let (read-rows, f, m) = header-read e w envelopesMost few 0 in
+    let (read-rows, f, m) = header-read (told e) w envelopesMost few 0 in
     (read-rows, read-as edition e (bytes ++ payload) k ∙ f payload ∙ ap (λ (x : ℕ). accepted x read-rows) (omega arith), same-meaning e bytes payload rows pool table read-rows (written-are-bytes e pool rows t c w) c m (f []))
 
 -- 3. "The label can't lie": "A table written under one edition and read under the other is the same table, or is refused with 7 or 9: never a different table."
@@ -89,9 +89,9 @@ pub payload-alters-nothing : (edition : ℕ) (input : List ℕ) (place : ℕ) (r
 payload-alters-nothing edition input place rows t q payload =
     let (e, k, a) = accepted-known edition input place rows q in
     let w = whole-of e input place rows t a in
-    let (read-rows, f, m) = header-read e (w .written) envelopesMost (w .few) 0 in
-    let same : accepted (0 + length (w .bytes)) read-rows ≡ accepted place rows = sym (f (w .payload)) ∙ ap (header envelopesMost e 0) (sym (w .parts)) ∙ a in
-    read-as edition e (take place input ++ payload) k ∙ ap (λ (x : List ℕ). header envelopesMost e 0 (x ++ payload)) (whole-front e input place rows w) ∙ f payload ∙ same
+    let (read-rows, f, m) = header-read (told e) (w .written) envelopesMost (w .few) 0 in
+    let same : accepted (0 + length (w .bytes)) read-rows ≡ accepted place rows = sym (f (w .payload)) ∙ ap (header envelopesMost (told e) 0) (sym (w .parts)) ∙ a in
+    read-as edition e (take place input ++ payload) k ∙ ap (λ (x : List ℕ). header envelopesMost (told e) 0 (x ++ payload)) (whole-front e input place rows w) ∙ f payload ∙ same
 
 -- 5. "15: rows up to here begin no table of this edition, or start plus length passes the pool, or rows or slice end early"
 -- The rows before the one that 15 names begin a table, its limits aside; with that row none do; where it names the row count, they are no table.
@@ -130,7 +130,7 @@ refused-shape edition input refusal place q = at (labelOf edition) q
   where
     at : (l : Label) → labelled input l ≡ refused refusal place → (1 ≤ refusal) × (place ≤ length input)
     at unknown r = let a : 1 ≡ refusal = cc r in let b : 0 ≡ place = cc r in (omega arith, omega arith)
-    at (known e) r = header-refused envelopesMost e input refusal place r
+    at (known e) r = header-refused envelopesMost (told e) input refusal place r
 
 pub unwritten-shape : (edition : ℕ) (rows pool : List ℕ) (room refusal place : ℕ) → write edition rows pool room ≡ unwritten refusal place → WriterRefusal edition rows pool room refusal place
 unwritten-shape edition rows pool room refusal place q = writer-refusal edition rows pool room refusal place q
@@ -164,14 +164,14 @@ aHeader = baseWith 0x0f 0x20 (hex 0x1_01)
 
 -- an encrypted list, which D lacks, and a forward date, which B lacks
 abbrev encrypted : List ℕ
-encrypted = baseRows 5 9 (25 ∷ 0 ∷ 14 ∷ 0 ∷ [])
+encrypted = inMemory (baseRows 5 9 (row 25 0 14 0 ∷ []))
 
 abbrev forwarded : List ℕ
-forwarded = baseRows 6 9 []
+forwarded = inMemory (baseRows 6 9 [])
 
 pub premises : T (
-    wasAccepted (read 1 aHeader) && wasAccepted (read 2 aHeader) && wasWritten (write 1 (baseRows 5 9 []) aHeader 15) && wasWritten (write 2 (baseRows 5 9 []) aHeader 15) &&
-    plainTable (baseRows 5 9 []) aHeader && wasWritten (write 1 encrypted aHeader 17) && not (plainTable encrypted aHeader) && wasWritten (write 2 forwarded aHeader 15) && not (plainTable forwarded aHeader)
+    wasAccepted (read 1 aHeader) && wasAccepted (read 2 aHeader) && wasWritten (write 1 (inMemory (baseRows 5 9 [])) aHeader 15) && wasWritten (write 2 (inMemory (baseRows 5 9 [])) aHeader 15) &&
+    plainTable (inMemory (baseRows 5 9 [])) aHeader && wasWritten (write 1 encrypted aHeader 17) && not (plainTable encrypted aHeader) && wasWritten (write 2 forwarded aHeader 15) && not (plainTable forwarded aHeader)
     )
 unfolding textByte takeText textOk turn takeNumber numberOk lastDay passes takeDate dateOk highFirst tooWide takeBytes blockOf takeBlock blockOk shared own moves takeValue find look stepMove step run inside envelope header read valid writeValue wayOf fit fitRow closeWithin close planOf writeRows cellsOf write
 premises = tt

@@ -6,7 +6,8 @@ use mathlib.Core.Bool.{Bool, true, false}
 use mathlib.Core.Path.{_≡_, refl, ap, sym, _∙_, subst}
 use native.Mathlib.Omega.{arith}
 use lib.ListN.{length}
-use Rattle.meaning.specs.Editions.{Edition, closed, State, state}
+use Rattle.meaning.specs.Told.{Edition}
+use Rattle.meaning.specs.Editions.{closed, State, state}
 use Rattle.meaning.specs.Reading.{Row}
 use Rattle.meaning.specs.Headers.{start}
 use Rattle.meaning.specs.Writing.{Fit, unfit, fits, fitRow, close, Cell, cell, broken, Opens, envelopeRow, innerRow, opensOf, Envelope, Plan, stuck, plan, onPlan, newPlan, rowPlan, turnPlan, endPlan, nextRow, lastRow, planOf, wholePlan}

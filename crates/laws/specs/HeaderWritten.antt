@@ -11,7 +11,8 @@ use lib.ListN.{take-append-drop}
 use borrow.Author.Tests.{eqb-true, le-leb, lt-leb, ltb-false}
 use Rattle.meaning.specs.Basics.{pick}
 use Rattle.meaning.specs.Bytes.{highFirst}
-use Rattle.meaning.specs.Editions.{Edition, State}
+use Rattle.meaning.specs.Told.{Edition, Told}
+use Rattle.meaning.specs.Editions.{State}
 use Rattle.meaning.specs.Reading.{Row, Seen, rowOf, Out, dry, fault, done, inside}
 use Rattle.meaning.specs.Headers.{Placed, placedRow, placed, meant, Answer, refused, accepted, behind, envelopeMost, opening, start, ends, envelope, shortLeast, longLeast, longForm, sized, Identifier, extension, base, neither, identifierOf, identified, seventeenth, header}
 use Rattle.meaning.specs.Writing.{fits, envelopeSize, withinLimit, envelopeLength, wrap}
@@ -88,38 +89,38 @@ next-again k e at s t rest rs st (accepted p ts) small q i qs w =
           (all-in-behind at n (wrap false t) (w .bytes) ts (wrap-length false t) (w .views));
     }
 
-abbrev Ih : ℕ → Edition → Type 0
-Ih k e = (at : ℕ) (s : List ℕ) → T (areBytes s) → Again k e at s (header k e at s)
+abbrev Ih : ℕ → Told → Type 0
+Ih k told = (at : ℕ) (s : List ℕ) → T (areBytes s) → Again k (told .edition) at s (header k told at s)
 
 -- the inside was read to its end
-ends-done : (k : ℕ) (e : Edition) (b : Bool) (at : ℕ) (s t rest : List ℕ) (rs : List Seen) (st : State) → Ih k e → T (areBytes rest) → envelopeSize (length t) ≤ envelopeMost → fitAll e (map rowOf rs) (start b) ≡ fits st t → AllSeen t rs → s ≡ wrap b t ++ rest
-    → Again (suc k) e at s (behind (placedRow (opening b) 0 at [] ∷ []) (ends b (at + envelopeSize (length t)) rest (header k e) (done rs [])))
-ends-done k e true at s t rest rs st ih tr small q i qs = base-again k e at s t rest rs st small q i qs
-ends-done k e false at s t rest rs st ih tr small q i qs =
+ends-done : (k : ℕ) (told : Told) (b : Bool) (at : ℕ) (s t rest : List ℕ) (rs : List Seen) (st : State) → Ih k told → T (areBytes rest) → envelopeSize (length t) ≤ envelopeMost → fitAll (told .edition) (map rowOf rs) (start b) ≡ fits st t → AllSeen t rs → s ≡ wrap b t ++ rest
+    → Again (suc k) (told .edition) at s (behind (placedRow (opening b) 0 at [] ∷ []) (ends b (at + envelopeSize (length t)) rest (header k told) (done rs [])))
+ends-done k told true at s t rest rs st ih tr small q i qs = base-again k (told .edition) at s t rest rs st small q i qs
+ends-done k told false at s t rest rs st ih tr small q i qs =
     let n = envelopeSize (length t) in
-    next-again k e at s t rest rs st (header k e (at + n) rest) small q i qs (ih (at + n) rest tr)
+    next-again k (told .edition) at s t rest rs st (header k told (at + n) rest) small q i qs (ih (at + n) rest tr)
 
 back-fits : (e : Edition) (b : Bool) (t : List ℕ) (rs : List Seen) → Back e (start b) t rs [] → (st : State) × (fitAll e (map rowOf rs) (start b) ≡ fits st t)
 back-fits e b t rs (st, bs, q, qs) = (st, q ∙ ap (fits st) (sym (qs ∙ append-nil bs)))
 
-ends-again : (k : ℕ) (e : Edition) (b : Bool) (at : ℕ) (s t rest : List ℕ) (o : Out) → Ih k e → T (areBytes t) → T (areBytes rest) → envelopeSize (length t) ≤ envelopeMost → s ≡ wrap b t ++ rest → inside e (start b) t ≡ o
-    → Again (suc k) e at s (behind (placedRow (opening b) 0 at [] ∷ []) (ends b (at + envelopeSize (length t)) rest (header k e) o))
-ends-again k e b at s t rest dry ih bt br small qs q = tt
-ends-again k e b at s t rest (fault refusal left) ih bt br small qs q = tt
-ends-again k e b at s t rest (done rs (c ∷ v)) ih bt br small qs q = tt
-ends-again k e b at s t rest (done rs []) ih bt br small qs q =
-    let (st, f) = back-fits e b t rs (all-read-written e (start b) t [] rs bt q) in
-    ends-done k e b at s t rest rs st ih br small f (inside-seen e (start b) t [] rs bt q) qs
+ends-again : (k : ℕ) (told : Told) (b : Bool) (at : ℕ) (s t rest : List ℕ) (o : Out) → Ih k told → T (areBytes t) → T (areBytes rest) → envelopeSize (length t) ≤ envelopeMost → s ≡ wrap b t ++ rest → inside told (start b) t ≡ o
+    → Again (suc k) (told .edition) at s (behind (placedRow (opening b) 0 at [] ∷ []) (ends b (at + envelopeSize (length t)) rest (header k told) o))
+ends-again k told b at s t rest dry ih bt br small qs q = tt
+ends-again k told b at s t rest (fault refusal left) ih bt br small qs q = tt
+ends-again k told b at s t rest (done rs (c ∷ v)) ih bt br small qs q = tt
+ends-again k told b at s t rest (done rs []) ih bt br small qs q =
+    let (st, f) = back-fits (told .edition) b t rs (all-read-written told (start b) t [] rs bt q) in
+    ends-done k told b at s t rest rs st ih br small f (inside-seen told (start b) t [] rs bt q) qs
 
 -- a head of `head` bytes with the length n is the one that the writer gives
 abbrev Heads : Bool → List ℕ → List ℕ → ℕ → ℕ → ℕ → Type 0
 Heads b s u least head n = least ≤ n → n ≤ envelopeMost → (t rest : List ℕ) → u ≡ t ++ rest → length t ≡ n - head → (s ≡ wrap b t ++ rest) × (envelopeSize (length t) ≡ n)
 
-module _ (k : ℕ) (e : Edition) (b : Bool) (at : ℕ) (s u : List ℕ) (least head n : ℕ) (ih : Ih k e) (bu : T (areBytes u)) (h : Heads b s u least head n) where
+module _ (k : ℕ) (told : Told) (b : Bool) (at : ℕ) (s u : List ℕ) (least head n : ℕ) (ih : Ih k told) (bu : T (areBytes u)) (h : Heads b s u least head n) where
   abbrev read-of : Answer
-  read-of = behind (placedRow (opening b) 0 at [] ∷ []) (ends b (at + n) (drop (n - head) u) (header k e) (inside e (start b) (take (n - head) u)))
+  read-of = behind (placedRow (opening b) 0 at [] ∷ []) (ends b (at + n) (drop (n - head) u) (header k told) (inside told (start b) (take (n - head) u)))
 
-  envelope-whole : least ≤ n → n ≤ envelopeMost → n ≤ head + length u → Again (suc k) e at s read-of
+  envelope-whole : least ≤ n → n ≤ envelopeMost → n ≤ head + length u → Again (suc k) (told .edition) at s read-of
   envelope-whole lo hi all =
       let t = take (n - head) u in
       let rest = drop (n - head) u in
@@ -127,17 +128,17 @@ module _ (k : ℕ) (e : Edition) (b : Bool) (at : ℕ) (s u : List ℕ) (least h
       let bs : T (areBytes (t ++ rest)) = subst (λ (x : List ℕ). T (areBytes x)) c bu in
       let (qs, qn) = h lo hi t rest c (omega (arith, length-take (n - head) u)) in
       let small : envelopeSize (length t) ≤ envelopeMost = omega arith in
-      subst (λ (x : ℕ). Again (suc k) e at s (behind (placedRow (opening b) 0 at [] ∷ []) (ends b (at + x) rest (header k e) (inside e (start b) t)))) qn
-      (ends-again k e b at s t rest (inside e (start b) t) ih (bytes-front t rest bs) (bytes-behind t rest bs) small qs refl)
+      subst (λ (x : ℕ). Again (suc k) (told .edition) at s (behind (placedRow (opening b) 0 at [] ∷ []) (ends b (at + x) rest (header k told) (inside told (start b) t)))) qn
+      (ends-again k told b at s t rest (inside told (start b) t) ih (bytes-front t rest bs) (bytes-behind t rest bs) small qs refl)
 
   envelope-picks : (x y z : Bool) → ltb n least ≡ x → ltb envelopeMost n ≡ y → ltb (head + length u) n ≡ z
-      → Again (suc k) e at s (pick x (refused 4 (at + 1)) (pick y (refused 5 (at + 1)) (pick z (refused 2 (at + head + length u)) read-of)))
+      → Again (suc k) (told .edition) at s (pick x (refused 4 (at + 1)) (pick y (refused 5 (at + 1)) (pick z (refused 2 (at + head + length u)) read-of)))
   envelope-picks true y z p q r = tt
   envelope-picks false true z p q r = tt
   envelope-picks false false true p q r = tt
   envelope-picks false false false p q r = envelope-whole (ltb-false n least p) (ltb-false envelopeMost n q) (ltb-false (head + length u) n r)
 
-  envelope-again : Again (suc k) e at s (envelope e b least at head n u (header k e))
+  envelope-again : Again (suc k) (told .edition) at s (envelope told b least at head n u (header k told))
   unfolding envelope
   envelope-again = envelope-picks (ltb n least) (ltb envelopeMost n) (ltb (head + length u) n) refl refl refl
 
@@ -163,35 +164,35 @@ long-heads b i x y p q r d u n qi qx qy hp hq hr hd qn lo hi t rest qu ql =
     let e₄ : m ≡ n = omega arith in
     (rw (lt-leb (3 + length t) 65535 h, qu, qi, qx, qy) (rw (e₀, e₁, e₂, e₃) refl), rw (lt-leb (3 + length t) 65535 h) e₄)
 
-long-again : (k : ℕ) (e : Edition) (b : Bool) (at i x y all : ℕ) (u : List ℕ) → Ih k e → T (areBytes u) → i ≡ pick b 0xfe 0xfd → x ≡ 0 → y ≡ 0
-    → Again (suc k) e at (i ∷ x ∷ y ∷ u) (longForm e b at all (header k e) (highFirst 4 0 u))
+long-again : (k : ℕ) (told : Told) (b : Bool) (at i x y all : ℕ) (u : List ℕ) → Ih k told → T (areBytes u) → i ≡ pick b 0xfe 0xfd → x ≡ 0 → y ≡ 0
+    → Again (suc k) (told .edition) at (i ∷ x ∷ y ∷ u) (longForm told b at all (header k told) (highFirst 4 0 u))
 unfolding highFirst
-long-again k e b at i x y all [] ih t qi qx qy = tt
-long-again k e b at i x y all (p ∷ []) ih t qi qx qy = tt
-long-again k e b at i x y all (p ∷ (q ∷ [])) ih t qi qx qy = tt
-long-again k e b at i x y all (p ∷ (q ∷ (r ∷ []))) ih t qi qx qy = tt
-long-again k e b at i x y all (p ∷ (q ∷ (r ∷ (d ∷ u)))) ih t qi qx qy =
+long-again k told b at i x y all [] ih t qi qx qy = tt
+long-again k told b at i x y all (p ∷ []) ih t qi qx qy = tt
+long-again k told b at i x y all (p ∷ (q ∷ [])) ih t qi qx qy = tt
+long-again k told b at i x y all (p ∷ (q ∷ (r ∷ []))) ih t qi qx qy = tt
+long-again k told b at i x y all (p ∷ (q ∷ (r ∷ (d ∷ u)))) ih t qi qx qy =
     let t₁ = other-bytes p (q ∷ (r ∷ (d ∷ u))) t in let t₂ = other-bytes q (r ∷ (d ∷ u)) t₁ in let t₃ = other-bytes r (d ∷ u) t₂ in
     let n : ℕ = 256 * (256 * (256 * (256 * 0 + p) + q) + r) + d in
-    envelope-again k e b at (i ∷ x ∷ y ∷ p ∷ q ∷ r ∷ d ∷ u) u longLeast 7 n ih (other-bytes d u t₃)
+    envelope-again k told b at (i ∷ x ∷ y ∷ p ∷ q ∷ r ∷ d ∷ u) u longLeast 7 n ih (other-bytes d u t₃)
     (long-heads b i x y p q r d u n qi qx qy (first-byte p (q ∷ (r ∷ (d ∷ u))) t) (first-byte q (r ∷ (d ∷ u)) t₁) (first-byte r (d ∷ u) t₂) (first-byte d u t₃) (omega arith))
 
-sized-pick : (k : ℕ) (e : Edition) (b : Bool) (at i x y all : ℕ) (u : List ℕ) (z : Bool) → Ih k e → T (areBytes u) → i ≡ pick b 0xfe 0xfd → x < 256 → y < 256 → eqb (256 * (256 * 0 + x) + y) 0 ≡ z
-    → Again (suc k) e at (i ∷ x ∷ y ∷ u) (pick z (longForm e b at all (header k e) (highFirst 4 0 u)) (envelope e b shortLeast at 3 (256 * (256 * 0 + x) + y) u (header k e)))
-sized-pick k e b at i x y all u true ih t qi hx hy q =
+sized-pick : (k : ℕ) (told : Told) (b : Bool) (at i x y all : ℕ) (u : List ℕ) (z : Bool) → Ih k told → T (areBytes u) → i ≡ pick b 0xfe 0xfd → x < 256 → y < 256 → eqb (256 * (256 * 0 + x) + y) 0 ≡ z
+    → Again (suc k) (told .edition) at (i ∷ x ∷ y ∷ u) (pick z (longForm told b at all (header k told) (highFirst 4 0 u)) (envelope told b shortLeast at 3 (256 * (256 * 0 + x) + y) u (header k told)))
+sized-pick k told b at i x y all u true ih t qi hx hy q =
     let c = eqb-true (256 * (256 * 0 + x) + y) 0 q in
-    long-again k e b at i x y all u ih t qi (omega arith) (omega arith)
-sized-pick k e b at i x y all u false ih t qi hx hy q =
+    long-again k told b at i x y all u ih t qi (omega arith) (omega arith)
+sized-pick k told b at i x y all u false ih t qi hx hy q =
     let n : ℕ = 256 * (256 * 0 + x) + y in
-    envelope-again k e b at (i ∷ x ∷ y ∷ u) u shortLeast 3 n ih t (short-heads b i x y u n qi hx hy (omega arith))
+    envelope-again k told b at (i ∷ x ∷ y ∷ u) u shortLeast 3 n ih t (short-heads b i x y u n qi hx hy (omega arith))
 
-sized-again : (k : ℕ) (e : Edition) (b : Bool) (at i all : ℕ) (s : List ℕ) → Ih k e → T (areBytes s) → i ≡ pick b 0xfe 0xfd → Again (suc k) e at (i ∷ s) (sized e b at all (header k e) (highFirst 2 0 s))
+sized-again : (k : ℕ) (told : Told) (b : Bool) (at i all : ℕ) (s : List ℕ) → Ih k told → T (areBytes s) → i ≡ pick b 0xfe 0xfd → Again (suc k) (told .edition) at (i ∷ s) (sized told b at all (header k told) (highFirst 2 0 s))
 unfolding highFirst
-sized-again k e b at i all [] ih t qi = tt
-sized-again k e b at i all (x ∷ []) ih t qi = tt
-sized-again k e b at i all (x ∷ (y ∷ u)) ih t qi =
+sized-again k told b at i all [] ih t qi = tt
+sized-again k told b at i all (x ∷ []) ih t qi = tt
+sized-again k told b at i all (x ∷ (y ∷ u)) ih t qi =
     let t₁ = other-bytes x (y ∷ u) t in
-    sized-pick k e b at i x y all u (eqb (256 * (256 * 0 + x) + y) 0) ih (other-bytes y u t₁) qi (first-byte x (y ∷ u) t) (first-byte y u t₁) refl
+    sized-pick k told b at i x y all u (eqb (256 * (256 * 0 + x) + y) 0) ih (other-bytes y u t₁) qi (first-byte x (y ∷ u) t) (first-byte y u t₁) refl
 
 abbrev Identifies : ℕ → Identifier → Type 0
 Identifies b extension = b ≡ 0xfd
@@ -203,19 +204,19 @@ identifies b true y p q = eqb-true b 0xfd p
 identifies b false true p q = eqb-true b 0xfe q
 identifies b false false p q = tt
 
-identified-again : (k : ℕ) (e : Edition) (at b : ℕ) (s : List ℕ) (i : Identifier) → Ih k e → T (areBytes s) → Identifies b i → Again (suc k) e at (b ∷ s) (identified e at s (header k e) i)
-identified-again k e at b s extension ih t q = sized-again k e false at b (suc (length s)) s ih t q
-identified-again k e at b s base ih t q = sized-again k e true at b (suc (length s)) s ih t q
-identified-again k e at b s neither ih t q = tt
+identified-again : (k : ℕ) (told : Told) (at b : ℕ) (s : List ℕ) (i : Identifier) → Ih k told → T (areBytes s) → Identifies b i → Again (suc k) (told .edition) at (b ∷ s) (identified told at s (header k told) i)
+identified-again k told at b s extension ih t q = sized-again k told false at b (suc (length s)) s ih t q
+identified-again k told at b s base ih t q = sized-again k told true at b (suc (length s)) s ih t q
+identified-again k told at b s neither ih t q = tt
 
 seventeenth-again : (e : Edition) (at : ℕ) (s : List ℕ) (i : Identifier) → Again 0 e at s (seventeenth at i)
 seventeenth-again e at s extension = tt
 seventeenth-again e at s base = tt
 seventeenth-again e at s neither = tt
 
-pub header-written : (k : ℕ) (e : Edition) (at : ℕ) (s : List ℕ) → T (areBytes s) → Again k e at s (header k e at s)
+pub header-written : (k : ℕ) (told : Told) (at : ℕ) (s : List ℕ) → T (areBytes s) → Again k (told .edition) at s (header k told at s)
 unfolding header
-header-written zero e at [] t = tt
-header-written zero e at (b ∷ s) t = seventeenth-again e at (b ∷ s) (identifierOf b)
-header-written (suc k) e at [] t = tt
-header-written (suc k) e at (b ∷ s) t = identified-again k e at b s (identifierOf b) (header-written k e) (other-bytes b s t) (identifies b (eqb b 0xfd) (eqb b 0xfe) refl refl)
+header-written zero told at [] t = tt
+header-written zero told at (b ∷ s) t = seventeenth-again (told .edition) at (b ∷ s) (identifierOf b)
+header-written (suc k) told at [] t = tt
+header-written (suc k) told at (b ∷ s) t = identified-again k told at b s (identifierOf b) (header-written k told) (other-bytes b s t) (identifies b (eqb b 0xfd) (eqb b 0xfe) refl refl)

@@ -1,10 +1,19 @@
 -- Laws of the meaning, each file by those before it.
 pub mod Logic
 pub mod From
+pub mod HighFirst
+pub mod Rows
 pub mod Values
 pub mod Tables
 pub mod Lookups
 pub mod Steps
+pub mod Pouring
+pub mod ReadAt
+pub mod Shapes
+pub mod Rooms
+pub mod AgentRooms
+pub mod Finishing
+pub mod Frames
 pub mod Fits
 pub mod WrittenRead
 pub mod PlainRows

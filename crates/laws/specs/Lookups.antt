@@ -11,7 +11,8 @@ use borrow.Author.Tests.{eqb-true, eq-eqb, lt-ltb, le-ltb}
 use Rattle.meaning.specs.Basics.{pick, every}
 use Rattle.meaning.specs.Bytes.{Check, passes, dateOk, dateChecks, Width, oneByte, twoBytes, fourBytes, bytesOf, fewest, past, blockOk}
 use Rattle.meaning.specs.Kinds.{agentName}
-use Rattle.meaning.specs.Editions.{Edition, Room, State, Form, text, date, number, block, itself, opens, quiet, isQuiet, Move, noCode, closing, moves, shared, own}
+use Rattle.meaning.specs.Told.{Edition}
+use Rattle.meaning.specs.Editions.{Room, State, Form, text, date, number, block, itself, opens, quiet, isQuiet, Move, noCode, closing, moves, shared, own}
 use Rattle.meaning.specs.Reading.{Row, Found, none, hit, find, orElse, hasCode, look, isClosed, tooDeep}
 use Rattle.meaning.specs.Writing.{isOnly, valid, standsFor, isPass, wayTo, Way, byOwn, byPass, nowhere, ways, atLevel, wayOf}
 use Rattle.laws.specs.Logic.{left-of, right-of, both, either, is-true, is-false, not-both}

@@ -9,7 +9,8 @@ use lib.ListN.{length}
 use borrow.Author.Tests.{le-leb, leb-true, ne-eqb, eqb-true}
 use Rattle.meaning.specs.Basics.{pick, isEmpty, every}
 use Rattle.meaning.specs.Kinds.{extensionOpens, baseOpens}
-use Rattle.meaning.specs.Editions.{Edition, B, D, State, state, closed, isQuiet, Move, moves, shared, own, Room}
+use Rattle.meaning.specs.Told.{Edition, B, D}
+use Rattle.meaning.specs.Editions.{State, state, closed, isQuiet, Move, moves, shared, own, Room}
 use Rattle.meaning.specs.Reading.{Row}
 use Rattle.meaning.specs.Headers.{start, envelopesMost, opening}
 use Rattle.meaning.specs.Writing.{Fit, unfit, fits, fitRow, close, Cell, cell, broken, Opens, envelopeRow, innerRow, opensOf, Envelope, envelopeAt, Plan, stuck, plan, onPlan, newPlan, rowPlan, turnPlan, endPlan, nextRow, lastRow, planOf, wholePlan, withinLimit, wrap, headerOf, Limit, fine, exceeds, limits, Written, written, unwritten, limited, planned, writeRows}

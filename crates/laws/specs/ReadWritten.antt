@@ -10,7 +10,8 @@ use lib.ListN.{length}
 use borrow.Author.Tests.{eqb-false}
 use Rattle.meaning.specs.Basics.{pick}
 use Rattle.meaning.specs.Bytes.{Taken, took, failed}
-use Rattle.meaning.specs.Editions.{Edition, State, go, Form, text, date, number, block, itself, opens, quiet, isQuiet, Move, noCode, moves}
+use Rattle.meaning.specs.Told.{Edition, Told}
+use Rattle.meaning.specs.Editions.{State, go, Form, text, date, number, block, itself, opens, quiet, isQuiet, Move, noCode, moves}
 use Rattle.meaning.specs.Reading.{Seen, rowOf, takeValue, seenBy, Found, none, hit, hasCode, look, isClosed, strange, tooDeep, Step, fails, over, next, stepTaken, valueFrom, stepMove, step, Out, dry, fault, done, withRows, onward, run, inside}
 use Rattle.meaning.specs.Writing.{valid, writeValue, wayOf, fits, lead, fitRow, close}
 use Rattle.laws.specs.Logic.{is-true, areBytes, other-bytes, bytes-behind}
@@ -74,17 +75,17 @@ from-bytes : (b : ℕ) (s : List ℕ) (z : Bool) → T (areBytes (b ∷ s)) → 
 from-bytes b s true t = t
 from-bytes b s false t = other-bytes b s t
 
-stepped-found : (e : Edition) (st : State) (b : ℕ) (s : List ℕ) (o : Found) → T (areBytes (b ∷ s)) → Looked b (moves e (st .room)) o → Stepped e st (b ∷ s) (stepMove st b s o)
+stepped-found : (told : Told) (st : State) (b : ℕ) (s : List ℕ) (o : Found) → T (areBytes (b ∷ s)) → Looked b (moves (told .edition) (st .room)) o → Stepped (told .edition) st (b ∷ s) (stepMove told st b s o)
 unfolding stepMove
-stepped-found e st b s none t i = stepped-end e st (b ∷ s) (strange (st .room)) (suc (length s)) (isClosed (st .room)) refl
-stepped-found e st b s (hit m) t i =
-    stepped-deep e st m b s (takeValue (m .form) (suc (length s)) (m .code) (valueFrom m b s)) (i .0) (i .1) (tooDeep m st) refl
-    (value-out (m .form) (suc (length s)) (m .code) (valueFrom m b s) (from-bytes b s (hasCode noCode m) t))
+stepped-found told st b s none t i = stepped-end (told .edition) st (b ∷ s) (strange (st .room)) (suc (length s)) (isClosed (st .room)) refl
+stepped-found told st b s (hit m) t i =
+    stepped-deep (told .edition) st m b s (takeValue told (m .form) (suc (length s)) (m .code) (valueFrom m b s)) (i .0) (i .1) (tooDeep m st) refl
+    (value-out told (m .form) (suc (length s)) (m .code) (valueFrom m b s) (from-bytes b s (hasCode noCode m) t))
 
-pub stepped : (e : Edition) (st : State) (s : List ℕ) → T (areBytes s) → Stepped e st s (step e st s)
+pub stepped : (told : Told) (st : State) (s : List ℕ) → T (areBytes s) → Stepped (told .edition) st s (step told st s)
 unfolding step
-stepped e st [] t = stepped-end e st [] 6 0 (isClosed (st .room)) refl
-stepped e st (b ∷ s) t = stepped-found e st b s (look b (moves e (st .room))) t (looked b (moves e (st .room)))
+stepped told st [] t = stepped-end (told .edition) st [] 6 0 (isClosed (st .room)) refl
+stepped told st (b ∷ s) t = stepped-found told st b s (look b (moves (told .edition) (st .room))) t (looked b (moves (told .edition) (st .room)))
 
 -- The inside of an envelope
 
@@ -130,22 +131,22 @@ back-done : (e : Edition) (st : State) (s : List ℕ) (rows : List Seen) (rest :
 unfolding fitAll
 back-done e st s rows rest h a b = rw (← a) (st, [], close-closed e st h, b)
 
-back-step : (n : ℕ) (e : Edition) (st : State) (s : List ℕ) (rows : List Seen) (rest : List ℕ) (x : Step) → T (areBytes s) → Stepped e st s x
-    → ((st₁ : State) (s₁ : List ℕ) (ts : List Seen) → T (areBytes s₁) → run n e st₁ s₁ ≡ done ts rest → Back e st₁ s₁ ts rest)
-    → onward x (run n e) ≡ done rows rest → Back e st s rows rest
-back-step n e st s rows rest (fails refusal left) t w ih q = let z : _≡_ {A = ℕ} 0 1 = cc in absurd (omega arith)
-back-step n e st s rows rest (over u) t (h, w) ih q = back-done e st s rows rest h (cc) (cc)
-back-step n e st s rows rest (next st₁ rs s₁) t w ih q =
-    let (ts, q₁, q₂) = rows-inv rs (run n e st₁ s₁) rows rest q in
+back-step : (n : ℕ) (told : Told) (st : State) (s : List ℕ) (rows : List Seen) (rest : List ℕ) (x : Step) → T (areBytes s) → Stepped (told .edition) st s x
+    → ((st₁ : State) (s₁ : List ℕ) (ts : List Seen) → T (areBytes s₁) → run n told st₁ s₁ ≡ done ts rest → Back (told .edition) st₁ s₁ ts rest)
+    → onward x (run n told) ≡ done rows rest → Back (told .edition) st s rows rest
+back-step n told st s rows rest (fails refusal left) t w ih q = let z : _≡_ {A = ℕ} 0 1 = cc in absurd (omega arith)
+back-step n told st s rows rest (over u) t (h, w) ih q = back-done (told .edition) st s rows rest h (cc) (cc)
+back-step n told st s rows rest (next st₁ rs s₁) t w ih q =
+    let (ts, q₁, q₂) = rows-inv rs (run n told st₁ s₁) rows rest q in
     let u : T (areBytes s₁) = bytes-behind (lead (w .by) ++ writeValue (w .by .form) (w .view)) s₁ (subst (λ (x : List ℕ). T (areBytes x)) (w .out) t) in
-    let b : Back e (go (w .by .next) st) s₁ ts rest = subst (λ (x : State). Back e x s₁ ts rest) (sym (w .to)) (ih st₁ s₁ ts u q₁) in
-    subst (λ (x : List Seen). Back e st s x rest) (sym q₂) (back-move e st s s₁ rest rs ts (w .by) (w .view) (w .member) (w .flat) (w .ok) (w .rows) (w .out) b (isQuiet (w .by .form)) refl)
+    let b : Back (told .edition) (go (w .by .next) st) s₁ ts rest = subst (λ (x : State). Back (told .edition) x s₁ ts rest) (sym (w .to)) (ih st₁ s₁ ts u q₁) in
+    subst (λ (x : List Seen). Back (told .edition) st s x rest) (sym q₂) (back-move (told .edition) st s s₁ rest rs ts (w .by) (w .view) (w .member) (w .flat) (w .ok) (w .rows) (w .out) b (isQuiet (w .by .form)) refl)
 
-back-run : (n : ℕ) (e : Edition) (rest : List ℕ) (st : State) (s : List ℕ) (rows : List Seen) → T (areBytes s) → run n e st s ≡ done rows rest → Back e st s rows rest
+back-run : (n : ℕ) (told : Told) (rest : List ℕ) (st : State) (s : List ℕ) (rows : List Seen) → T (areBytes s) → run n told st s ≡ done rows rest → Back (told .edition) st s rows rest
 unfolding run
-back-run zero e rest st s rows t q = let z : _≡_ {A = ℕ} 0 1 = cc in absurd (omega arith)
-back-run (suc n) e rest st s rows t q = back-step n e st s rows rest (step e st s) t (stepped e st s t) (back-run n e rest) q
+back-run zero told rest st s rows t q = let z : _≡_ {A = ℕ} 0 1 = cc in absurd (omega arith)
+back-run (suc n) told rest st s rows t q = back-step n told st s rows rest (step told st s) t (stepped told st s t) (back-run n told rest) q
 
-pub all-read-written : (e : Edition) (st : State) (s rest : List ℕ) (rows : List Seen) → T (areBytes s) → inside e st s ≡ done rows rest → Back e st s rows rest
+pub all-read-written : (told : Told) (st : State) (s rest : List ℕ) (rows : List Seen) → T (areBytes s) → inside told st s ≡ done rows rest → Back (told .edition) st s rows rest
 unfolding inside
-all-read-written e st s rest rows t q = back-run (suc (length s)) e rest st s rows t q
+all-read-written told st s rest rows t q = back-run (suc (length s)) told rest st s rows t q

@@ -9,7 +9,8 @@ use lib.ListN.{length, take, drop, length-drop}
 use borrow.Author.Tests.{ltb-false}
 use Rattle.meaning.specs.Basics.{pick}
 use Rattle.meaning.specs.Bytes.{Taken, took, failed, prefixed, textByte, takeText, Check, passes, takeDate, dateChecks, Turn, stop, more, wrong, turn, afterTurn, takeNumber, Count, counted, short, highFirst, Width, bytesOf, tooWide, takeBytes, blockOf, takeBlock}
-use Rattle.meaning.specs.Editions.{Edition, State, Form, text, date, number, block, itself, opens, quiet, Move, moves}
+use Rattle.meaning.specs.Told.{Told}
+use Rattle.meaning.specs.Editions.{State, Form, text, date, number, block, itself, opens, quiet, Move, moves}
 use Rattle.meaning.specs.Reading.{Seen, takeValue, Found, none, hit, look, isClosed, strange, tooDeep, Step, fails, over, next, stepTaken, valueFrom, stepMove, step, Out, dry, fault, done, withRows, onward, run, inside}
 use Rattle.meaning.specs.Headers.{Placed, placedRow, placed, Answer, refused, accepted, behind, envelopeMost, opening, start, ends, envelope, shortLeast, longLeast, longForm, sized, Identifier, extension, base, neither, identifierOf, identified, seventeenth, header}
 use Rattle.laws.specs.Tables.{allRooms, each-room}
@@ -59,20 +60,20 @@ bytes-numbered zero s = tt
 bytes-numbered (suc n) [] = omega arith
 bytes-numbered (suc n) (b ∷ s) = numbered-prefixed b (takeBytes n s) (bytes-numbered n s)
 
-block-numbered : (w : Width) (left : ℕ) (r : Count) → Numbered (blockOf w left r)
+block-numbered : (told : Told) (w : Width) (left : ℕ) (r : Count) → Numbered (blockOf told w left r)
 unfolding blockOf
-block-numbered w left (counted n s) = numbered-pick (tooWide w n) (failed 11 left) (takeBytes n s) (omega arith) (bytes-numbered n s)
-block-numbered w left short = omega arith
+block-numbered told w left (counted n s) = numbered-pick (tooWide told w n) (failed 11 left) (takeBytes n s) (omega arith) (bytes-numbered n s)
+block-numbered told w left short = omega arith
 
-value-numbered : (f : Form) (left c : ℕ) (s : List ℕ) → Numbered (takeValue f left c s)
+value-numbered : (told : Told) (f : Form) (left c : ℕ) (s : List ℕ) → Numbered (takeValue told f left c s)
 unfolding takeValue takeBlock
-value-numbered text left c s = text-numbered s
-value-numbered (date reach designated) left c s = date-numbered (dateChecks reach designated) [] s
-value-numbered number left c s = number-numbered 0 true s
-value-numbered (block w) left c s = block-numbered w left (highFirst (bytesOf w) 0 s)
-value-numbered itself left c s = tt
-value-numbered opens left c s = tt
-value-numbered quiet left c s = tt
+value-numbered told text left c s = text-numbered s
+value-numbered told (date reach designated) left c s = date-numbered (dateChecks reach designated) [] s
+value-numbered told number left c s = number-numbered 0 true s
+value-numbered told (block w) left c s = block-numbered told w left (highFirst (bytesOf w) 0 s)
+value-numbered told itself left c s = tt
+value-numbered told opens left c s = tt
+value-numbered told quiet left c s = tt
 
 abbrev StepNumbered : Step → Type 0
 StepNumbered (fails refusal left) = 1 ≤ refusal
@@ -90,17 +91,17 @@ step-pick false x y i j = j
 strange-test : T (allRooms (λ e r. leb 1 (strange r)))
 strange-test = tt
 
-move-numbered : (e : Edition) (st : State) (b : ℕ) (s : List ℕ) (o : Found) → StepNumbered (stepMove st b s o)
+move-numbered : (told : Told) (st : State) (b : ℕ) (s : List ℕ) (o : Found) → StepNumbered (stepMove told st b s o)
 unfolding stepMove
-move-numbered e st b s none = step-pick (isClosed (st .room)) (over (b ∷ s)) (fails (strange (st .room)) (suc (length s))) tt (leb→le 1 (strange (st .room)) (each-room (λ e r. leb 1 (strange r)) strange-test e (st .room)))
-move-numbered e st b s (hit m) =
-    let g = takeValue (m .form) (suc (length s)) (m .code) (valueFrom m b s) in
-    step-pick (tooDeep m st) (fails 12 (suc (length s))) (stepTaken st m g) (omega arith) (taken-numbered st m g (value-numbered (m .form) (suc (length s)) (m .code) (valueFrom m b s)))
+move-numbered told st b s none = step-pick (isClosed (st .room)) (over (b ∷ s)) (fails (strange (st .room)) (suc (length s))) tt (leb→le 1 (strange (st .room)) (each-room (λ e r. leb 1 (strange r)) strange-test (told .edition) (st .room)))
+move-numbered told st b s (hit m) =
+    let g = takeValue told (m .form) (suc (length s)) (m .code) (valueFrom m b s) in
+    step-pick (tooDeep m st) (fails 12 (suc (length s))) (stepTaken st m g) (omega arith) (taken-numbered st m g (value-numbered told (m .form) (suc (length s)) (m .code) (valueFrom m b s)))
 
-step-numbered : (e : Edition) (st : State) (s : List ℕ) → StepNumbered (step e st s)
+step-numbered : (told : Told) (st : State) (s : List ℕ) → StepNumbered (step told st s)
 unfolding step
-step-numbered e st [] = step-pick (isClosed (st .room)) (over []) (fails 6 0) tt (omega arith)
-step-numbered e st (b ∷ s) = move-numbered e st b s (look b (moves e (st .room)))
+step-numbered told st [] = step-pick (isClosed (st .room)) (over []) (fails 6 0) tt (omega arith)
+step-numbered told st (b ∷ s) = move-numbered told st b s (look b (moves (told .edition) (st .room)))
 
 abbrev OutNumbered : Out → Type 0
 OutNumbered dry = Unit {0}
@@ -117,14 +118,14 @@ onward-numbered (fails refusal left) f i h = i
 onward-numbered (over s) f i h = tt
 onward-numbered (next st rs rest) f i h = rows-numbered rs (f st rest) (h st rest)
 
-run-numbered : (n : ℕ) (e : Edition) (st : State) (s : List ℕ) → OutNumbered (run n e st s)
+run-numbered : (n : ℕ) (told : Told) (st : State) (s : List ℕ) → OutNumbered (run n told st s)
 unfolding run
-run-numbered zero e st s = tt
-run-numbered (suc n) e st s = onward-numbered (step e st s) (run n e) (step-numbered e st s) (run-numbered n e)
+run-numbered zero told st s = tt
+run-numbered (suc n) told st s = onward-numbered (step told st s) (run n told) (step-numbered told st s) (run-numbered n told)
 
-inside-numbered : (e : Edition) (st : State) (s : List ℕ) → OutNumbered (inside e st s)
+inside-numbered : (told : Told) (st : State) (s : List ℕ) → OutNumbered (inside told st s)
 unfolding inside
-inside-numbered e st s = run-numbered (suc (length s)) e st s
+inside-numbered told st s = run-numbered (suc (length s)) told st s
 
 -- A reading's refusal: not 0, and at a place of the input, which has so many bytes from `at` on
 
@@ -140,20 +141,20 @@ refusing-within : (at n at′ n′ : ℕ) (a : Answer) → at′ + n′ ≤ at +
 refusing-within at n at′ n′ (refused refusal place) h (i, j) = (i, omega arith)
 refusing-within at n at′ n′ (accepted place rows) h i = tt
 
-abbrev Ih : ℕ → Edition → Type 0
-Ih k e = (at : ℕ) (s : List ℕ) → Refusing at (length s) (header k e at s)
+abbrev Ih : ℕ → Told → Type 0
+Ih k told = (at : ℕ) (s : List ℕ) → Refusing at (length s) (header k told at s)
 
-ends-refusing : (k : ℕ) (e : Edition) (b : Bool) (at n end : ℕ) (rest : List ℕ) (o : Out) → Ih k e → Wet o → OutNumbered o → end ≤ at + n → end + length rest ≤ at + n → Refusing at n (ends b end rest (header k e) o)
-ends-refusing k e b at n end rest dry ih w i h l = absurd w
-ends-refusing k e b at n end rest (fault refusal left) ih w i h l = (i, omega arith)
-ends-refusing k e b at n end rest (done rs (c ∷ s)) ih w i h l = (omega arith, omega arith)
-ends-refusing k e true at n end rest (done rs []) ih w i h l = tt
-ends-refusing k e false at n end rest (done rs []) ih w i h l =
-    refusing-behind at n (map (placed end) rs) (header k e end rest) (refusing-within at n end (length rest) (header k e end rest) l (ih end rest))
+ends-refusing : (k : ℕ) (told : Told) (b : Bool) (at n end : ℕ) (rest : List ℕ) (o : Out) → Ih k told → Wet o → OutNumbered o → end ≤ at + n → end + length rest ≤ at + n → Refusing at n (ends b end rest (header k told) o)
+ends-refusing k told b at n end rest dry ih w i h l = absurd w
+ends-refusing k told b at n end rest (fault refusal left) ih w i h l = (i, omega arith)
+ends-refusing k told b at n end rest (done rs (c ∷ s)) ih w i h l = (omega arith, omega arith)
+ends-refusing k told true at n end rest (done rs []) ih w i h l = tt
+ends-refusing k told false at n end rest (done rs []) ih w i h l =
+    refusing-behind at n (map (placed end) rs) (header k told end rest) (refusing-within at n end (length rest) (header k told end rest) l (ih end rest))
 
-module _ (k : ℕ) (e : Edition) (b : Bool) (at least head n : ℕ) (s : List ℕ) (ih : Ih k e) (one : 1 ≤ head) where
+module _ (k : ℕ) (told : Told) (b : Bool) (at least head n : ℕ) (s : List ℕ) (ih : Ih k told) (one : 1 ≤ head) where
   abbrev read-of : Answer
-  read-of = behind (placedRow (opening b) 0 at [] ∷ []) (ends b (at + n) (drop (n - head) s) (header k e) (inside e (start b) (take (n - head) s)))
+  read-of = behind (placedRow (opening b) 0 at [] ∷ []) (ends b (at + n) (drop (n - head) s) (header k told) (inside told (start b) (take (n - head) s)))
 
   envelope-picks : (x y z : Bool) → ltb (head + length s) n ≡ z → ltb n least ≡ x → 3 ≤ least → head ≤ least
       → Refusing at (head + length s) (pick x (refused 4 (at + 1)) (pick y (refused 5 (at + 1)) (pick z (refused 2 (at + head + length s)) read-of)))
@@ -163,11 +164,11 @@ module _ (k : ℕ) (e : Edition) (b : Bool) (at least head n : ℕ) (s : List �
   envelope-picks false false false q p l h =
       let f = ltb-false (head + length s) n q in
       let g = ltb-false n least p in
-      refusing-behind at (head + length s) (placedRow (opening b) 0 at [] ∷ []) (ends b (at + n) (drop (n - head) s) (header k e) (inside e (start b) (take (n - head) s)))
-      (ends-refusing k e b at (head + length s) (at + n) (drop (n - head) s) (inside e (start b) (take (n - head) s)) ih (never-dry e (start b) (take (n - head) s)) (inside-numbered e (start b) (take (n - head) s)) (omega arith)
+      refusing-behind at (head + length s) (placedRow (opening b) 0 at [] ∷ []) (ends b (at + n) (drop (n - head) s) (header k told) (inside told (start b) (take (n - head) s)))
+      (ends-refusing k told b at (head + length s) (at + n) (drop (n - head) s) (inside told (start b) (take (n - head) s)) ih (never-dry told (start b) (take (n - head) s)) (inside-numbered told (start b) (take (n - head) s)) (omega arith)
       (omega (arith, length-drop (n - head) s)))
 
-  envelope-refusing : 3 ≤ least → head ≤ least → Refusing at (head + length s) (envelope e b least at head n s (header k e))
+  envelope-refusing : 3 ≤ least → head ≤ least → Refusing at (head + length s) (envelope told b least at head n s (header k told))
   unfolding envelope
   envelope-refusing l h = envelope-picks (ltb n least) (ltb envelopeMost n) (ltb (head + length s) n) refl refl l h
 
@@ -186,35 +187,35 @@ high-leaves zero n s = omega arith
 high-leaves (suc w) n [] = tt
 high-leaves (suc w) n (b ∷ s) = leaves-more w b s (highFirst w (256 * n + b) s) (high-leaves w (256 * n + b) s)
 
-long-refusing : (k : ℕ) (e : Edition) (b : Bool) (at all : ℕ) (s : List ℕ) (r : Count) → Ih k e → all ≡ 3 + length s → Leaves 4 s r → Refusing at all (longForm e b at all (header k e) r)
-long-refusing k e b at all s short ih q l = (omega arith, omega arith)
-long-refusing k e b at all s (counted n rest) ih q l =
-    refusing-within at all at (7 + length rest) (envelope e b longLeast at 7 n rest (header k e)) (omega arith) (envelope-refusing k e b at longLeast 7 n rest ih (omega arith) (omega arith) (omega arith))
+long-refusing : (k : ℕ) (told : Told) (b : Bool) (at all : ℕ) (s : List ℕ) (r : Count) → Ih k told → all ≡ 3 + length s → Leaves 4 s r → Refusing at all (longForm told b at all (header k told) r)
+long-refusing k told b at all s short ih q l = (omega arith, omega arith)
+long-refusing k told b at all s (counted n rest) ih q l =
+    refusing-within at all at (7 + length rest) (envelope told b longLeast at 7 n rest (header k told)) (omega arith) (envelope-refusing k told b at longLeast 7 n rest ih (omega arith) (omega arith) (omega arith))
 
-sized-refusing : (k : ℕ) (e : Edition) (b : Bool) (at : ℕ) (s : List ℕ) (r : Count) → Ih k e → Leaves 2 s r → Refusing at (suc (length s)) (sized e b at (suc (length s)) (header k e) r)
-sized-refusing k e b at s short ih l = (omega arith, omega arith)
-sized-refusing k e b at s (counted n rest) ih l = at-form (eqb n 0)
+sized-refusing : (k : ℕ) (told : Told) (b : Bool) (at : ℕ) (s : List ℕ) (r : Count) → Ih k told → Leaves 2 s r → Refusing at (suc (length s)) (sized told b at (suc (length s)) (header k told) r)
+sized-refusing k told b at s short ih l = (omega arith, omega arith)
+sized-refusing k told b at s (counted n rest) ih l = at-form (eqb n 0)
   where
-    at-form : (z : Bool) → Refusing at (suc (length s)) (pick z (longForm e b at (suc (length s)) (header k e) (highFirst 4 0 rest)) (envelope e b shortLeast at 3 n rest (header k e)))
-    at-form true = long-refusing k e b at (suc (length s)) rest (highFirst 4 0 rest) ih (omega arith) (high-leaves 4 0 rest)
-    at-form false = refusing-within at (suc (length s)) at (3 + length rest) (envelope e b shortLeast at 3 n rest (header k e)) (omega arith) (envelope-refusing k e b at shortLeast 3 n rest ih (omega arith) (omega arith) (omega arith))
+    at-form : (z : Bool) → Refusing at (suc (length s)) (pick z (longForm told b at (suc (length s)) (header k told) (highFirst 4 0 rest)) (envelope told b shortLeast at 3 n rest (header k told)))
+    at-form true = long-refusing k told b at (suc (length s)) rest (highFirst 4 0 rest) ih (omega arith) (high-leaves 4 0 rest)
+    at-form false = refusing-within at (suc (length s)) at (3 + length rest) (envelope told b shortLeast at 3 n rest (header k told)) (omega arith) (envelope-refusing k told b at shortLeast 3 n rest ih (omega arith) (omega arith) (omega arith))
 
-identified-refusing : (k : ℕ) (e : Edition) (at : ℕ) (s : List ℕ) (i : Identifier) → Ih k e → Refusing at (suc (length s)) (identified e at s (header k e) i)
-identified-refusing k e at s extension ih = sized-refusing k e false at s (highFirst 2 0 s) ih (high-leaves 2 0 s)
-identified-refusing k e at s base ih = sized-refusing k e true at s (highFirst 2 0 s) ih (high-leaves 2 0 s)
-identified-refusing k e at s neither ih = (omega arith, omega arith)
+identified-refusing : (k : ℕ) (told : Told) (at : ℕ) (s : List ℕ) (i : Identifier) → Ih k told → Refusing at (suc (length s)) (identified told at s (header k told) i)
+identified-refusing k told at s extension ih = sized-refusing k told false at s (highFirst 2 0 s) ih (high-leaves 2 0 s)
+identified-refusing k told at s base ih = sized-refusing k told true at s (highFirst 2 0 s) ih (high-leaves 2 0 s)
+identified-refusing k told at s neither ih = (omega arith, omega arith)
 
 seventeenth-refusing : (at n : ℕ) (i : Identifier) → Refusing at n (seventeenth at i)
 seventeenth-refusing at n extension = (omega arith, omega arith)
 seventeenth-refusing at n base = (omega arith, omega arith)
 seventeenth-refusing at n neither = (omega arith, omega arith)
 
-pub header-refusing : (k : ℕ) (e : Edition) (at : ℕ) (s : List ℕ) → Refusing at (length s) (header k e at s)
+pub header-refusing : (k : ℕ) (told : Told) (at : ℕ) (s : List ℕ) → Refusing at (length s) (header k told at s)
 unfolding header
-header-refusing zero e at [] = (omega arith, omega arith)
-header-refusing zero e at (b ∷ s) = seventeenth-refusing at (suc (length s)) (identifierOf b)
-header-refusing (suc k) e at [] = (omega arith, omega arith)
-header-refusing (suc k) e at (b ∷ s) = identified-refusing k e at s (identifierOf b) (header-refusing k e)
+header-refusing zero told at [] = (omega arith, omega arith)
+header-refusing zero told at (b ∷ s) = seventeenth-refusing at (suc (length s)) (identifierOf b)
+header-refusing (suc k) told at [] = (omega arith, omega arith)
+header-refusing (suc k) told at (b ∷ s) = identified-refusing k told at s (identifierOf b) (header-refusing k told)
 
-pub refused-shape : (k : ℕ) (e : Edition) (s : List ℕ) (refusal place : ℕ) → header k e 0 s ≡ refused refusal place → (1 ≤ refusal) × (place ≤ length s)
-refused-shape k e s refusal place q = let (i, j) = subst (Refusing 0 (length s)) q (header-refusing k e 0 s) in (i, omega arith)
+pub refused-shape : (k : ℕ) (told : Told) (s : List ℕ) (refusal place : ℕ) → header k told 0 s ≡ refused refusal place → (1 ≤ refusal) × (place ≤ length s)
+refused-shape k told s refusal place q = let (i, j) = subst (Refusing 0 (length s)) q (header-refusing k told 0 s) in (i, omega arith)

@@ -8,7 +8,8 @@ use lib.Dec.{T}
 use lib.ListN.{length, length-append}
 use borrow.Author.Tests.{eqb-true}
 use Rattle.meaning.specs.Basics.{pick}
-use Rattle.meaning.specs.Editions.{Edition, Room, State, Form, text, date, number, block, itself, opens, quiet, Move, noCode, moves}
+use Rattle.meaning.specs.Told.{Edition}
+use Rattle.meaning.specs.Editions.{Room, State, Form, text, date, number, block, itself, opens, quiet, Move, noCode, moves}
 use Rattle.meaning.specs.Reading.{Row, hasCode}
 use Rattle.meaning.specs.Headers.{Placed, meant}
 use Rattle.meaning.specs.Writing.{writeValue, fits, fitRow, wrap}

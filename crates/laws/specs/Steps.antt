@@ -9,7 +9,8 @@ use lib.ListN.{length, length-append}
 use borrow.Author.Tests.{eqb-true}
 use Rattle.meaning.specs.Basics.{pick}
 use Rattle.meaning.specs.Bytes.{Taken, took, failed, takeText, textOk, takeDate, dateOk, dateChecks, takeNumber, numberOk, Count, counted, short, highFirst, Width, bytesOf, tooWide, takeBytes, blockOf, takeBlock}
-use Rattle.meaning.specs.Editions.{Edition, Room, State, go, Form, text, date, number, block, itself, opens, quiet, isQuiet, Move, noCode, moves}
+use Rattle.meaning.specs.Told.{known, Told}
+use Rattle.meaning.specs.Editions.{Room, State, go, Form, text, date, number, block, itself, opens, quiet, isQuiet, Move, noCode, moves}
 use Rattle.meaning.specs.Reading.{Seen, seen, takeValue, reachBack, seenBy, Found, none, hit, hasCode, look, isClosed, strange, tooDeep, Step, fails, over, next, stepTaken, valueFrom, stepMove, step, Out, dry, fault, done, withRows, onward, run, inside}
 use Rattle.laws.specs.Values.{Was, ended, text-out, date-out, number-out, Took, bytes-out}
 use Rattle.laws.specs.Tables.{In}
@@ -52,30 +53,30 @@ block-leaves : (n left k : ℕ) (s : List ℕ) (b : Bool) → length s ≤ n →
 block-leaves n left k s true h = tt
 block-leaves n left k s false h = took-leaves n k s (takeBytes k s) h (bytes-out k s)
 
-count-leaves : (w : Width) (n left : ℕ) (r : Count) → Counts n r → Leaves n (blockOf w left r)
+count-leaves : (told : Told) (w : Width) (n left : ℕ) (r : Count) → Counts n r → Leaves n (blockOf told w left r)
 unfolding blockOf
-count-leaves w n left (counted k s) i = block-leaves n left k s (tooWide w k) i
-count-leaves w n left short i = tt
+count-leaves told w n left (counted k s) i = block-leaves n left k s (tooWide told w k) i
+count-leaves told w n left short i = tt
 
-value-leaves : (f : Form) (left c : ℕ) (s : List ℕ) → Leaves (length s) (takeValue f left c s)
+value-leaves : (told : Told) (f : Form) (left c : ℕ) (s : List ℕ) → Leaves (length s) (takeValue told f left c s)
 unfolding takeValue takeBlock
-value-leaves text left c s = was-leaves ended textOk s (takeText s) (text-out s)
-value-leaves (date reach designated) left c s = was-leaves (λ v. v) (dateOk (dateChecks reach designated) []) s (takeDate (dateChecks reach designated) [] s) (date-out (dateChecks reach designated) [] s)
-value-leaves number left c s = was-leaves (λ v. v) (numberOk 0 true) s (takeNumber 0 true s) (number-out 0 true s)
-value-leaves (block w) left c s = count-leaves w (length s) left (highFirst (bytesOf w) 0 s) (high-counts (bytesOf w) 0 s)
-value-leaves itself left c s = omega arith
-value-leaves opens left c s = omega arith
-value-leaves quiet left c s = omega arith
+value-leaves told text left c s = was-leaves ended textOk s (takeText s) (text-out s)
+value-leaves told (date reach designated) left c s = was-leaves (λ v. v) (dateOk (dateChecks reach designated) []) s (takeDate (dateChecks reach designated) [] s) (date-out (dateChecks reach designated) [] s)
+value-leaves told number left c s = was-leaves (λ v. v) (numberOk 0 true) s (takeNumber 0 true s) (number-out 0 true s)
+value-leaves told (block w) left c s = count-leaves told w (length s) left (highFirst (bytesOf w) 0 s) (high-counts (bytesOf w) 0 s)
+value-leaves told itself left c s = omega arith
+value-leaves told opens left c s = omega arith
+value-leaves told quiet left c s = omega arith
 
-text-form-leaves : (f : Form) (left c b : ℕ) (s : List ℕ) → T (isTextForm f) → Leaves (length s) (takeValue f left c (b ∷ s))
+text-form-leaves : (told : Told) (f : Form) (left c b : ℕ) (s : List ℕ) → T (isTextForm f) → Leaves (length s) (takeValue told f left c (b ∷ s))
 unfolding takeValue
-text-form-leaves text left c b s t = text-leaves b s (takeText (b ∷ s)) (text-out (b ∷ s))
-text-form-leaves (date reach designated) left c b s t = absurd t
-text-form-leaves number left c b s t = absurd t
-text-form-leaves (block w) left c b s t = absurd t
-text-form-leaves itself left c b s t = absurd t
-text-form-leaves opens left c b s t = absurd t
-text-form-leaves quiet left c b s t = absurd t
+text-form-leaves told text left c b s t = text-leaves b s (takeText (b ∷ s)) (text-out (b ∷ s))
+text-form-leaves told (date reach designated) left c b s t = absurd t
+text-form-leaves told number left c b s t = absurd t
+text-form-leaves told (block w) left c b s t = absurd t
+text-form-leaves told itself left c b s t = absurd t
+text-form-leaves told opens left c b s t = absurd t
+text-form-leaves told quiet left c b s t = absurd t
 
 -- a step leaves fewer than n bytes
 abbrev Shrinks : ℕ → Step → Type 0
@@ -87,9 +88,9 @@ taken-shrinks : (st : State) (m : Move) (n : ℕ) (g : Taken) → Leaves n g →
 taken-shrinks st m n (took v rest) i = omega arith
 taken-shrinks st m n (failed refusal left) i = tt
 
-from-leaves : (e : Edition) (r : Room) (m : Move) (b : ℕ) (s : List ℕ) (z : Bool) → hasCode noCode m ≡ z → In m (moves e r) → Leaves (length s) (takeValue (m .form) (suc (length s)) (m .code) (pick z (b ∷ s) s))
-from-leaves e r m b s true q i = text-form-leaves (m .form) (suc (length s)) (m .code) b s (uncoded-text e r i (eqb-true (m .code) noCode q))
-from-leaves e r m b s false q i = value-leaves (m .form) (suc (length s)) (m .code) s
+from-leaves : (told : Told) (r : Room) (m : Move) (b : ℕ) (s : List ℕ) (z : Bool) → hasCode noCode m ≡ z → In m (moves (told .edition) r) → Leaves (length s) (takeValue told (m .form) (suc (length s)) (m .code) (pick z (b ∷ s) s))
+from-leaves told r m b s true q i = text-form-leaves told (m .form) (suc (length s)) (m .code) b s (uncoded-text (told .edition) r i (eqb-true (m .code) noCode q))
+from-leaves told r m b s false q i = value-leaves told (m .form) (suc (length s)) (m .code) s
 
 deep-shrinks : (n refusal left : ℕ) (x : Step) (b : Bool) → Shrinks n x → Shrinks n (pick b (fails refusal left) x)
 deep-shrinks n refusal left x true i = tt
@@ -99,17 +100,17 @@ closed-shrinks : (n refusal left : ℕ) (s : List ℕ) (b : Bool) → Shrinks n 
 closed-shrinks n refusal left s true = tt
 closed-shrinks n refusal left s false = tt
 
-move-shrinks : (e : Edition) (st : State) (b : ℕ) (s : List ℕ) (o : Found) → Looked b (moves e (st .room)) o → Shrinks (suc (length s)) (stepMove st b s o)
+move-shrinks : (told : Told) (st : State) (b : ℕ) (s : List ℕ) (o : Found) → Looked b (moves (told .edition) (st .room)) o → Shrinks (suc (length s)) (stepMove told st b s o)
 unfolding stepMove
-move-shrinks e st b s none w = closed-shrinks (suc (length s)) (strange (st .room)) (suc (length s)) (b ∷ s) (isClosed (st .room))
-move-shrinks e st b s (hit m) w =
-    deep-shrinks (suc (length s)) 12 (suc (length s)) (stepTaken st m (takeValue (m .form) (suc (length s)) (m .code) (valueFrom m b s))) (tooDeep m st)
-    (taken-shrinks st m (length s) (takeValue (m .form) (suc (length s)) (m .code) (valueFrom m b s)) (from-leaves e (st .room) m b s (hasCode noCode m) refl (w .0)))
+move-shrinks told st b s none w = closed-shrinks (suc (length s)) (strange (st .room)) (suc (length s)) (b ∷ s) (isClosed (st .room))
+move-shrinks told st b s (hit m) w =
+    deep-shrinks (suc (length s)) 12 (suc (length s)) (stepTaken st m (takeValue told (m .form) (suc (length s)) (m .code) (valueFrom m b s))) (tooDeep m st)
+    (taken-shrinks st m (length s) (takeValue told (m .form) (suc (length s)) (m .code) (valueFrom m b s)) (from-leaves told (st .room) m b s (hasCode noCode m) refl (w .0)))
 
-step-shrinks : (e : Edition) (st : State) (s : List ℕ) → Shrinks (length s) (step e st s)
+step-shrinks : (told : Told) (st : State) (s : List ℕ) → Shrinks (length s) (step told st s)
 unfolding step
-step-shrinks e st [] = closed-shrinks 0 6 0 [] (isClosed (st .room))
-step-shrinks e st (b ∷ s) = move-shrinks e st b s (look b (moves e (st .room))) (looked b (moves e (st .room)))
+step-shrinks told st [] = closed-shrinks 0 6 0 [] (isClosed (st .room))
+step-shrinks told st (b ∷ s) = move-shrinks told st b s (look b (moves (told .edition) (st .room))) (looked b (moves (told .edition) (st .room)))
 
 -- Enough fuel is as good as any
 
@@ -118,27 +119,27 @@ onward-same k f g (fails refusal left) i h = refl
 onward-same k f g (over s) i h = refl
 onward-same k f g (next st rs rest) i h = ap (withRows rs) (h st rest i)
 
-run-same : (n k : ℕ) (e : Edition) (st : State) (s : List ℕ) → length s < n → length s < k → run n e st s ≡ run k e st s
+run-same : (n k : ℕ) (told : Told) (st : State) (s : List ℕ) → length s < n → length s < k → run n told st s ≡ run k told st s
 unfolding run
-run-same zero k e st s h j = absurd (omega arith)
-run-same (suc n) zero e st s h j = absurd (omega arith)
-run-same (suc n) (suc k) e st s h j =
-    onward-same (length s) (run n e) (run k e) (step e st s) (step-shrinks e st s) (λ st₁ s₁ i. run-same n k e st₁ s₁ (omega arith) (omega arith))
+run-same zero k told st s h j = absurd (omega arith)
+run-same (suc n) zero told st s h j = absurd (omega arith)
+run-same (suc n) (suc k) told st s h j =
+    onward-same (length s) (run n told) (run k told) (step told st s) (step-shrinks told st s) (λ st₁ s₁ i. run-same n k told st₁ s₁ (omega arith) (omega arith))
 
 -- THE equation of the reading
-pub inside-onward : (e : Edition) (st : State) (s : List ℕ) → inside e st s ≡ onward (step e st s) (inside e)
+pub inside-onward : (told : Told) (st : State) (s : List ℕ) → inside told st s ≡ onward (step told st s) (inside told)
 unfolding inside run
-inside-onward e st s =
-    onward-same (length s) (run (length s) e) (inside e) (step e st s) (step-shrinks e st s) (λ st₁ s₁ i. run-same (length s) (suc (length s₁)) e st₁ s₁ i (omega arith))
+inside-onward told st s =
+    onward-same (length s) (run (length s) told) (inside told) (step told st s) (step-shrinks told st s) (λ st₁ s₁ i. run-same (length s) (suc (length s₁)) told st₁ s₁ i (omega arith))
 
-pub inside-next : (e : Edition) (st : State) (s : List ℕ) {st₁ : State} {rs : List Seen} {s₁ : List ℕ} → step e st s ≡ next st₁ rs s₁ → inside e st s ≡ withRows rs (inside e st₁ s₁)
-inside-next e st s q = inside-onward e st s ∙ ap (λ (x : Step). onward x (inside e)) q
+pub inside-next : (told : Told) (st : State) (s : List ℕ) {st₁ : State} {rs : List Seen} {s₁ : List ℕ} → step told st s ≡ next st₁ rs s₁ → inside told st s ≡ withRows rs (inside told st₁ s₁)
+inside-next told st s q = inside-onward told st s ∙ ap (λ (x : Step). onward x (inside told)) q
 
-pub inside-fails : (e : Edition) (st : State) (s : List ℕ) {refusal left : ℕ} → step e st s ≡ fails refusal left → inside e st s ≡ fault refusal left
-inside-fails e st s q = inside-onward e st s ∙ ap (λ (x : Step). onward x (inside e)) q
+pub inside-fails : (told : Told) (st : State) (s : List ℕ) {refusal left : ℕ} → step told st s ≡ fails refusal left → inside told st s ≡ fault refusal left
+inside-fails told st s q = inside-onward told st s ∙ ap (λ (x : Step). onward x (inside told)) q
 
-pub inside-over : (e : Edition) (st : State) (s : List ℕ) {t : List ℕ} → step e st s ≡ over t → inside e st s ≡ done [] t
-inside-over e st s q = inside-onward e st s ∙ ap (λ (x : Step). onward x (inside e)) q
+pub inside-over : (told : Told) (st : State) (s : List ℕ) {t : List ℕ} → step told st s ≡ over t → inside told st s ≡ done [] t
+inside-over told st s q = inside-onward told st s ∙ ap (λ (x : Step). onward x (inside told)) q
 
 -- the fuel is never used up
 abbrev pub Wet : Out → Type 0
@@ -156,20 +157,20 @@ wet-onward k f (fails refusal left) i h = tt
 wet-onward k f (over s) i h = tt
 wet-onward k f (next st rs rest) i h = wet-rows rs (f st rest) (h st rest i)
 
-wet-run : (n : ℕ) (e : Edition) (st : State) (s : List ℕ) → length s < n → Wet (run n e st s)
+wet-run : (n : ℕ) (told : Told) (st : State) (s : List ℕ) → length s < n → Wet (run n told st s)
 unfolding run
-wet-run zero e st s h = absurd (omega arith)
-wet-run (suc n) e st s h = wet-onward (length s) (run n e) (step e st s) (step-shrinks e st s) (λ st₁ s₁ i. wet-run n e st₁ s₁ (omega arith))
+wet-run zero told st s h = absurd (omega arith)
+wet-run (suc n) told st s h = wet-onward (length s) (run n told) (step told st s) (step-shrinks told st s) (λ st₁ s₁ i. wet-run n told st₁ s₁ (omega arith))
 
-pub never-dry : (e : Edition) (st : State) (s : List ℕ) → Wet (inside e st s)
+pub never-dry : (told : Told) (st : State) (s : List ℕ) → Wet (inside told st s)
 unfolding inside
-never-dry e st s = wet-run (suc (length s)) e st s (omega arith)
+never-dry told st s = wet-run (suc (length s)) told st s (omega arith)
 
 -- Paths of steps
 
-pub data Path (e : Edition) : State → List ℕ → List Seen → State → List ℕ → Type 0 where
-  rests : {st : State} {s : List ℕ} → Path e st s [] st s
-  moves-on : {st st₁ st₂ : State} {s s₁ s₂ : List ℕ} {rs ts : List Seen} → step e st s ≡ next st₁ rs s₁ → Path e st₁ s₁ ts st₂ s₂ → Path e st s (rs ++ ts) st₂ s₂
+pub data Path (told : Told) : State → List ℕ → List Seen → State → List ℕ → Type 0 where
+  rests : {st : State} {s : List ℕ} → Path told st s [] st s
+  moves-on : {st st₁ st₂ : State} {s s₁ s₂ : List ℕ} {rs ts : List Seen} → step told st s ≡ next st₁ rs s₁ → Path told st₁ s₁ ts st₂ s₂ → Path told st s (rs ++ ts) st₂ s₂
 
 rows-append : (rs ts : List Seen) (o : Out) → withRows (rs ++ ts) o ≡ withRows rs (withRows ts o)
 rows-append rs ts dry = refl
@@ -181,21 +182,21 @@ rows-none dry = refl
 rows-none (fault refusal left) = refl
 rows-none (done us s) = refl
 
-pub inside-path : (e : Edition) {st st′ : State} {s rest : List ℕ} {rs : List Seen} → Path e st s rs st′ rest → inside e st s ≡ withRows rs (inside e st′ rest)
-inside-path e {st} {s = s} rests = rows-none (inside e st s)
-inside-path e {st} {s = s} (moves-on {st₁ = st₁} {st₂ = st₂} {s₁ = s₁} {s₂ = s₂} {rs = rs} {ts = ts} q p) =
-    inside-next e st s q ∙ ap (withRows rs) (inside-path e p) ∙ sym (rows-append rs ts (inside e st₂ s₂))
+pub inside-path : (told : Told) {st st′ : State} {s rest : List ℕ} {rs : List Seen} → Path told st s rs st′ rest → inside told st s ≡ withRows rs (inside told st′ rest)
+inside-path told {st} {s = s} rests = rows-none (inside told st s)
+inside-path told {st} {s = s} (moves-on {st₁ = st₁} {st₂ = st₂} {s₁ = s₁} {s₂ = s₂} {rs = rs} {ts = ts} q p) =
+    inside-next told st s q ∙ ap (withRows rs) (inside-path told p) ∙ sym (rows-append rs ts (inside told st₂ s₂))
 
 -- one step, where the move is known
-pub step-is : (e : Edition) (st : State) (m : Move) (b : ℕ) (s v rest : List ℕ) → look b (moves e (st .room)) ≡ hit m → tooDeep m st ≡ false
-    → takeValue (m .form) (suc (length s)) (m .code) (valueFrom m b s) ≡ took v rest
-    → step e st (b ∷ s) ≡ next (go (m .next) st) (seenBy (m .form) (m .kind) (st .level) v rest) rest
+pub step-is : (told : Told) (st : State) (m : Move) (b : ℕ) (s v rest : List ℕ) → look b (moves (told .edition) (st .room)) ≡ hit m → tooDeep m st ≡ false
+    → takeValue told (m .form) (suc (length s)) (m .code) (valueFrom m b s) ≡ took v rest
+    → step told st (b ∷ s) ≡ next (go (m .next) st) (seenBy (m .form) (m .kind) (st .level) v rest) rest
 unfolding step stepMove
-step-is e st m b s v rest el ed es = rw (el, ed, es) refl
+step-is told st m b s v rest el ed es = rw (el, ed, es) refl
 
-pub step-over : (e : Edition) (st : State) → isClosed (st .room) ≡ true → step e st [] ≡ over []
+pub step-over : (told : Told) (st : State) → isClosed (st .room) ≡ true → step told st [] ≡ over []
 unfolding step
-step-over e st h = rw h refl
+step-over told st h = rw h refl
 
 pub loud-seen : (f : Form) (k n : ℕ) (v rest : List ℕ) → isQuiet f ≡ false → seenBy f k n v rest ≡ seen k n (length rest + length v + reachBack f) v ∷ []
 loud-seen f k n v rest q = rw q refl

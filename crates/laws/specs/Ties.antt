@@ -10,7 +10,7 @@ use lib.ListN.{length, take, length-append}
 use lib.Seq.{take-append-seam}
 use borrow.Author.Tests.{le-leb}
 use Rattle.meaning.specs.Basics.{pick, every}
-use Rattle.meaning.specs.Editions.{Edition, B, D, Label, known, unknown, labelOf}
+use Rattle.meaning.specs.Told.{Edition, Label, B, D, known, unknown, labelOf, told}
 use Rattle.meaning.specs.Reading.{Row}
 use Rattle.meaning.specs.Headers.{Placed, meant, accepted, header, envelopesMost, labelled, read}
 use Rattle.meaning.specs.Writing.{Cell, cell, broken, headerOf, Plan, stuck, plan, Limit, fine, exceeds, limits, written, unwritten, limited, planned, writeRows, writtenUnder}
@@ -37,7 +37,7 @@ plainCell broken = false
 abbrev pub plainTable : List ℕ → List ℕ → Bool
 plainTable rows pool = every plainCell (cellsOf pool rows)
 
-pub read-known : (e : Edition) (input : List ℕ) → read (numberOf e) input ≡ header envelopesMost e 0 input
+pub read-known : (e : Edition) (input : List ℕ) → read (numberOf e) input ≡ header envelopesMost (told e) 0 input
 unfolding read
 read-known B input = refl
 read-known D input = refl
@@ -48,11 +48,11 @@ write-known B rows pool room = refl
 write-known D rows pool room = refl
 
 -- an answer that is accepted is some edition's
-pub accepted-known : (edition : ℕ) (input : List ℕ) (place : ℕ) (rows : List Placed) → read edition input ≡ accepted place rows → (e : Edition) × (labelOf edition ≡ known e) × (header envelopesMost e 0 input ≡ accepted place rows)
+pub accepted-known : (edition : ℕ) (input : List ℕ) (place : ℕ) (rows : List Placed) → read edition input ≡ accepted place rows → (e : Edition) × (labelOf edition ≡ known e) × (header envelopesMost (told e) 0 input ≡ accepted place rows)
 unfolding read
 accepted-known edition input place rows q = at (labelOf edition) refl q
   where
-    at : (l : Label) → labelOf edition ≡ l → labelled input l ≡ accepted place rows → (e : Edition) × (labelOf edition ≡ known e) × (header envelopesMost e 0 input ≡ accepted place rows)
+    at : (l : Label) → labelOf edition ≡ l → labelled input l ≡ accepted place rows → (e : Edition) × (labelOf edition ≡ known e) × (header envelopesMost (told e) 0 input ≡ accepted place rows)
     at unknown k r = let z : _≡_ {A = ℕ} 0 1 = cc r in absurd (omega arith)
     at (known e) k r = (e, k, r)
 
@@ -64,7 +64,7 @@ written-known edition rows pool room bytes q = at (labelOf edition) refl q
     at unknown k r = let z : _≡_ {A = ℕ} 0 1 = cc r in absurd (omega arith)
     at (known e) k r = (e, k, r)
 
-pub read-as : (edition : ℕ) (e : Edition) (input : List ℕ) → labelOf edition ≡ known e → read edition input ≡ header envelopesMost e 0 input
+pub read-as : (edition : ℕ) (e : Edition) (input : List ℕ) → labelOf edition ≡ known e → read edition input ≡ header envelopesMost (told e) 0 input
 unfolding read
 read-as edition e input k = ap (labelled input) k
 
@@ -86,14 +86,14 @@ cells-placed w payload (r ∷ rows) (h, i) = rw (cell-placed w payload r h, cell
 pub from-zero : (n : ℕ) → 0 + n ≡ n
 from-zero n = omega arith
 
-pub whole-of : (e : Edition) (input : List ℕ) (place : ℕ) (rows : List Placed) → T (areBytes input) → header envelopesMost e 0 input ≡ accepted place rows → Whole envelopesMost e 0 input place rows
-whole-of e input place rows t q = subst (Again envelopesMost e 0 input) q (header-written envelopesMost e 0 input t)
+pub whole-of : (e : Edition) (input : List ℕ) (place : ℕ) (rows : List Placed) → T (areBytes input) → header envelopesMost (told e) 0 input ≡ accepted place rows → Whole envelopesMost e 0 input place rows
+whole-of e input place rows t q = subst (Again envelopesMost e 0 input) q (header-written envelopesMost (told e) 0 input t)
 
 -- the header's own views, whichever edition reads it
 pub same-meaning : (e : Edition) (bytes payload rows pool : List ℕ) (table : List Row) (read-rows : List Placed) → T (areBytes bytes) → cellsOf pool rows ≡ map cell table → map meant read-rows ≡ table
-    → header envelopesMost e 0 (bytes ++ []) ≡ accepted (0 + length bytes) read-rows → SameMeaning rows pool (tableOf read-rows) (bytes ++ payload)
+    → header envelopesMost (told e) 0 (bytes ++ []) ≡ accepted (0 + length bytes) read-rows → SameMeaning rows pool (tableOf read-rows) (bytes ++ payload)
 same-meaning e bytes payload rows pool table read-rows t c m q =
-    let a : header envelopesMost e 0 bytes ≡ accepted (0 + length bytes) read-rows = ap (header envelopesMost e 0) (sym (append-nil bytes)) ∙ q in
+    let a : header envelopesMost (told e) 0 bytes ≡ accepted (0 + length bytes) read-rows = ap (header envelopesMost (told e) 0) (sym (append-nil bytes)) ∙ q in
     let w = whole-of e bytes (0 + length bytes) read-rows t a in
     let whole : w .bytes ≡ bytes = all-of (w .bytes) (w .payload) (w .parts) (omega (arith, w .place)) in
     let i : AllIn 0 bytes read-rows = subst (λ (x : List ℕ). AllIn 0 x read-rows) whole (w .views) in

@@ -7,6 +7,7 @@ use native.Mathlib.Omega.{arith}
 use lib.Dec.{T, eqb, leb, ltb, leb→le, ltb→lt, le→leb, lt→ltb, eqb→eq, eqb-refl}
 use lib.ListN.{length}
 use borrow.Author.Tests.{ne-eqb, le-ltb, eqb-true, ltb-false}
+use Rattle.meaning.specs.Told.{known, Told}
 use Rattle.meaning.specs.Basics.{pick, isEmpty}
 use Rattle.meaning.specs.Bytes.{Taken, took, failed, prefixed, textByte, takeText, textOk, Check, passes, takeDate, dateOk, dateChecks, Turn, stop, more, wrong, turn, afterTurn, okTurn, takeNumber, numberOk, takeBytes, highFirst, counted, Width, oneByte, twoBytes, fourBytes, bytesOf, fewest, past, tooWide, lengthBytes, blockOf, takeBlock, blockOk}
 use Rattle.meaning.specs.Editions.{Form, text, date, number, block, itself, opens, quiet}
@@ -61,19 +62,19 @@ length-in twoBytes n rest h = ap (λ (k : ℕ). counted k rest) (omega arith)
 length-in fourBytes n rest h = ap (λ (k : ℕ). counted k rest) (omega arith)
 
 -- a length within its form is not too wide
-fits-width : (w : Width) (n : ℕ) → fewest w ≤ n → tooWide w n ≡ false
+fits-width : (told : Told) (w : Width) (n : ℕ) → fewest w ≤ n → tooWide told w n ≡ false
 unfolding tooWide
-fits-width w n h = le-ltb n (fewest w) h
+fits-width told w n h = le-ltb n (fewest w) h
 
 abbrev blockWrite : Width → List ℕ → List ℕ
 blockWrite w v = lengthBytes w (length v) ++ v
 
-block-in : (w : Width) (left : ℕ) (v rest : List ℕ) → T (blockOk w v) → takeBlock w left (blockWrite w v ++ rest) ≡ took v rest
+block-in : (told : Told) (w : Width) (left : ℕ) (v rest : List ℕ) → T (blockOk w v) → takeBlock told w left (blockWrite w v ++ rest) ≡ took v rest
 unfolding takeBlock blockOf blockOk
-block-in w left v rest t =
+block-in told w left v rest t =
     let lo = leb→le (fewest w) (length v) (left-of (leb (fewest w) (length v)) (ltb (length v) (past w)) t) in
     let hi = ltb→lt (length v) (past w) (right-of (leb (fewest w) (length v)) (ltb (length v) (past w)) t) in
-    rw (append-assoc (lengthBytes w (length v)) v rest, length-in w (length v) (v ++ rest) hi, fits-width w (length v) lo, bytes-in v rest) refl
+    rw (append-assoc (lengthBytes w (length v)) v rest, length-in w (length v) (v ++ rest) hi, fits-width told w (length v) lo, bytes-in v rest) refl
 
 itself-in : (c : ℕ) (v rest : List ℕ) → T (isOnly c v) → took (c ∷ []) rest ≡ took v rest
 itself-in c [] rest t = absurd t
@@ -84,15 +85,15 @@ empty-in : (v rest : List ℕ) → T (isEmpty v) → took [] rest ≡ took v res
 empty-in [] rest t = refl
 empty-in (b ∷ v) rest t = absurd t
 
-pub value-in : (f : Form) (left c : ℕ) (v rest : List ℕ) → T (valid f c v) → takeValue f left c (writeValue f v ++ rest) ≡ took v rest
+pub value-in : (told : Told) (f : Form) (left c : ℕ) (v rest : List ℕ) → T (valid f c v) → takeValue told f left c (writeValue f v ++ rest) ≡ took v rest
 unfolding takeValue writeValue valid
-value-in text left c v rest t = rw (append-assoc v (0 ∷ []) rest) (text-in v rest t)
-value-in (date reach designated) left c v rest t = date-in (dateChecks reach designated) [] v rest t
-value-in number left c v rest t = number-in 0 true v rest t
-value-in (block w) left c v rest t = block-in w left v rest t
-value-in itself left c v rest t = itself-in c v rest t
-value-in opens left c v rest t = empty-in v rest t
-value-in quiet left c v rest t = empty-in v rest t
+value-in told text left c v rest t = rw (append-assoc v (0 ∷ []) rest) (text-in v rest t)
+value-in told (date reach designated) left c v rest t = date-in (dateChecks reach designated) [] v rest t
+value-in told number left c v rest t = number-in 0 true v rest t
+value-in told (block w) left c v rest t = block-in told w left v rest t
+value-in told itself left c v rest t = itself-in c v rest t
+value-in told opens left c v rest t = empty-in v rest t
+value-in told quiet left c v rest t = empty-in v rest t
 
 -- Taken, then written: what is known of a value that was taken from s, by cases on the answer
 
@@ -174,9 +175,9 @@ bytes-out (suc n) [] = tt
 bytes-out (suc n) (b ∷ s) = took-more n b s (takeBytes n s) (bytes-out n s)
 
 -- a length that is not too wide is within its form
-wide-enough : (w : Width) (n : ℕ) → tooWide w n ≡ false → fewest w ≤ n
+wide-enough : (told : Told) (w : Width) (n : ℕ) → tooWide told w n ≡ false → fewest w ≤ n
 unfolding tooWide
-wide-enough w n q = ltb-false n (fewest w) q
+wide-enough told w n q = ltb-false n (fewest w) q
 
 -- the length n stands before the bytes s
 block-taken : (w : Width) (n : ℕ) (s : List ℕ) (g : Taken) → fewest w ≤ n → n < past w → Took n s g → Was (blockWrite w) (blockOk w) (lengthBytes w n ++ s) g
@@ -187,36 +188,36 @@ block-taken w n s (took v rest) lo hi i = (
   both (leb (fewest w) (length v)) (ltb (length v) (past w)) (le→leb (fewest w) (length v) (omega (arith, i .1))) (lt→ltb (length v) (past w) (omega (arith, i .1))),
 )
 
-block-counted : (w : Width) (left n : ℕ) (s : List ℕ) (p : Bool) → tooWide w n ≡ p → n < past w → Was (blockWrite w) (blockOk w) (lengthBytes w n ++ s) (pick p (failed 11 left) (takeBytes n s))
-block-counted w left n s true ep hi = tt
-block-counted w left n s false ep hi = block-taken w n s (takeBytes n s) (wide-enough w n ep) hi (bytes-out n s)
+block-counted : (told : Told) (w : Width) (left n : ℕ) (s : List ℕ) (p : Bool) → tooWide told w n ≡ p → n < past w → Was (blockWrite w) (blockOk w) (lengthBytes w n ++ s) (pick p (failed 11 left) (takeBytes n s))
+block-counted told w left n s true ep hi = tt
+block-counted told w left n s false ep hi = block-taken w n s (takeBytes n s) (wide-enough told w n ep) hi (bytes-out n s)
 
-block-at : (w : Width) (left n : ℕ) (s t : List ℕ) → t ≡ lengthBytes w n ++ s → n < past w → Was (blockWrite w) (blockOk w) t (blockOf w left (counted n s))
+block-at : (told : Told) (w : Width) (left n : ℕ) (s t : List ℕ) → t ≡ lengthBytes w n ++ s → n < past w → Was (blockWrite w) (blockOk w) t (blockOf told w left (counted n s))
 unfolding blockOf
-block-at w left n s t e hi = rw e (block-counted w left n s (tooWide w n) refl hi)
+block-at told w left n s t e hi = rw e (block-counted told w left n s (tooWide told w n) refl hi)
 
-block-out : (w : Width) (left : ℕ) (s : List ℕ) → T (areBytes s) → Was (blockWrite w) (blockOk w) s (takeBlock w left s)
+block-out : (told : Told) (w : Width) (left : ℕ) (s : List ℕ) → T (areBytes s) → Was (blockWrite w) (blockOk w) s (takeBlock told w left s)
 unfolding takeBlock highFirst blockOf
-block-out oneByte left [] t = tt
-block-out oneByte left (a ∷ s) t =
+block-out told oneByte left [] t = tt
+block-out told oneByte left (a ∷ s) t =
     let ha = first-byte a s t in
     let n : ℕ = 256 * 0 + a in
     let e : n ≡ a = omega arith in
-    block-at oneByte left n s (a ∷ s) (cc) (omega arith)
-block-out twoBytes left [] t = tt
-block-out twoBytes left (a ∷ []) t = tt
-block-out twoBytes left (a ∷ (b ∷ s)) t =
+    block-at told oneByte left n s (a ∷ s) (cc) (omega arith)
+block-out told twoBytes left [] t = tt
+block-out told twoBytes left (a ∷ []) t = tt
+block-out told twoBytes left (a ∷ (b ∷ s)) t =
     let t₁ = other-bytes a (b ∷ s) t in
     let ha = first-byte a (b ∷ s) t in let hb = first-byte b s t₁ in
     let n : ℕ = 256 * (256 * 0 + a) + b in
     let e₀ : n / 256 ≡ a = omega arith in
     let e₁ : n % 256 ≡ b = omega arith in
-    block-at twoBytes left n s (a ∷ (b ∷ s)) (cc) (omega arith)
-block-out fourBytes left [] t = tt
-block-out fourBytes left (a ∷ []) t = tt
-block-out fourBytes left (a ∷ (b ∷ [])) t = tt
-block-out fourBytes left (a ∷ (b ∷ (c ∷ []))) t = tt
-block-out fourBytes left (a ∷ (b ∷ (c ∷ (d ∷ s)))) t =
+    block-at told twoBytes left n s (a ∷ (b ∷ s)) (cc) (omega arith)
+block-out told fourBytes left [] t = tt
+block-out told fourBytes left (a ∷ []) t = tt
+block-out told fourBytes left (a ∷ (b ∷ [])) t = tt
+block-out told fourBytes left (a ∷ (b ∷ (c ∷ []))) t = tt
+block-out told fourBytes left (a ∷ (b ∷ (c ∷ (d ∷ s)))) t =
     let t₁ = other-bytes a (b ∷ (c ∷ (d ∷ s))) t in let t₂ = other-bytes b (c ∷ (d ∷ s)) t₁ in let t₃ = other-bytes c (d ∷ s) t₂ in
     let ha = first-byte a (b ∷ (c ∷ (d ∷ s))) t in let hb = first-byte b (c ∷ (d ∷ s)) t₁ in let hc = first-byte c (d ∷ s) t₂ in let hd = first-byte d s t₃ in
     let n : ℕ = 256 * (256 * (256 * (256 * 0 + a) + b) + c) + d in
@@ -224,14 +225,14 @@ block-out fourBytes left (a ∷ (b ∷ (c ∷ (d ∷ s)))) t =
     let e₁ : n / 65536 % 256 ≡ b = omega arith in
     let e₂ : n / 256 % 256 ≡ c = omega arith in
     let e₃ : n % 256 ≡ d = omega arith in
-    block-at fourBytes left n s (a ∷ (b ∷ (c ∷ (d ∷ s)))) (cc) (omega arith)
+    block-at told fourBytes left n s (a ∷ (b ∷ (c ∷ (d ∷ s)))) (cc) (omega arith)
 
-pub value-out : (f : Form) (left c : ℕ) (s : List ℕ) → T (areBytes s) → Was (writeValue f) (valid f c) s (takeValue f left c s)
+pub value-out : (told : Told) (f : Form) (left c : ℕ) (s : List ℕ) → T (areBytes s) → Was (writeValue f) (valid f c) s (takeValue told f left c s)
 unfolding takeValue writeValue valid
-value-out text left c s t = text-out s
-value-out (date reach designated) left c s t = date-out (dateChecks reach designated) [] s
-value-out number left c s t = number-out 0 true s
-value-out (block w) left c s t = block-out w left s t
-value-out itself left c s t = (refl, eqb-refl c)
-value-out opens left c s t = (refl, tt)
-value-out quiet left c s t = (refl, tt)
+value-out told text left c s t = text-out s
+value-out told (date reach designated) left c s t = date-out (dateChecks reach designated) [] s
+value-out told number left c s t = number-out 0 true s
+value-out told (block w) left c s t = block-out told w left s t
+value-out told itself left c s t = (refl, eqb-refl c)
+value-out told opens left c s t = (refl, tt)
+value-out told quiet left c s t = (refl, tt)

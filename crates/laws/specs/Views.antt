@@ -10,7 +10,8 @@ use lib.Seq.{take-append-seam, drop-append-seam}
 use borrow.Author.Tests.{eqb-true}
 use Rattle.meaning.specs.Basics.{pick}
 use Rattle.meaning.specs.Bytes.{lengthBytes}
-use Rattle.meaning.specs.Editions.{Edition, State, Form, text, date, number, block, itself, opens, quiet, isQuiet, noCode}
+use Rattle.meaning.specs.Told.{Edition, Told}
+use Rattle.meaning.specs.Editions.{State, Form, text, date, number, block, itself, opens, quiet, isQuiet, noCode}
 use Rattle.meaning.specs.Reading.{Seen, seen, reachBack, hasCode, Step, fails, over, next, step, done, onward, run, inside}
 use Rattle.meaning.specs.Headers.{Placed, placed}
 use Rattle.meaning.specs.Writing.{isOnly, valid, writeValue, lead}
@@ -79,25 +80,25 @@ step-seen e st st₁ s s₁ rs w false q =
       tt,
     )
 
-seen-step : (n : ℕ) (e : Edition) (st : State) (s : List ℕ) (rows : List Seen) (rest : List ℕ) (x : Step) → T (areBytes s) → Stepped e st s x
-    → ((st₁ : State) (s₁ : List ℕ) (ts : List Seen) → T (areBytes s₁) → run n e st₁ s₁ ≡ done ts rest → AllSeen s₁ ts) → onward x (run n e) ≡ done rows rest → AllSeen s rows
-seen-step n e st s rows rest (fails refusal left) t w ih q = let z : _≡_ {A = ℕ} 0 1 = cc in absurd (omega arith)
-seen-step n e st s rows rest (over u) t w ih q = let a : _≡_ {A = List Seen} [] rows = cc q in subst (AllSeen s) a tt
-seen-step n e st s rows rest (next st₁ rs s₁) t w ih q =
-    let (ts, q₁, q₂) = rows-inv rs (run n e st₁ s₁) rows rest q in
+seen-step : (n : ℕ) (told : Told) (st : State) (s : List ℕ) (rows : List Seen) (rest : List ℕ) (x : Step) → T (areBytes s) → Stepped (told .edition) st s x
+    → ((st₁ : State) (s₁ : List ℕ) (ts : List Seen) → T (areBytes s₁) → run n told st₁ s₁ ≡ done ts rest → AllSeen s₁ ts) → onward x (run n told) ≡ done rows rest → AllSeen s rows
+seen-step n told st s rows rest (fails refusal left) t w ih q = let z : _≡_ {A = ℕ} 0 1 = cc in absurd (omega arith)
+seen-step n told st s rows rest (over u) t w ih q = let a : _≡_ {A = List Seen} [] rows = cc q in subst (AllSeen s) a tt
+seen-step n told st s rows rest (next st₁ rs s₁) t w ih q =
+    let (ts, q₁, q₂) = rows-inv rs (run n told st₁ s₁) rows rest q in
     let front = lead (w .by) ++ writeValue (w .by .form) (w .view) in
     let u : T (areBytes s₁) = bytes-behind front s₁ (subst (λ (x : List ℕ). T (areBytes x)) (w .out) t) in
     let later : AllSeen s ts = subst (λ (x : List ℕ). AllSeen x ts) (sym (w .out)) (all-seen-behind front s₁ ts (ih st₁ s₁ ts u q₁)) in
-    subst (AllSeen s) (sym q₂) (all-seen-append s rs ts (step-seen e st st₁ s s₁ rs w (isQuiet (w .by .form)) refl) later)
+    subst (AllSeen s) (sym q₂) (all-seen-append s rs ts (step-seen (told .edition) st st₁ s s₁ rs w (isQuiet (w .by .form)) refl) later)
 
-seen-run : (n : ℕ) (e : Edition) (rest : List ℕ) (st : State) (s : List ℕ) (rows : List Seen) → T (areBytes s) → run n e st s ≡ done rows rest → AllSeen s rows
+seen-run : (n : ℕ) (told : Told) (rest : List ℕ) (st : State) (s : List ℕ) (rows : List Seen) → T (areBytes s) → run n told st s ≡ done rows rest → AllSeen s rows
 unfolding run
-seen-run zero e rest st s rows t q = let z : _≡_ {A = ℕ} 0 1 = cc in absurd (omega arith)
-seen-run (suc n) e rest st s rows t q = seen-step n e st s rows rest (step e st s) t (stepped e st s t) (seen-run n e rest) q
+seen-run zero told rest st s rows t q = let z : _≡_ {A = ℕ} 0 1 = cc in absurd (omega arith)
+seen-run (suc n) told rest st s rows t q = seen-step n told st s rows rest (step told st s) t (stepped told st s t) (seen-run n told rest) q
 
-pub inside-seen : (e : Edition) (st : State) (s rest : List ℕ) (rows : List Seen) → T (areBytes s) → inside e st s ≡ done rows rest → AllSeen s rows
+pub inside-seen : (told : Told) (st : State) (s rest : List ℕ) (rows : List Seen) → T (areBytes s) → inside told st s ≡ done rows rest → AllSeen s rows
 unfolding inside
-inside-seen e st s rest rows t q = seen-run (suc (length s)) e rest st s rows t q
+inside-seen told st s rest rows t q = seen-run (suc (length s)) told rest st s rows t q
 
 -- In a whole header: bytes w from the place `at` on
 

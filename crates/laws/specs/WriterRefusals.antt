@@ -8,7 +8,8 @@ use lib.Dec.{leb}
 use lib.ListN.{length}
 use borrow.Author.Tests.{le-leb, leb-false}
 use Rattle.meaning.specs.Basics.{pick}
-use Rattle.meaning.specs.Editions.{Edition, State, state, closed, Label, known, unknown, labelOf}
+use Rattle.meaning.specs.Told.{Edition, Label, known, unknown, labelOf}
+use Rattle.meaning.specs.Editions.{State, state, closed}
 use Rattle.meaning.specs.Reading.{Row}
 use Rattle.meaning.specs.Headers.{start, envelopesMost}
 use Rattle.meaning.specs.Writing.{Fit, unfit, fits, fitRow, close, Cell, cell, broken, Opens, envelopeRow, innerRow, opensOf, Envelope, Plan, stuck, plan, onPlan, newPlan, rowPlan, turnPlan, endPlan, nextRow, planOf, wholePlan, withinLimit, headerOf, Limit, fine, exceeds, limits, Written, written, unwritten, roomed, limited, planned, writeRows, writtenUnder}

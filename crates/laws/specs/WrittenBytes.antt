@@ -9,12 +9,14 @@ use lib.ListN.{length, take, drop}
 use borrow.Author.Tests.{eqb-false, leb-true}
 use Rattle.meaning.specs.Basics.{pick, every}
 use Rattle.meaning.specs.Bytes.{Width, oneByte, twoBytes, fourBytes, fewest, past, lengthBytes, blockOk}
-use Rattle.meaning.specs.Editions.{Edition, Room, State, Form, text, date, number, block, itself, opens, quiet, isQuiet, Move, noCode, moves, shared, own}
+use Rattle.meaning.specs.Told.{Edition}
+use Rattle.meaning.specs.Editions.{Room, State, Form, text, date, number, block, itself, opens, quiet, isQuiet, Move, noCode, moves, shared, own}
 use Rattle.meaning.specs.Reading.{Row, hasCode}
 use Rattle.meaning.specs.Headers.{envelopeMost}
 use Rattle.meaning.specs.Writing.{valid, writeValue, fits, lead, fitRow, close, Cell, cell, broken, isShort, withinLimit, envelopeLength, wrap}
 use Rattle.meaning.specs.Memory.{cellOf, cellsOf}
 use Rattle.laws.specs.Logic.{left-of, right-of, both, isByte, areBytes}
+use Rattle.laws.specs.Rows.{every-cell}
 use Rattle.laws.specs.Tables.{In, every-in, allRooms, each-room}
 use Rattle.laws.specs.Lookups.{quiet-coded}
 use Rattle.laws.specs.Fits.{fit-holds, close-holds}
@@ -133,13 +135,7 @@ cell-bytes pool kind level start len true t = take-bytes len (drop start pool) (
 cell-bytes pool kind level start len false t = tt
 
 cells-bytes : (pool rows : List ℕ) → T (areBytes pool) → T (every cellBytes (cellsOf pool rows))
-unfolding cellsOf
-cells-bytes pool [] t = tt
-cells-bytes pool (k ∷ []) t = tt
-cells-bytes pool (k ∷ (n ∷ [])) t = tt
-cells-bytes pool (k ∷ (n ∷ (s ∷ []))) t = tt
-cells-bytes pool (k ∷ (n ∷ (s ∷ (l ∷ rows)))) t =
-    both (cellBytes (cellOf pool k n s l)) (every cellBytes (cellsOf pool rows)) (cell-bytes pool k n s l (leb (s + l) (length pool)) t) (cells-bytes pool rows t)
+cells-bytes pool rows t = every-cell cellBytes pool (λ kind level start len. cell-bytes pool kind level start len (leb (start + len) (length pool)) t) tt rows
 
 table-bytes : (table : List Row) → T (every cellBytes (map cell table)) → T (every viewsBytes table)
 table-bytes [] t = tt

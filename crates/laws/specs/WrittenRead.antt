@@ -9,7 +9,8 @@ use lib.ListN.{length}
 use borrow.Author.Tests.{eqb-true}
 use Rattle.meaning.specs.Basics.{pick}
 use Rattle.meaning.specs.Bytes.{took, textByte, textOk}
-use Rattle.meaning.specs.Editions.{Edition, State, go, Form, text, date, number, block, itself, opens, quiet, isQuiet, Move, noCode, closing, moves}
+use Rattle.meaning.specs.Told.{Edition, Told}
+use Rattle.meaning.specs.Editions.{State, go, Form, text, date, number, block, itself, opens, quiet, isQuiet, Move, noCode, closing, moves}
 use Rattle.meaning.specs.Reading.{Row, Seen, seen, rowOf, takeValue, reachBack, seenBy, hasCode, isClosed, tooDeep, next, step, done, withRows, inside}
 use Rattle.meaning.specs.Writing.{valid, writeValue, Fit, unfit, fits, led, fitRow, close}
 use Rattle.laws.specs.Logic.{left-of}
@@ -20,8 +21,8 @@ use Rattle.laws.specs.Steps.{Path, rests, moves-on, inside-path, inside-
 use Rattle.laws.specs.Fits.{unfit-fits, led-inv, Placing, fit-holds, close-holds}
 
 -- the reader goes over one row
-abbrev pub Reads : Edition → State → List ℕ → Row → State → List ℕ → Type 0
-Reads e st s row st′ rest = (left : ℕ) × Path e st s (seen (row .kind) (row .level) left (row .view) ∷ []) st′ rest
+abbrev pub Reads : Told → State → List ℕ → Row → State → List ℕ → Type 0
+Reads told st s row st′ rest = (left : ℕ) × Path told st s (seen (row .kind) (row .level) left (row .view) ∷ []) st′ rest
 
 -- a written text does not begin with 01
 pub text-first : (f : Form) (c : ℕ) (v rest : List ℕ) → T (isTextForm f) → T (valid f c v) → (b : ℕ) × (s : List ℕ) × (writeValue f v ++ rest ≡ b ∷ s) × (b ≡ closing → ⊥)
@@ -38,57 +39,57 @@ text-first opens c v rest t ok = absurd t
 text-first quiet c v rest t ok = absurd t
 
 -- the step over a row's own move, with its code or without
-pub step-written : (e : Edition) (st : State) (m : Move) (v rest : List ℕ) (b : Bool) → hasCode noCode m ≡ b → In m (moves e (st .room)) → tooDeep m st ≡ false → T (valid (m .form) (m .code) v)
-    → step e st ((pick b [] (m .code ∷ []) ++ writeValue (m .form) v) ++ rest) ≡ next (go (m .next) st) (seenBy (m .form) (m .kind) (st .level) v rest) rest
-step-written e st m v rest true q i d ok =
+pub step-written : (told : Told) (st : State) (m : Move) (v rest : List ℕ) (b : Bool) → hasCode noCode m ≡ b → In m (moves (told .edition) (st .room)) → tooDeep m st ≡ false → T (valid (m .form) (m .code) v)
+    → step told st ((pick b [] (m .code ∷ []) ++ writeValue (m .form) v) ++ rest) ≡ next (go (m .next) st) (seenBy (m .form) (m .kind) (st .level) v rest) rest
+step-written told st m v rest true q i d ok =
     let c : m .code ≡ noCode = eqb-true (m .code) noCode q in
-    let (b, s, w, h) = text-first (m .form) (m .code) v rest (uncoded-text e (st .room) i c) ok in
-    let taken : takeValue (m .form) (suc (length s)) (m .code) (b ∷ s) ≡ took v rest = ap (takeValue (m .form) (suc (length s)) (m .code)) (sym w) ∙ value-in (m .form) (suc (length s)) (m .code) v rest ok in
-    ap (step e st) w ∙ step-is e st m b s v rest (look-uncoded e (st .room) i c b h) d (rw q taken)
-step-written e st m v rest false q i d ok =
+    let (b, s, w, h) = text-first (m .form) (m .code) v rest (uncoded-text (told .edition) (st .room) i c) ok in
+    let taken : takeValue told (m .form) (suc (length s)) (m .code) (b ∷ s) ≡ took v rest = ap (takeValue told (m .form) (suc (length s)) (m .code)) (sym w) ∙ value-in told (m .form) (suc (length s)) (m .code) v rest ok in
+    ap (step told st) w ∙ step-is told st m b s v rest (look-uncoded (told .edition) (st .room) i c b h) d (rw q taken)
+step-written told st m v rest false q i d ok =
     let s = writeValue (m .form) v ++ rest in
-    step-is e st m (m .code) s v rest (look-coded e (st .room) i) d (rw q (value-in (m .form) (suc (length s)) (m .code) v rest ok))
+    step-is told st m (m .code) s v rest (look-coded (told .edition) (st .room) i) d (rw q (value-in told (m .form) (suc (length s)) (m .code) v rest ok))
 
 -- a row in its own place
-pub reads-own : (e : Edition) (row : Row) (st st′ : State) (m : Move) (bs : List ℕ) → In m (moves e (st .room)) → Placing st row m st′ bs → (rest : List ℕ) → Reads e st (bs ++ rest) row st′ rest
-reads-own e row st st′ m bs i p rest =
+pub reads-own : (told : Told) (row : Row) (st st′ : State) (m : Move) (bs : List ℕ) → In m (moves (told .edition) (st .room)) → Placing st row m st′ bs → (rest : List ℕ) → Reads told st (bs ++ rest) row st′ rest
+reads-own told row st st′ m bs i p rest =
     let left = length rest + length (row .view) + reachBack (m .form) in
     let a : seenBy (m .form) (m .kind) (st .level) (row .view) rest ≡ seen (row .kind) (row .level) left (row .view) ∷ []
     = loud-seen (m .form) (m .kind) (st .level) (row .view) rest (p .loud) ∙ rw (p .kind-is, p .level-is) refl in
-    let s : step e st (bs ++ rest) ≡ next st′ (seen (row .kind) (row .level) left (row .view) ∷ []) rest
-    = ap (λ (x : List ℕ). step e st (x ++ rest)) (sym (p .out)) ∙ step-written e st m (row .view) rest (hasCode noCode m) refl i (p .flat) (p .ok)
+    let s : step told st (bs ++ rest) ≡ next st′ (seen (row .kind) (row .level) left (row .view) ∷ []) rest
+    = ap (λ (x : List ℕ). step told st (x ++ rest)) (sym (p .out)) ∙ step-written told st m (row .view) rest (hasCode noCode m) refl i (p .flat) (p .ok)
     ∙ ap (λ (x : State). next x (seenBy (m .form) (m .kind) (st .level) (row .view) rest) rest) (p .to) ∙ ap (λ (x : List Seen). next st′ x rest) a in
     (left, moves-on s rests)
 
-pub quiet-takes : (f : Form) (left c : ℕ) (s : List ℕ) → isQuiet f ≡ true → takeValue f left c s ≡ took [] s
+pub quiet-takes : (told : Told) (f : Form) (left c : ℕ) (s : List ℕ) → isQuiet f ≡ true → takeValue told f left c s ≡ took [] s
 unfolding takeValue
-quiet-takes text left c s q = cc
-quiet-takes (date reach designated) left c s q = cc
-quiet-takes number left c s q = cc
-quiet-takes (block w) left c s q = cc
-quiet-takes itself left c s q = cc
-quiet-takes opens left c s q = cc
-quiet-takes quiet left c s q = refl
+quiet-takes told text left c s q = cc
+quiet-takes told (date reach designated) left c s q = cc
+quiet-takes told number left c s q = cc
+quiet-takes told (block w) left c s q = cc
+quiet-takes told itself left c s q = cc
+quiet-takes told opens left c s q = cc
+quiet-takes told quiet left c s q = refl
 
 -- the step over a pass
-pub step-quiet : (e : Edition) (st : State) (m : Move) (s : List ℕ) → In m (moves e (st .room)) → isQuiet (m .form) ≡ true → step e st (m .code ∷ s) ≡ next (go (m .next) st) [] s
-step-quiet e st m s i q =
-    step-is e st m (m .code) s [] s (look-coded e (st .room) i) (quiet-flat e (st .room) i q st)
-    (rw (quiet-coded e (st .room) i q) (quiet-takes (m .form) (suc (length s)) (m .code) s q))
+pub step-quiet : (told : Told) (st : State) (m : Move) (s : List ℕ) → In m (moves (told .edition) (st .room)) → isQuiet (m .form) ≡ true → step told st (m .code ∷ s) ≡ next (go (m .next) st) [] s
+step-quiet told st m s i q =
+    step-is told st m (m .code) s [] s (look-coded (told .edition) (st .room) i) (quiet-flat (told .edition) (st .room) i q st)
+    (rw (quiet-coded (told .edition) (st .room) i q) (quiet-takes told (m .form) (suc (length s)) (m .code) s q))
     ∙ ap (λ (rs : List Seen). next (go (m .next) st) rs s) (quiet-seen (m .form) (m .kind) (st .level) [] s q)
 
-pub row-written-read : (e : Edition) (row : Row) (st st′ : State) (bs : List ℕ) → fitRow e st row ≡ fits st′ bs → (rest : List ℕ) → Reads e st (bs ++ rest) row st′ rest
-row-written-read e row =
-    fit-holds e row (λ st st′ bs. (rest : List ℕ) → Reads e st (bs ++ rest) row st′ rest) (reads-own e row)
-    (λ st st′ m bs i q p rest. let (left, path) = p rest in (left, moves-on (step-quiet e st m (bs ++ rest) i q) path))
+pub row-written-read : (told : Told) (row : Row) (st st′ : State) (bs : List ℕ) → fitRow (told .edition) st row ≡ fits st′ bs → (rest : List ℕ) → Reads told st (bs ++ rest) row st′ rest
+row-written-read told row =
+    fit-holds (told .edition) row (λ st st′ bs. (rest : List ℕ) → Reads told st (bs ++ rest) row st′ rest) (reads-own told row)
+    (λ st st′ m bs i q p rest. let (left, path) = p rest in (left, moves-on (step-quiet told st m (bs ++ rest) i q) path))
 
 -- the closings to the envelope's end
-abbrev pub Closes : Edition → State → List ℕ → State → Type 0
-Closes e st bs st′ = (isClosed (st′ .room) ≡ true) × Path e st bs [] st′ []
+abbrev pub Closes : Told → State → List ℕ → State → Type 0
+Closes told st bs st′ = (isClosed (st′ .room) ≡ true) × Path told st bs [] st′ []
 
-pub closing-read : (e : Edition) (st st′ : State) (bs : List ℕ) → close e st ≡ fits st′ bs → Closes e st bs st′
-closing-read e =
-    close-holds e (λ st st′ bs. Closes e st bs st′) (λ st h. (h, rests)) (λ st st′ m bs i q c. (c .0, moves-on (step-quiet e st m bs i q) (c .1)))
+pub closing-read : (told : Told) (st st′ : State) (bs : List ℕ) → close (told .edition) st ≡ fits st′ bs → Closes told st bs st′
+closing-read told =
+    close-holds (told .edition) (λ st st′ bs. Closes told st bs st′) (λ st h. (h, rests)) (λ st st′ m bs i q c. (c .0, moves-on (step-quiet told st m bs i q) (c .1)))
 
 -- The inside of an envelope, from its rows
 
@@ -110,22 +111,22 @@ then-inv (fits st₁ cs) f st′ bs q = let (ds, a, b) = led-inv cs (f st₁) q 
 pub then-make : (x : Fit) (f : State → Fit) (st₁ st′ : State) (cs ds : List ℕ) → x ≡ fits st₁ cs → f st₁ ≡ fits st′ ds → andThen x f ≡ fits st′ (cs ++ ds)
 then-make x f st₁ st′ cs ds p q = rw (p, q) refl
 
-abbrev pub ReadsAll : Edition → State → List ℕ → List Row → Type 0
-ReadsAll e st bs rows = (seens : List Seen) × (inside e st bs ≡ done seens []) × (map rowOf seens ≡ rows)
+abbrev pub ReadsAll : Told → State → List ℕ → List Row → Type 0
+ReadsAll told st bs rows = (seens : List Seen) × (inside told st bs ≡ done seens []) × (map rowOf seens ≡ rows)
 
-pub reads-end : (e : Edition) (st st′ : State) (bs : List ℕ) → Closes e st bs st′ → ReadsAll e st bs []
-reads-end e st st′ bs (h, p) = ([], inside-path e p ∙ ap (withRows []) (inside-over e st′ [] (step-over e st′ h)), refl)
+pub reads-end : (told : Told) (st st′ : State) (bs : List ℕ) → Closes told st bs st′ → ReadsAll told st bs []
+reads-end told st st′ bs (h, p) = ([], inside-path told p ∙ ap (withRows []) (inside-over told st′ [] (step-over told st′ h)), refl)
 
-pub reads-row : (e : Edition) (row : Row) (rows : List Row) (st st₁ : State) (s rest : List ℕ) → Reads e st s row st₁ rest → ReadsAll e st₁ rest rows → ReadsAll e st s (row ∷ rows)
-reads-row e row rows st st₁ s rest (left, p) (seens, a, b) = (
+pub reads-row : (told : Told) (row : Row) (rows : List Row) (st st₁ : State) (s rest : List ℕ) → Reads told st s row st₁ rest → ReadsAll told st₁ rest rows → ReadsAll told st s (row ∷ rows)
+reads-row told row rows st st₁ s rest (left, p) (seens, a, b) = (
   seen (row .kind) (row .level) left (row .view) ∷ seens,
-  inside-path e p ∙ ap (withRows (seen (row .kind) (row .level) left (row .view) ∷ [])) a,
+  inside-path told p ∙ ap (withRows (seen (row .kind) (row .level) left (row .view) ∷ [])) a,
   ap (λ (x : List Row). row ∷ x) b,
 )
 
-pub all-written-read : (e : Edition) (rows : List Row) (st st′ : State) (bs : List ℕ) → fitAll e rows st ≡ fits st′ bs → ReadsAll e st bs rows
+pub all-written-read : (told : Told) (rows : List Row) (st st′ : State) (bs : List ℕ) → fitAll (told .edition) rows st ≡ fits st′ bs → ReadsAll told st bs rows
 unfolding fitAll
-all-written-read e [] st st′ bs q = reads-end e st st′ bs (closing-read e st st′ bs q)
-all-written-read e (row ∷ rows) st st′ bs q =
-    let (st₁, cs, ds, q₁, q₂, q₃) = then-inv (fitRow e st row) (fitAll e rows) st′ bs q in
-    rw q₃ (reads-row e row rows st st₁ (cs ++ ds) ds (row-written-read e row st st₁ cs q₁ ds) (all-written-read e rows st₁ st′ ds q₂))
+all-written-read told [] st st′ bs q = reads-end told st st′ bs (closing-read told st st′ bs q)
+all-written-read told (row ∷ rows) st st′ bs q =
+    let (st₁, cs, ds, q₁, q₂, q₃) = then-inv (fitRow (told .edition) st row) (fitAll (told .edition) rows) st′ bs q in
+    rw q₃ (reads-row told row rows st st₁ (cs ++ ds) ds (row-written-read told row st st₁ cs q₁ ds) (all-written-read told rows st₁ st′ ds q₂))

@@ -5,7 +5,7 @@ use borrow.Author.Tests.{lt-ltb}
 use lib.Dec.{T}
 use lib.ListN.{getD}
 use Rattle.laws.specs.Logic.{areBytes, isByte, both}
-use Rattle.reader.specs.declared.Answer as declared
+use Rattle.table.specs.declared.reply.Reply.{Reply}
 use Rattle.reader.specs.Promises.{ReadPromise}
 use Rattle.listing.specs.Listed.{text-whole}
 use Rattle.lister.specs.Promise.{TablePromise}
@@ -14,5 +14,5 @@ pub slice-of-bytes : (s : List ℕ) → ((i : ℕ) → getD s i 0 < 256) → T (
 slice-of-bytes [] h = tt
 slice-of-bytes (b ∷ s) h = both (isByte b) (areBytes s) (rw (lt-ltb b 256 (h 0)) tt) (slice-of-bytes s (λ i. h (suc i)))
 
-pub table-listed : (edition : ℕ) (input before after : List ℕ) (answer : declared.Answer) → T (areBytes input) → ReadPromise edition input before answer after → TablePromise edition input before answer after
+pub table-listed : (edition : ℕ) (input before after : List ℕ) (answer : Reply) → T (areBytes input) → ReadPromise edition input before answer after → TablePromise edition input before answer after
 table-listed edition input before after answer t p = record { reads = p; lists = text-whole edition input before t (p .answers) (p .rows) }

@@ -7,11 +7,11 @@ use Rattle.meaning.specs.Memory.{roomOf}
 use Rattle.meaning.specs.Listing.{inputMost, rowsLent, listing}
 use Rattle.listing.specs.declared.Piece.{Piece}
 use Rattle.listing.specs.Text.{textAt}
-use Rattle.reader.specs.declared.Answer as declared
+use Rattle.table.specs.declared.reply.Reply.{Reply}
 use Rattle.reader.specs.Promises.{ReadPromise}
 
 -- what the reader answers and lends back, and that the text of it is the listing, where 4,096 rows are lent and the input is not too long
-pub record TablePromise (edition : ℕ) (input before : List ℕ) (answer : declared.Answer) (after : List ℕ) : Type 0 where
+pub record TablePromise (edition : ℕ) (input before : List ℕ) (answer : Reply) (after : List ℕ) : Type 0 where
   pub reads : ReadPromise edition input before answer after
   pub lists : length input ≤ inputMost → roomOf before ≡ rowsLent → textAt (answer .answer) (answer .place) (answer .rows) after input 0 0 ≡ listing edition input
 

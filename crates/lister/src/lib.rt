@@ -4,10 +4,13 @@
 // hand to standard output is run and compared.
 use libc::STDOUT_FILENO;
 use listing::Piece;
-use reader::Answer;
+use table::reply::Reply;
+use table::rows::ROW_NUMBERS;
 ghost use Rattle.lister.specs.Promise.{TablePromise, LongPromise, Turned};
 
 const INPUT_MOST: usize = 65536;
+
+const ROWS_LENT: usize = 4096;
 
 // The listing of what a descriptor reads, in this edition, to standard output. The one byte more tells an input that is too long.
 pub fn list(edition: u32, from: i32) {
@@ -28,15 +31,15 @@ pub fn too_long() -> [u8; 9]
     [b't', b'o', b'o', b' ', b'l', b'o', b'n', b'g', b'\n']
 }
 
-// "lends 4,096 rows": four numbers each, one repeated array.
+// Lists this input. "lends 4,096 rows".
 fn print(edition: u32, input: &[u8]) {
-    let mut rows = [0u32; 16384];
+    let mut rows = [0u32; ROWS_LENT * ROW_NUMBERS];
     let table = read_table(edition, input, &mut rows);
     print_lines(table.answer, table.place, table.rows, &rows, input);
 }
 
 // The reader's answer and rows, whose text is the listing.
-pub fn read_table(edition: u32, input: &[u8], rows: &mut [u32]) -> Answer
+pub fn read_table(edition: u32, input: &[u8], rows: &mut [u32]) -> Reply
     ensures { λ r. ⌜ TablePromise edition (now (input .entry)) (now (rows .entry)) r (now (rows .exit)) ⌝ }
 {
     reader::read(edition, input, rows)

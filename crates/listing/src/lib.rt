@@ -5,8 +5,8 @@ mod row;
 use crate::pen::NEWLINE;
 use crate::pen::TAB;
 use crate::pen::field;
-use crate::row::ROW_WIDTH;
 use crate::row::row_piece;
+use table::rows::room;
 ghost use mathlib.Core.Path.{_≡_};
 ghost use Prim.Native.Nat.{_≤_};
 ghost use lib.ListN.{length};
@@ -72,21 +72,21 @@ fn first_line(answer: u32, place: usize, count: usize, out: &mut [u8]) -> usize
     requires { ⌜ pieceLeast ≤ length (now out) ⌝ }
     ensures { λ r. ⌜ Wrote (now (out .entry)) (now (out .exit)) 0 (firstLine (reply answer place count)) r ⌝ }
 {
-    let answered = field(answer as u64, TAB, out, 0);
-    let placed = field(place as u64, TAB, out, answered);
-    field(count as u64, NEWLINE, out, placed)
+    let answered = field(out, 0, answer as u64, TAB);
+    let placed = field(out, answered, place as u64, TAB);
+    field(out, placed, count as u64, NEWLINE)
 }
 
 // "then, if accepted, per row": the rows that have a line.
 fn lines(answer: u32, count: usize, rows: &[u32]) -> usize
     ensures { λ r. ⌜ r ≡ linesOf answer count (now (rows .entry)) ⌝ }
 {
-    let room = rows.len() / ROW_WIDTH;
     if answer != 0 {
         return 0;
     }
-    if count <= room {
+    let most = room(rows.len());
+    if count <= most {
         return count;
     }
-    room
+    most
 }

@@ -11,7 +11,8 @@ pub const TAB: u8 = 0x09;
 
 pub const NEWLINE: u8 = 0x0a;
 
-pub fn put(b: u8, out: &mut [u8], at: usize) -> usize
+// Writes one byte.
+pub fn put(out: &mut [u8], at: usize, b: u8) -> usize
     requires { ⌜ at < length (now out) ⌝ }
     ensures { λ r. ⌜ Wrote (now (out .entry)) (now (out .exit)) at (b ∷ []) r ⌝ }
 {
@@ -19,18 +20,19 @@ pub fn put(b: u8, out: &mut [u8], at: usize) -> usize
     at + 1
 }
 
-// "Numbers are decimal": the digits before the last one are those of a tenth.
-pub fn number(value: u64, out: &mut [u8], at: usize) -> usize
+// Writes a number: "Numbers are decimal". The digits before the last one are those of a tenth.
+pub fn number(out: &mut [u8], at: usize, value: u64) -> usize
     requires { ⌜ at + length (decimal value) ≤ length (now out) ⌝ }
     ensures { λ r. ⌜ Wrote (now (out .entry)) (now (out .exit)) at (decimal value) r ⌝ }
 {
     if value < 10 {
-        return put(digit(value), out, at);
+        return put(out, at, digit(value));
     }
-    let end = number(value / 10, out, at);
-    put(digit(value % 10), out, end)
+    let end = number(out, at, value / 10);
+    put(out, end, digit(value % 10))
 }
 
+// The character of a decimal digit.
 fn digit(d: u64) -> u8
     requires { ⌜ d < 10 ⌝ }
     ensures { λ r. ⌜ r ≡ digitCharacter d ⌝ }
@@ -38,37 +40,39 @@ fn digit(d: u64) -> u8
     (48 + d) as u8
 }
 
-// A number and the byte that closes its field.
-pub fn field(value: u64, closing: u8, out: &mut [u8], at: usize) -> usize
+// Writes a number and the byte that closes its field.
+pub fn field(out: &mut [u8], at: usize, value: u64, closing: u8) -> usize
     requires { ⌜ at + length (decimal value) < length (now out) ⌝ }
     ensures { λ r. ⌜ Wrote (now (out .entry)) (now (out .exit)) at (decimal value ++ (closing ∷ [])) r ⌝ }
 {
-    let end = number(value, out, at);
-    put(closing, out, end)
+    let end = number(out, at, value);
+    put(out, end, closing)
 }
 
-// "in lower-case hex": two characters a byte.
-pub fn hex(bytes: &[u8], out: &mut [u8], at: usize) -> usize
+// Writes bytes "in lower-case hex": two characters a byte.
+pub fn hex(out: &mut [u8], at: usize, bytes: &[u8]) -> usize
     requires { ⌜ at + 2 * length (now bytes) ≤ length (now out) ⌝ }
     ensures { λ r. ⌜ Wrote (now (out .entry)) (now (out .exit)) at (hexOf (now (bytes .entry))) r ⌝ }
 {
     let mut end = at;
     let mut k: usize = 0;
     while k < bytes.len() {
-        end = pair(bytes[k], out, end);
+        end = pair(out, end, bytes[k]);
         k += 1;
     }
     end
 }
 
-fn pair(b: u8, out: &mut [u8], at: usize) -> usize
+// Writes the two characters of one byte.
+fn pair(out: &mut [u8], at: usize, b: u8) -> usize
     requires { ⌜ at + 2 ≤ length (now out) ⌝ }
     ensures { λ r. ⌜ Wrote (now (out .entry)) (now (out .exit)) at (hexCharacter (b / 16) ∷ hexCharacter (b % 16) ∷ []) r ⌝ }
 {
-    let low = put(character(b / 16), out, at);
-    put(character(b % 16), out, low)
+    let low = put(out, at, character(b / 16));
+    put(out, low, character(b % 16))
 }
 
+// The character of a hex digit.
 fn character(d: u8) -> u8
     requires { ⌜ d < 16 ⌝ }
     ensures { λ r. ⌜ r ≡ hexCharacter d ⌝ }

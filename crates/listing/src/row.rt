@@ -5,6 +5,7 @@ use crate::pen::TAB;
 use crate::pen::field;
 use crate::pen::hex;
 use crate::pen::put;
+use table::rows::ROW_NUMBERS;
 ghost use mathlib.Core.Path.{_≡_};
 ghost use mathlib.Core.List.{[], _∷_, _++_};
 ghost use Prim.Native.Nat.{_+_, _-_, _*_, _≤_, _<_, min};
@@ -15,9 +16,6 @@ ghost use Rattle.listing.specs.Text.{rowOf, viewOf};
 ghost use Rattle.listing.specs.Pieces.{pieceLeast};
 ghost use Rattle.listing.specs.Stages.{Wrote, WroteEnd, WroteField, RowPiece, ViewPiece, ViewRoom, fieldsOf};
 
-// "A row is four u32 numbers"
-pub const ROW_WIDTH: usize = 4;
-
 // "or `-` if none"
 const NONE: u8 = 0x2d;
 
@@ -26,8 +24,8 @@ pub fn row_piece(rows: &[u32], bytes: &[u8], line: usize, byte: usize, out: &mut
     requires { ⌜ (1 ≤ line) × (line ≤ roomOf (now rows)) × (pieceLeast ≤ length (now out)) ⌝ }
     ensures { λ r. ⌜ RowPiece (rowOf (now (rows .entry)) (line - 1)) (now (bytes .entry)) line byte (now (out .entry)) (now (out .exit)) r ⌝ }
 {
-    let first = (line - 1) * ROW_WIDTH;
-    let row = &rows[first..first + ROW_WIDTH];
+    let first = (line - 1) * ROW_NUMBERS;
+    let row = &rows[first..first + ROW_NUMBERS];
     if byte == 0 {
         let end = numbers(row, out);
         return Piece {
@@ -39,6 +37,7 @@ pub fn row_piece(rows: &[u32], bytes: &[u8], line: usize, byte: usize, out: &mut
     view_line(row, bytes, byte - 1, line, out)
 }
 
+// Writes a row's numbers, each with its tab.
 fn numbers(row: &[u32], out: &mut [u8]) -> usize
     requires { ⌜ 11 * length (now row) ≤ length (now out) ⌝ }
     ensures { λ r. ⌜ Wrote (now (out .entry)) (now (out .exit)) 0 (fieldsOf (now (row .entry))) r ⌝ }
@@ -46,17 +45,18 @@ fn numbers(row: &[u32], out: &mut [u8]) -> usize
     let mut end: usize = 0;
     let mut j: usize = 0;
     while j < row.len() {
-        end = row_field(row[j], out, end);
+        end = row_field(out, end, row[j]);
         j += 1;
     }
     end
 }
 
-fn row_field(number: u32, out: &mut [u8], at: usize) -> usize
+// Writes one number of a row and its tab: eleven bytes at most.
+fn row_field(out: &mut [u8], at: usize, number: u32) -> usize
     requires { ⌜ at + 11 ≤ length (now out) ⌝ }
     ensures { λ r. ⌜ WroteField (now (out .entry)) (now (out .exit)) at number r ⌝ }
 {
-    field(number as u64, TAB, out, at)
+    field(out, at, number as u64, TAB)
 }
 
 // The bytes that a row views, as far as there are any.
@@ -70,6 +70,7 @@ fn view_line(row: &[u32], bytes: &[u8], gone: usize, line: usize, out: &mut [u8]
     view_piece(&bytes[start..end], gone, line, out)
 }
 
+// The smaller of a row's number and a place.
 fn least(number: u32, most: usize) -> usize
     ensures { λ r. ⌜ r ≡ min number most ⌝ }
 {
@@ -104,7 +105,7 @@ fn view_piece(view: &[u8], gone: usize, line: usize, out: &mut [u8]) -> Piece
         };
     }
     let shown = gone + room;
-    let end = hex(&view[gone..shown], out, 0);
+    let end = hex(out, 0, &view[gone..shown]);
     Piece {
         length: end,
         line: line,
@@ -118,10 +119,10 @@ fn no_bytes(gone: usize, out: &mut [u8]) -> usize
     ensures { λ r. ⌜ WroteEnd (now (out .entry)) (now (out .exit)) gone r ⌝ }
 {
     if gone == 0 {
-        let end = put(NONE, out, 0);
-        return put(NEWLINE, out, end);
+        let end = put(out, 0, NONE);
+        return put(out, end, NEWLINE);
     }
-    put(NEWLINE, out, 0)
+    put(out, 0, NEWLINE)
 }
 
 // The last bytes of a view, and the line's end.
@@ -129,6 +130,6 @@ fn last_bytes(rest: &[u8], out: &mut [u8]) -> usize
     requires { ⌜ 2 * length (now rest) < length (now out) ⌝ }
     ensures { λ r. ⌜ Wrote (now (out .entry)) (now (out .exit)) 0 (hexOf (now (rest .entry)) ++ (0x0a ∷ [])) r ⌝ }
 {
-    let end = hex(rest, out, 0);
-    put(NEWLINE, out, end)
+    let end = hex(out, 0, rest);
+    put(out, end, NEWLINE)
 }

@@ -6,6 +6,7 @@ use mathlib.Core.Bool.{Bool, true, false, _&&_, _||_, not}
 use lib.Dec.{eqb, leb, ltb}
 use lib.ListN.{length}
 use Rattle.meaning.specs.Basics.{pick, isEmpty}
+use Rattle.meaning.specs.Told.{Told}
 
 -- "either a value with the place after it, or a refusal": the value and the bytes behind it, or the number and how many bytes are left at the fault
 pub data Taken : Type 0 where
@@ -165,9 +166,9 @@ past oneByte = 256
 past twoBytes = 65536
 past fourBytes = 4294967296
 
--- the one name for whether a wide length is refused
-unfoldable pub tooWide : Width → ℕ → Bool
-tooWide w n = ltb n (fewest w)
+-- the one name for whether a wide length is refused, by what the reading is told
+unfoldable pub tooWide : Told → Width → ℕ → Bool
+tooWide t w n = ltb n (fewest w)
 
 abbrev pub lengthBytes : Width → ℕ → List ℕ
 lengthBytes oneByte n = n ∷ []
@@ -180,14 +181,14 @@ takeBytes (suc n) [] = failed 6 0
 takeBytes (suc n) (b ∷ s) = prefixed b (takeBytes n s)
 
 -- "11: length form too wide, code"; ".. after the length bytes, before the block"; left: the bytes left at the code
-unfoldable pub blockOf : Width → ℕ → Count → Taken
-blockOf w left short = failed 6 0
-blockOf w left (counted n s) =
+unfoldable pub blockOf : Told → Width → ℕ → Count → Taken
+blockOf t w left short = failed 6 0
+blockOf t w left (counted n s) =
     let all : Taken = takeBytes n s in
-    pick (tooWide w n) (failed 11 left) all
+    pick (tooWide t w n) (failed 11 left) all
 
-unfoldable pub takeBlock : Width → ℕ → List ℕ → Taken
-takeBlock w left s = blockOf w left (highFirst (bytesOf w) 0 s)
+unfoldable pub takeBlock : Told → Width → ℕ → List ℕ → Taken
+takeBlock t w left s = blockOf t w left (highFirst (bytesOf w) 0 s)
 
 unfoldable pub blockOk : Width → List ℕ → Bool
 blockOk w v = leb (fewest w) (length v) && ltb (length v) (past w)

@@ -6,7 +6,7 @@ use lib.Dec.{eqb, leb}
 use lib.ListN.{length, take, drop}
 use Rattle.meaning.specs.Basics.{pick}
 use Rattle.meaning.specs.Headers.{Placed, Answer, refused, accepted, read}
-use Rattle.meaning.specs.Memory.{tableOf, Reply, readReply, writeReply, write}
+use Rattle.meaning.specs.Memory.{rowWidth, Numbers, row, numbersIn, tableOf, Reply, readReply, writeReply, write}
 use Rattle.meaning.specs.Writing.{Written, written, unwritten}
 use Rattle.meaning.specs.Plain.{Outcome, Date, numberDecoded, numberPlain, numberEncoded, numberBytes, dateDecoded, datePlain, dateEncoded}
 
@@ -50,28 +50,33 @@ abbrev pub tableIs : List ℕ → List ℕ → Answer → Bool
 tableIs input table (refused refusal place) = same table []
 tableIs input table (accepted place rs) = same table (tableOf rs) && viewsFrom input rs
 
--- a reading: edition and input to answer, place and the rows' numbers
+-- an instance's rows, as they stand in memory
+abbrev pub inMemory : List Numbers → List ℕ
+inMemory [] = []
+inMemory (r ∷ rs) = numbersIn r ++ inMemory rs
+
+-- a reading: edition and input to answer, place and the rows
 pub record Reading : Type 0 where
   pub edition : ℕ
   pub input : List ℕ
   pub answer : ℕ
   pub place : ℕ
-  pub table : List ℕ
+  pub table : List Numbers
 
-abbrev pub accepts : ℕ → List ℕ → ℕ → List ℕ → Reading
+abbrev pub accepts : ℕ → List ℕ → ℕ → List Numbers → Reading
 accepts e s p table = record { edition = e; input = s; answer = 0; place = p; table = table }
 
 abbrev pub refuses : ℕ → List ℕ → ℕ → ℕ → Reading
 refuses e s k p = record { edition = e; input = s; answer = k; place = p; table = [] }
 
 -- the rows of a base with a date of this kind and length
-abbrev pub baseRows : ℕ → ℕ → List ℕ → List ℕ
-baseRows kind len more = 2 ∷ 0 ∷ 0 ∷ 0 ∷ 3 ∷ 0 ∷ 3 ∷ 1 ∷ kind ∷ 0 ∷ 5 ∷ len ∷ more
+abbrev pub baseRows : ℕ → ℕ → List Numbers → List Numbers
+baseRows kind len more = row 2 0 0 0 ∷ row 3 0 3 1 ∷ row kind 0 5 len ∷ more
 
 abbrev pub reads : Reading → Bool
 reads c =
     let a = read (c .edition) (c .input) in
-    replyIs (c .answer) (c .place) (length (c .table) / 4) (readReply 64 a) && tableIs (c .input) (c .table) a
+    replyIs (c .answer) (c .place) (length (c .table)) (readReply 64 a) && tableIs (c .input) (inMemory (c .table)) a
 
 -- a writing: edition, the rows' numbers, pool and room to answer, place and bytes
 pub record Writing : Type 0 where
@@ -90,13 +95,17 @@ bytesAre bytes (unwritten refusal place) = same bytes []
 abbrev pub writes : Writing → Bool
 writes c =
     let w = write (c .edition) (c .table) (c .pool) (c .room) in
-    replyIs (c .answer) (c .place) (pick (eqb (c .answer) 0) (length (c .table) / 4) 0) (writeReply (length (c .table) / 4) w) && bytesAre (c .bytes) w
+    replyIs (c .answer) (c .place) (pick (eqb (c .answer) 0) (length (c .table) / rowWidth) 0) (writeReply (length (c .table) / rowWidth) w) && bytesAre (c .bytes) w
 
-abbrev pub writing : ℕ → List ℕ → List ℕ → ℕ → List ℕ → Writing
-writing e table pool room bytes = record { edition = e; table = table; pool = pool; room = room; answer = 0; place = length bytes; bytes = bytes }
+abbrev pub writing : ℕ → List Numbers → List ℕ → ℕ → List ℕ → Writing
+writing e table pool room bytes = record { edition = e; table = inMemory table; pool = pool; room = room; answer = 0; place = length bytes; bytes = bytes }
 
-abbrev pub unwriting : ℕ → List ℕ → List ℕ → ℕ → ℕ → ℕ → Writing
-unwriting e table pool room refusal at = record { edition = e; table = table; pool = pool; room = room; answer = refusal; place = at; bytes = [] }
+-- .. of rows, and of numbers left over behind them
+abbrev pub unwritingPart : ℕ → List Numbers → List ℕ → List ℕ → ℕ → ℕ → ℕ → Writing
+unwritingPart e table over pool room refusal at = record { edition = e; table = inMemory table ++ over; pool = pool; room = room; answer = refusal; place = at; bytes = [] }
+
+abbrev pub unwriting : ℕ → List Numbers → List ℕ → ℕ → ℕ → ℕ → Writing
+unwriting e table pool room refusal at = unwritingPart e table [] pool room refusal at
 
 -- an accepted reading: its table, written with the input as pool, gives the header's bytes in just the room that they need
 abbrev pub rewrites : Reading → Bool

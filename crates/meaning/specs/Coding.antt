@@ -1,5 +1,5 @@
 -- Tables written, lent memory, the payload's part, plain values and the listing: each at its bounds and one over.
-use Prim.Native.Nat.{ℕ, zero, suc}
+use Prim.Native.Nat.{ℕ, zero, suc, _+_, _-_, _*_}
 use mathlib.Core.List.{List, [], _∷_, _++_}
 use mathlib.Core.Bool.{Bool, _&&_, not}
 use lib.Dec.{eqb}
@@ -7,39 +7,42 @@ use lib.ListN.{length, take, replicate}
 use Rattle.meaning.specs.Headers.{read}
 use Rattle.meaning.specs.Bytes.{oneByte, twoBytes, fourBytes, past, lengthBytes, blockOk}
 use Rattle.meaning.specs.Writing.{envelopeSize, withinLimit, envelopeLength}
-use Rattle.meaning.specs.Memory.{readAnswer, readRows, writeAnswer, writeOutput}
+use Rattle.meaning.specs.Memory.{rowWidth, Numbers, row, readAnswer, readRows, writeAnswer, writeOutput}
 use Rattle.meaning.specs.Payload.{payloadStart, payloadEnd, payloadBytes}
 use Rattle.meaning.specs.Plain.{Date, numberEncoded, numberOutput, dateBytes, dateOutput}
 use Rattle.meaning.specs.Listing.{rowsLent, viewed, listingOf, listing}
-use Rattle.meaning.specs.Cases.{same, hex, aDate, baseWith, baseRows, replyIs, Writing, writing, unwriting, outcomeIs, Number, number, encodes, DateRead, DateWritten}
+use Rattle.meaning.specs.Cases.{same, hex, aDate, baseWith, baseRows, replyIs, inMemory, Writing, writing, unwritingPart, unwriting, outcomeIs, Number, number, encodes, DateRead, DateWritten}
 use Rattle.meaning.specs.Accepting.{anExtension, extensionRows, baseRowsAt}
 
 abbrev aBase : List ℕ
 aBase = baseWith 0x0f 0x20 (hex 0x1_01)
 
 -- refused with 15, over a pool of the base and `a`, 1F, 13, 12, 00, `Z` behind it
-abbrev fifteen : ℕ → List ℕ → ℕ → Writing
-fifteen e table at = unwriting e table (aBase ++ hex 0x1_61_1f_13_12_00_5a) 1000 15 at
+abbrev fifteenPart : ℕ → List Numbers → List ℕ → ℕ → Writing
+fifteenPart e table over at = unwritingPart e table over (aBase ++ hex 0x1_61_1f_13_12_00_5a) 1000 15 at
 
-abbrev extensions : ℕ → List ℕ
+abbrev fifteen : ℕ → List Numbers → ℕ → Writing
+fifteen e table at = fifteenPart e table [] at
+
+abbrev extensions : ℕ → List Numbers
 extensions zero = []
 extensions (suc n) = extensionRows 0 ++ extensions n
 
 -- an agent's row and its resolvers' for each level up to n, then one agent more
-abbrev levels : ℕ → ℕ → List ℕ
-levels zero level = 15 ∷ level ∷ 15 ∷ 1 ∷ []
-levels (suc n) level = 15 ∷ level ∷ 15 ∷ 1 ∷ 18 ∷ level ∷ 0 ∷ 0 ∷ levels n (suc level)
+abbrev levels : ℕ → ℕ → List Numbers
+levels zero level = row 15 level 15 1 ∷ []
+levels (suc n) level = row 15 level 15 1 ∷ row 18 level 0 0 ∷ levels n (suc level)
 
 abbrev pub written : List Writing
 written =
     writing 1 (baseRows 5 9 []) aBase 15 aBase ∷
     writing 2 (baseRows 5 9 []) aBase 1000 aBase ∷
     -- an opening row's start may be any place of the pool, its end too
-    writing 1 (2 ∷ 0 ∷ 15 ∷ 0 ∷ 3 ∷ 0 ∷ 3 ∷ 1 ∷ 5 ∷ 0 ∷ 5 ∷ 9 ∷ []) aBase 15 aBase ∷
+    writing 1 (row 2 0 15 0 ∷ row 3 0 3 1 ∷ row 5 0 5 9 ∷ []) aBase 15 aBase ∷
     -- length 10 picks the code with designator: 21 in B, 24 in D
-    writing 1 (2 ∷ 0 ∷ 0 ∷ 0 ∷ 3 ∷ 0 ∷ 3 ∷ 1 ∷ 5 ∷ 0 ∷ 5 ∷ 10 ∷ []) (baseWith 0x00 0x00 (hex 0x1_5a)) 16 (baseWith 0x10 0x21 (hex 0x1_5a_01)) ∷
-    writing 2 (2 ∷ 0 ∷ 0 ∷ 0 ∷ 3 ∷ 0 ∷ 3 ∷ 1 ∷ 5 ∷ 0 ∷ 5 ∷ 10 ∷ []) (baseWith 0x00 0x00 (hex 0x1_5a)) 16 (baseWith 0x10 0x24 (hex 0x1_5a_01)) ∷
-    writing 2 (2 ∷ 0 ∷ 0 ∷ 0 ∷ 3 ∷ 0 ∷ 3 ∷ 1 ∷ 7 ∷ 0 ∷ 5 ∷ 10 ∷ []) (baseWith 0x00 0x00 (hex 0x1_5a)) 16 (baseWith 0x10 0x26 (hex 0x1_5a_01)) ∷
+    writing 1 (row 2 0 0 0 ∷ row 3 0 3 1 ∷ row 5 0 5 10 ∷ []) (baseWith 0x00 0x00 (hex 0x1_5a)) 16 (baseWith 0x10 0x21 (hex 0x1_5a_01)) ∷
+    writing 2 (row 2 0 0 0 ∷ row 3 0 3 1 ∷ row 5 0 5 10 ∷ []) (baseWith 0x00 0x00 (hex 0x1_5a)) 16 (baseWith 0x10 0x24 (hex 0x1_5a_01)) ∷
+    writing 2 (row 2 0 0 0 ∷ row 3 0 3 1 ∷ row 7 0 5 10 ∷ []) (baseWith 0x00 0x00 (hex 0x1_5a)) 16 (baseWith 0x10 0x26 (hex 0x1_5a_01)) ∷
     -- one pool's bytes for many rows, in any order
     writing 1 (extensions 15 ++ baseRowsAt 17) (anExtension ++ aBase) 270
     (anExtension ++ (anExtension ++ (anExtension ++ (anExtension ++ (anExtension ++ (anExtension ++ (anExtension ++ (anExtension ++ (anExtension ++ (anExtension ++ (anExtension ++ (anExtension ++ (anExtension ++ (anExtension ++ (anExtension ++ aBase))))))))))))))) ∷ []
@@ -49,25 +52,25 @@ unwritten =
     -- 1, before all else
     unwriting 0 [] [] 0 1 0 ∷ unwriting 3 (baseRows 5 9 []) aBase 0 1 0 ∷
     -- rows or slice end early
-    fifteen 1 [] 0 ∷ fifteen 2 (2 ∷ []) 0 ∷ fifteen 1 (2 ∷ 0 ∷ 0 ∷ 0 ∷ []) 1 ∷ fifteen 2 (2 ∷ 0 ∷ 0 ∷ 0 ∷ 3 ∷ 0 ∷ 3 ∷ 1 ∷ []) 2 ∷ unwriting 1 (extensionRows 0) anExtension 1000 15 3 ∷
-    fifteen 1 (baseRows 5 9 (22 ∷ [])) 3 ∷ fifteen 2 (baseRows 5 9 (22 ∷ 0 ∷ 15 ∷ [])) 3 ∷ fifteen 1 (baseRows 5 9 (27 ∷ 0 ∷ 15 ∷ 1 ∷ [])) 4 ∷ fifteen 2 (baseRows 5 9 (13 ∷ 0 ∷ 0 ∷ 0 ∷ [])) 4 ∷
+    fifteen 1 [] 0 ∷ fifteenPart 2 [] (2 ∷ []) 0 ∷ fifteen 1 (row 2 0 0 0 ∷ []) 1 ∷ fifteen 2 (row 2 0 0 0 ∷ row 3 0 3 1 ∷ []) 2 ∷ unwriting 1 (extensionRows 0) anExtension 1000 15 3 ∷
+    fifteenPart 1 (baseRows 5 9 []) (22 ∷ []) 3 ∷ fifteenPart 2 (baseRows 5 9 []) (22 ∷ 0 ∷ 15 ∷ []) 3 ∷ fifteen 1 (baseRows 5 9 (row 27 0 15 1 ∷ [])) 4 ∷ fifteen 2 (baseRows 5 9 (row 13 0 0 0 ∷ [])) 4 ∷
     -- envelopes: none first, one behind the base, an own row of another level or length, a head that is not whole
-    fifteen 1 (3 ∷ 0 ∷ 3 ∷ 1 ∷ []) 0 ∷ fifteen 2 (baseRows 5 9 (1 ∷ 0 ∷ 0 ∷ 0 ∷ [])) 3 ∷ fifteen 1 (baseRows 5 9 (2 ∷ 0 ∷ 0 ∷ 0 ∷ [])) 3 ∷
-    fifteen 1 (2 ∷ 1 ∷ 0 ∷ 0 ∷ []) 0 ∷ fifteen 2 (1 ∷ 0 ∷ 0 ∷ 1 ∷ []) 0 ∷ fifteen 1 (1 ∷ 0 ∷ 0 ∷ 0 ∷ 8 ∷ 0 ∷ 15 ∷ 1 ∷ baseRows 5 9 []) 2 ∷
+    fifteen 1 (row 3 0 3 1 ∷ []) 0 ∷ fifteen 2 (baseRows 5 9 (row 1 0 0 0 ∷ [])) 3 ∷ fifteen 1 (baseRows 5 9 (row 2 0 0 0 ∷ [])) 3 ∷
+    fifteen 1 (row 2 1 0 0 ∷ []) 0 ∷ fifteen 2 (row 1 0 0 1 ∷ []) 0 ∷ fifteen 1 (row 1 0 0 0 ∷ row 8 0 15 1 ∷ baseRows 5 9 []) 2 ∷
     -- views past the pool
-    unwriting 1 (2 ∷ 0 ∷ 16 ∷ 0 ∷ []) aBase 0 15 0 ∷ unwriting 2 (2 ∷ 0 ∷ 0 ∷ 0 ∷ 3 ∷ 0 ∷ 15 ∷ 1 ∷ []) aBase 0 15 1 ∷
-    unwriting 1 (2 ∷ 0 ∷ 0 ∷ 0 ∷ 3 ∷ 0 ∷ 4294967295 ∷ 4294967295 ∷ []) aBase 0 15 1 ∷ unwriting 2 (2 ∷ 0 ∷ 0 ∷ 0 ∷ 3 ∷ 0 ∷ 0 ∷ 16 ∷ []) aBase 0 15 1 ∷
+    unwriting 1 (row 2 0 16 0 ∷ []) aBase 0 15 0 ∷ unwriting 2 (row 2 0 0 0 ∷ row 3 0 15 1 ∷ []) aBase 0 15 1 ∷
+    unwriting 1 (row 2 0 0 0 ∷ row 3 0 4294967295 4294967295 ∷ []) aBase 0 15 1 ∷ unwriting 2 (row 2 0 0 0 ∷ row 3 0 0 16 ∷ []) aBase 0 15 1 ∷
     -- kinds that are none, levels, opening rows with bytes
-    fifteen 1 (baseRows 5 9 (0 ∷ 0 ∷ 0 ∷ 0 ∷ [])) 3 ∷ fifteen 2 (baseRows 5 9 (30 ∷ 0 ∷ 0 ∷ 0 ∷ [])) 3 ∷ fifteen 1 (baseRows 5 9 (22 ∷ 1 ∷ 15 ∷ 1 ∷ [])) 3 ∷
-    fifteen 2 (baseRows 5 9 (12 ∷ 0 ∷ 15 ∷ 1 ∷ [])) 3 ∷ fifteen 1 (baseRows 5 9 (12 ∷ 0 ∷ 0 ∷ 0 ∷ 15 ∷ 0 ∷ 15 ∷ 1 ∷ [])) 4 ∷ fifteen 2 (baseRows 5 9 (12 ∷ 0 ∷ 0 ∷ 0 ∷ 15 ∷ 2 ∷ 15 ∷ 1 ∷ [])) 4 ∷
-    fifteen 1 (baseRows 5 9 (17 ∷ 1 ∷ 15 ∷ 1 ∷ [])) 3 ∷ fifteen 2 (baseRows 5 9 (13 ∷ 0 ∷ 0 ∷ 0 ∷ 15 ∷ 1 ∷ 15 ∷ 1 ∷ 15 ∷ 1 ∷ 15 ∷ 1 ∷ [])) 5 ∷
-    fifteen 1 (baseRows 5 9 (13 ∷ 0 ∷ 0 ∷ 0 ∷ 15 ∷ 1 ∷ 15 ∷ 1 ∷ 18 ∷ 1 ∷ 0 ∷ 0 ∷ 16 ∷ 1 ∷ 0 ∷ 0 ∷ [])) 6 ∷
+    fifteen 1 (baseRows 5 9 (row 0 0 0 0 ∷ [])) 3 ∷ fifteen 2 (baseRows 5 9 (row 30 0 0 0 ∷ [])) 3 ∷ fifteen 1 (baseRows 5 9 (row 22 1 15 1 ∷ [])) 3 ∷
+    fifteen 2 (baseRows 5 9 (row 12 0 15 1 ∷ [])) 3 ∷ fifteen 1 (baseRows 5 9 (row 12 0 0 0 ∷ row 15 0 15 1 ∷ [])) 4 ∷ fifteen 2 (baseRows 5 9 (row 12 0 0 0 ∷ row 15 2 15 1 ∷ [])) 4 ∷
+    fifteen 1 (baseRows 5 9 (row 17 1 15 1 ∷ [])) 3 ∷ fifteen 2 (baseRows 5 9 (row 13 0 0 0 ∷ row 15 1 15 1 ∷ row 15 1 15 1 ∷ [])) 5 ∷
+    fifteen 1 (baseRows 5 9 (row 13 0 0 0 ∷ row 15 1 15 1 ∷ row 18 1 0 0 ∷ row 16 1 0 0 ∷ [])) 6 ∷
     -- values: text, number, representation, date; what the edition lacks
-    fifteen 1 (baseRows 5 9 (22 ∷ 0 ∷ 15 ∷ 2 ∷ [])) 3 ∷ fifteen 2 (baseRows 5 9 (22 ∷ 0 ∷ 19 ∷ 1 ∷ [])) 3 ∷ fifteen 1 (baseRows 5 9 (23 ∷ 0 ∷ 18 ∷ 1 ∷ [])) 3 ∷ fifteen 2 (baseRows 5 9 (23 ∷ 0 ∷ 18 ∷ 2 ∷ [])) 3 ∷ fifteen 2 (baseRows 5 9 (23 ∷ 0 ∷ 0 ∷ 0 ∷ [])) 3 ∷
-    fifteen 1 (baseRows 5 9 (3 ∷ 0 ∷ 17 ∷ 1 ∷ [])) 3 ∷ fifteen 2 (baseRows 5 9 (3 ∷ 0 ∷ 3 ∷ 2 ∷ [])) 3 ∷ fifteen 1 (baseRows 5 9 (3 ∷ 0 ∷ 3 ∷ 0 ∷ [])) 3 ∷ fifteen 1 (2 ∷ 0 ∷ 0 ∷ 0 ∷ 3 ∷ 0 ∷ 3 ∷ 1 ∷ 5 ∷ 0 ∷ 5 ∷ 8 ∷ []) 2 ∷ fifteen 2 (2 ∷ 0 ∷ 0 ∷ 0 ∷ 3 ∷ 0 ∷ 3 ∷ 1 ∷ 5 ∷ 0 ∷ 6 ∷ 9 ∷ []) 2 ∷
-    fifteen 1 (2 ∷ 0 ∷ 0 ∷ 0 ∷ 3 ∷ 0 ∷ 3 ∷ 1 ∷ 6 ∷ 0 ∷ 5 ∷ 9 ∷ []) 2 ∷ fifteen 2 (baseRows 5 9 (25 ∷ 0 ∷ 0 ∷ 0 ∷ [])) 3 ∷ unwriting 1 (extensionRows 0 ++ (19 ∷ 1 ∷ 3 ∷ 1 ∷ [])) anExtension 1000 15 3 ∷ unwriting 1 (extensionRows 0 ++ (11 ∷ 1 ∷ 3 ∷ 1 ∷ 10 ∷ 1 ∷ 3 ∷ 1 ∷ [])) anExtension 1000 15 4 ∷
+    fifteen 1 (baseRows 5 9 (row 22 0 15 2 ∷ [])) 3 ∷ fifteen 2 (baseRows 5 9 (row 22 0 19 1 ∷ [])) 3 ∷ fifteen 1 (baseRows 5 9 (row 23 0 18 1 ∷ [])) 3 ∷ fifteen 2 (baseRows 5 9 (row 23 0 18 2 ∷ [])) 3 ∷ fifteen 2 (baseRows 5 9 (row 23 0 0 0 ∷ [])) 3 ∷
+    fifteen 1 (baseRows 5 9 (row 3 0 17 1 ∷ [])) 3 ∷ fifteen 2 (baseRows 5 9 (row 3 0 3 2 ∷ [])) 3 ∷ fifteen 1 (baseRows 5 9 (row 3 0 3 0 ∷ [])) 3 ∷ fifteen 1 (row 2 0 0 0 ∷ row 3 0 3 1 ∷ row 5 0 5 8 ∷ []) 2 ∷ fifteen 2 (row 2 0 0 0 ∷ row 3 0 3 1 ∷ row 5 0 6 9 ∷ []) 2 ∷
+    fifteen 1 (row 2 0 0 0 ∷ row 3 0 3 1 ∷ row 6 0 5 9 ∷ []) 2 ∷ fifteen 2 (baseRows 5 9 (row 25 0 0 0 ∷ [])) 3 ∷ unwriting 1 (extensionRows 0 ++ (row 19 1 3 1 ∷ [])) anExtension 1000 15 3 ∷ unwriting 1 (extensionRows 0 ++ (row 11 1 3 1 ∷ row 10 1 3 1 ∷ [])) anExtension 1000 15 4 ∷
     -- agent level 9
-    fifteen 1 (baseRows 5 9 (12 ∷ 0 ∷ 0 ∷ 0 ∷ levels 8 1)) 20 ∷ fifteen 2 (baseRows 5 9 (13 ∷ 0 ∷ 0 ∷ 0 ∷ levels 8 1)) 20 ∷
+    fifteen 1 (baseRows 5 9 (row 12 0 0 0 ∷ levels 8 1)) 20 ∷ fifteen 2 (baseRows 5 9 (row 13 0 0 0 ∷ levels 8 1)) 20 ∷
     -- 5 behind 15 and before 16: the 17th envelope's row
     unwriting 1 (extensions 16 ++ baseRowsAt 17) (anExtension ++ aBase) 0 5 48 ∷ unwriting 2 (extensions 17 ++ baseRowsAt 17) (anExtension ++ aBase) 0 5 48 ∷ unwriting 1 (extensions 17) (anExtension ++ aBase) 0 15 51 ∷
     unwriting 1 (baseRows 5 9 []) aBase 14 16 15 ∷ unwriting 2 (baseRows 5 9 []) aBase 0 16 15 ∷ []
@@ -87,11 +90,11 @@ lent n = replicate n 99
 
 abbrev pub memory : Bool
 memory =
-    replyIs 0 15 3 (readAnswer 1 aBase (lent 12)) && same (readRows 1 aBase (lent 13)) (baseRows 5 9 (99 ∷ [])) &&
-    replyIs 14 15 3 (readAnswer 2 aBase (lent 11)) && same (readRows 2 aBase (lent 11)) (lent 11) &&
+    replyIs 0 15 3 (readAnswer 1 aBase (lent (3 * rowWidth))) && same (readRows 1 aBase (lent (3 * rowWidth + 1))) (inMemory (baseRows 5 9 []) ++ lent 1) &&
+    replyIs 14 15 3 (readAnswer 2 aBase (lent (3 * rowWidth - 1))) && same (readRows 2 aBase (lent (3 * rowWidth - 1))) (lent (3 * rowWidth - 1)) &&
     replyIs 6 3 0 (readAnswer 2 (hex 0x1_fe_00_03) (lent 8)) && same (readRows 2 (hex 0x1_fe_00_03) (lent 8)) (lent 8) &&
-    replyIs 0 15 3 (writeAnswer 2 (baseRows 5 9 []) aBase (lent 15)) && same (writeOutput 2 (baseRows 5 9 []) aBase (lent 17)) (aBase ++ lent 2) &&
-    replyIs 16 15 0 (writeAnswer 1 (baseRows 5 9 []) aBase (lent 14)) && same (writeOutput 1 (baseRows 5 9 []) aBase (lent 14)) (lent 14)
+    replyIs 0 15 3 (writeAnswer 2 (inMemory (baseRows 5 9 [])) aBase (lent 15)) && same (writeOutput 2 (inMemory (baseRows 5 9 [])) aBase (lent 17)) (aBase ++ lent 2) &&
+    replyIs 16 15 0 (writeAnswer 1 (inMemory (baseRows 5 9 [])) aBase (lent 14)) && same (writeOutput 1 (inMemory (baseRows 5 9 [])) aBase (lent 14)) (lent 14)
 
 abbrev pub payload : Bool
 payload =

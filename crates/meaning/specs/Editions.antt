@@ -5,19 +5,9 @@ use mathlib.Core.List.{List, [], _∷_, _++_}
 use mathlib.Core.Bool.{Bool, true, false, _&&_}
 use lib.Dec.{eqb}
 use Rattle.meaning.specs.Basics.{pick}
+use Rattle.meaning.specs.Told.{Edition, B, D}
 use Rattle.meaning.specs.Bytes.{Reach, absolute, relative, Width, oneByte, twoBytes, fourBytes}
 use Rattle.meaning.specs.Kinds.{standardRepresentation, ownRepresentation, dateAbsolute, dateForward, dateBackward, receivedBy, receivedFrom, receivedId, receivedVia, toOpens, fromOpens, receiverOpens, agentName, addressesOpen, address, resolversOpen, extraKey, anyText, anyBytes, comments, payloadLength, payloadEncoding, encryptedOpens, encryptedItem, ownKey, ownValue, behaviourOpens}
-
--- "Editions are numbered 1 (B) and 2 (D)"
-pub data Edition : Type 0 where
-  B D : Edition
-
-pub data Label : Type 0 where
-  known : Edition → Label
-  unknown : Label
-
-abbrev pub labelOf : ℕ → Label
-labelOf n = pick (eqb n 1) (known B) (pick (eqb n 2) (known D) unknown)
 
 pub data Room : Type 0 where
   receivedBegins headRepresentation headDate parameters ownText parameterRepresentation behaviourValue encryptedTexts : Room
@@ -183,14 +173,17 @@ shared agentExtra = anyValues (stay afterResolvers)
 shared closed = []
 
 -- "Extra: code 04 in B, 05 in D; key text; any-value"
+abbrev pub extraCode : Edition → ℕ
+extraCode B = 0x04
+extraCode D = 0x05
+
 abbrev pub agentExtras : Edition → List Move
-agentExtras B = on 0x04 ▸ extraKey ▸ text ▸ stay agentExtra ∷ []
-agentExtras D = on 0x05 ▸ extraKey ▸ text ▸ stay agentExtra ∷ []
+agentExtras e = on extraCode e ▸ extraKey ▸ text ▸ stay agentExtra ∷ []
 
 -- "Received object: .. then in D extras"
 abbrev pub receivedExtras : Edition → List Move
 receivedExtras B = []
-receivedExtras D = on 0x05 ▸ extraKey ▸ text ▸ stay receivedExtra ∷ []
+receivedExtras D = on extraCode D ▸ extraKey ▸ text ▸ stay receivedExtra ∷ []
 
 -- "08 encrypted, texts then 01 (B only)"
 abbrev pub ownParameters : Edition → List Move

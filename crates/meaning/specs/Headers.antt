@@ -7,7 +7,8 @@ use lib.ListN.{length, take, drop}
 use Rattle.meaning.specs.Basics.{pick}
 use Rattle.meaning.specs.Bytes.{Count, counted, short, highFirst}
 use Rattle.meaning.specs.Kinds.{extensionOpens, baseOpens}
-use Rattle.meaning.specs.Editions.{Edition, Label, known, unknown, labelOf, headRepresentation, receivedBegins, State, state}
+use Rattle.meaning.specs.Told.{Label, known, unknown, labelOf, Told, told}
+use Rattle.meaning.specs.Editions.{headRepresentation, receivedBegins, State, state}
 use Rattle.meaning.specs.Reading.{Row, Seen, Out, dry, fault, done, inside}
 
 -- a row of a whole header, with its start
@@ -64,10 +65,10 @@ ends false end rest more (done rs []) = behind (map (placed end) rs) (more end r
 
 -- an envelope of n declared bytes from `at` on, head of them identifier and length; s: the input behind these
 -- "Per envelope: .. 4, limit, 2, then the inside"
-unfoldable pub envelope : Edition → Bool → ℕ → ℕ → ℕ → ℕ → List ℕ → Onward → Answer
-envelope e base least at head n s more =
+unfoldable pub envelope : Told → Bool → ℕ → ℕ → ℕ → ℕ → List ℕ → Onward → Answer
+envelope t base least at head n s more =
     let within = take (n - head) s in
-    let read : Answer = behind (placedRow (opening base) 0 at [] ∷ []) (ends base (at + n) (drop (n - head) s) more (inside e (start base) within)) in
+    let read : Answer = behind (placedRow (opening base) 0 at [] ∷ []) (ends base (at + n) (drop (n - head) s) more (inside t (start base) within)) in
     pick (ltb n least) (refused 4 (at + 1))
     (pick (ltb envelopeMost n) (refused 5 (at + 1))
     (pick (ltb (head + length s) n) (refused 2 (at + head + length s)) read))
@@ -80,15 +81,15 @@ abbrev pub longLeast : ℕ
 longLeast = 65540
 
 -- "If they are zero, four more bytes, high first, hold it"; "2: input ends inside identifier or length", all: the bytes from the identifier on
-abbrev pub longForm : Edition → Bool → ℕ → ℕ → Onward → Count → Answer
-longForm e base at all more short = refused 2 (at + all)
-longForm e base at all more (counted n s) = envelope e base longLeast at 7 n s more
+abbrev pub longForm : Told → Bool → ℕ → ℕ → Onward → Count → Answer
+longForm t base at all more short = refused 2 (at + all)
+longForm t base at all more (counted n s) = envelope t base longLeast at 7 n s more
 
-abbrev pub sized : Edition → Bool → ℕ → ℕ → Onward → Count → Answer
-sized e base at all more short = refused 2 (at + all)
-sized e base at all more (counted n s) =
-    let long : Answer = longForm e base at all more (highFirst 4 0 s) in
-    let brief : Answer = envelope e base shortLeast at 3 n s more in
+abbrev pub sized : Told → Bool → ℕ → ℕ → Onward → Count → Answer
+sized t base at all more short = refused 2 (at + all)
+sized t base at all more (counted n s) =
+    let long : Answer = longForm t base at all more (highFirst 4 0 s) in
+    let brief : Answer = envelope t base shortLeast at 3 n s more in
     pick (eqb n 0) long brief
 
 pub data Identifier : Type 0 where
@@ -98,10 +99,10 @@ abbrev pub identifierOf : ℕ → Identifier
 identifierOf b = pick (eqb b 0xfd) extension (pick (eqb b 0xfe) base neither)
 
 -- "3: identifier not FD or FE, that byte"
-abbrev pub identified : Edition → ℕ → List ℕ → Onward → Identifier → Answer
-identified e at s more extension = sized e false at (suc (length s)) more (highFirst 2 0 s)
-identified e at s more base = sized e true at (suc (length s)) more (highFirst 2 0 s)
-identified e at s more neither = refused 3 at
+abbrev pub identified : Told → ℕ → List ℕ → Onward → Identifier → Answer
+identified t at s more extension = sized t false at (suc (length s)) more (highFirst 2 0 s)
+identified t at s more base = sized t true at (suc (length s)) more (highFirst 2 0 s)
+identified t at s more neither = refused 3 at
 
 -- "5: 17th envelope, identifier"
 abbrev pub seventeenth : ℕ → Identifier → Answer
@@ -110,16 +111,16 @@ seventeenth at base = refused 5 at
 seventeenth at neither = refused 3 at
 
 -- the envelopes from `at` on, of which n may still come
-unfoldable pub header : ℕ → Edition → ℕ → List ℕ → Answer
-header zero e at [] = refused 2 at
-header zero e at (b ∷ s) = seventeenth at (identifierOf b)
-header (suc n) e at [] = refused 2 at
-header (suc n) e at (b ∷ s) = identified e at s (header n e) (identifierOf b)
+unfoldable pub header : ℕ → Told → ℕ → List ℕ → Answer
+header zero t at [] = refused 2 at
+header zero t at (b ∷ s) = seventeenth at (identifierOf b)
+header (suc n) t at [] = refused 2 at
+header (suc n) t at (b ∷ s) = identified t at s (header n t) (identifierOf b)
 
 -- "1: edition not 1 or 2; before all else, 0"
 abbrev pub labelled : List ℕ → Label → Answer
 labelled input unknown = refused 1 0
-labelled input (known e) = header envelopesMost e 0 input
+labelled input (known e) = header envelopesMost (told e) 0 input
 
 unfoldable pub read : ℕ → List ℕ → Answer
 read edition input = labelled input (labelOf edition)

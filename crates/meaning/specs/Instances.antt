@@ -9,6 +9,7 @@ use Rattle.meaning.specs.Editions.{shared, own, moves}
 use Rattle.meaning.specs.Reading.{takeValue, find, look, stepMove, step, run, inside}
 use Rattle.meaning.specs.Headers.{envelope, header, read}
 use Rattle.meaning.specs.Plain.{numberValue, decodeNumber, numberDecoded, numberPlain}
+use Rattle.meaning.specs.Memory.{row}
 use Rattle.meaning.specs.Cases.{hex, baseWith, baseRows, Reading, accepts, refuses, reads, Number, number, decodes}
 
 abbrev month06 : List ℕ
@@ -37,7 +38,7 @@ readings =
     accepts 1 (baseWith 0x10 0x21 (hex 0x1_5a_01)) 16 (baseRows 5 10 []) ∷
     refuses 2 (baseWith 0x10 0x21 (hex 0x1_5a_01)) 7 14 ∷
     -- with 08 01 01: B accepts 4 rows; D gives 7 at 14
-    accepts 1 (baseWith 0x11 0x20 (hex 0x1_08_01_01)) 17 (baseRows 5 9 (25 ∷ 0 ∷ 14 ∷ 0 ∷ [])) ∷
+    accepts 1 (baseWith 0x11 0x20 (hex 0x1_08_01_01)) 17 (baseRows 5 9 (row 25 0 14 0 ∷ [])) ∷
     refuses 2 (baseWith 0x11 0x20 (hex 0x1_08_01_01)) 7 14 ∷ []
 
 abbrev numbers : List Number

@@ -1,5 +1,6 @@
 -- Read in this order, with document 01 beside it.
 pub mod Basics
+pub mod Told
 pub mod Bytes
 pub mod Kinds
 pub mod Editions

@@ -5,16 +5,29 @@ use mathlib.Core.List.{List, [], _∷_, _++_}
 use lib.Dec.{leb}
 use lib.ListN.{length, take, drop}
 use Rattle.meaning.specs.Basics.{pick}
-use Rattle.meaning.specs.Editions.{labelOf}
+use Rattle.meaning.specs.Told.{labelOf}
 use Rattle.meaning.specs.Headers.{Placed, Answer, refused, accepted, read}
 use Rattle.meaning.specs.Writing.{Cell, cell, broken, Written, written, unwritten, writtenUnder}
 
--- "A row is four u32 numbers: kind, level, start, length": how many numbers a row has is said here and in the three below
+-- "A row is four u32 numbers: kind, level, start, length": how many they are is said here, and in `cellOf` and `cellsOf` below
 abbrev pub rowWidth : ℕ
 rowWidth = 4
 
+pub record Numbers : Type 0 where
+  pub kind : ℕ
+  pub level : ℕ
+  pub start : ℕ
+  pub length : ℕ
+
+abbrev pub row : ℕ → ℕ → ℕ → ℕ → Numbers
+row k n s l = record { kind = k; level = n; start = s; length = l }
+
+abbrev pub numbersIn : Numbers → List ℕ
+numbersIn r = r .kind ∷ r .level ∷ r .start ∷ r .length ∷ []
+
+-- the numbers of a row that was read
 abbrev pub numbersOf : Placed → List ℕ
-numbersOf r = r .kind ∷ r .level ∷ r .start ∷ length (r .view) ∷ []
+numbersOf r = numbersIn (row (r .kind) (r .level) (r .start) (length (r .view)))
 
 abbrev pub tableOf : List Placed → List ℕ
 tableOf [] = []

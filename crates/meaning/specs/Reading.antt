@@ -7,7 +7,8 @@ use lib.ListN.{length}
 use Rattle.meaning.specs.Basics.{pick}
 use Rattle.meaning.specs.Bytes.{Taken, took, failed, takeText, takeNumber, takeDate, dateChecks, takeBlock}
 use Rattle.meaning.specs.Kinds.{agentName}
-use Rattle.meaning.specs.Editions.{Edition, Room, receivedBegins, headRepresentation, headDate, parameters, ownText, parameterRepresentation, behaviourValue, encryptedTexts, receivedDate, afterDate, afterFrom, afterId, afterVia, receivedExtra, agentList, oneAgent, afterName, addressTexts, afterAddresses, afterResolvers, agentExtra, closed, State, go, Form, text, date, number, block, itself, opens, quiet, isQuiet, Move, noCode, moves}
+use Rattle.meaning.specs.Told.{Told}
+use Rattle.meaning.specs.Editions.{Room, receivedBegins, headRepresentation, headDate, parameters, ownText, parameterRepresentation, behaviourValue, encryptedTexts, receivedDate, afterDate, afterFrom, afterId, afterVia, receivedExtra, agentList, oneAgent, afterName, addressTexts, afterAddresses, afterResolvers, agentExtra, closed, State, go, Form, text, date, number, block, itself, opens, quiet, isQuiet, Move, noCode, moves}
 
 -- what a row says. "Two tables mean the same .. if they have equal row counts, kinds, levels, lengths and viewed bytes; starts may differ"
 pub record Row : Type 0 where
@@ -29,14 +30,14 @@ abbrev pub rowOf : Seen → Row
 rowOf r = record { kind = r .kind; level = r .level; view = r .view }
 
 -- the value of a move behind its code; left: the bytes left at the code
-unfoldable pub takeValue : Form → ℕ → ℕ → List ℕ → Taken
-takeValue text left code s = takeText s
-takeValue (date reach designated) left code s = takeDate (dateChecks reach designated) [] s
-takeValue number left code s = takeNumber 0 true s
-takeValue (block w) left code s = takeBlock w left s
-takeValue itself left code s = took (code ∷ []) s
-takeValue opens left code s = took [] s
-takeValue quiet left code s = took [] s
+unfoldable pub takeValue : Told → Form → ℕ → ℕ → List ℕ → Taken
+takeValue t text left code s = takeText s
+takeValue t (date reach designated) left code s = takeDate (dateChecks reach designated) [] s
+takeValue t number left code s = takeNumber 0 true s
+takeValue t (block w) left code s = takeBlock t w left s
+takeValue t itself left code s = took (code ∷ []) s
+takeValue t opens left code s = took [] s
+takeValue t quiet left code s = took [] s
 
 -- how far a row's start lies before the end of its view: a text's closing 00 stands behind it; "Opening rows .. start at their identifier or code byte"
 abbrev pub reachBack : Form → ℕ
@@ -141,15 +142,15 @@ stepTaken st m (took v rest) = next (go (m .next) st) (seenBy (m .form) (m .kind
 abbrev pub valueFrom : Move → ℕ → List ℕ → List ℕ
 valueFrom m b s = pick (hasCode noCode m) (b ∷ s) s
 
-unfoldable pub stepMove : State → ℕ → List ℕ → Found → Step
-stepMove st b s none = pick (isClosed (st .room)) (over (b ∷ s)) (fails (strange (st .room)) (suc (length s)))
-stepMove st b s (hit m) =
-    pick (tooDeep m st) (fails 12 (suc (length s))) (stepTaken st m (takeValue (m .form) (suc (length s)) (m .code) (valueFrom m b s)))
+unfoldable pub stepMove : Told → State → ℕ → List ℕ → Found → Step
+stepMove t st b s none = pick (isClosed (st .room)) (over (b ∷ s)) (fails (strange (st .room)) (suc (length s)))
+stepMove t st b s (hit m) =
+    pick (tooDeep m st) (fails 12 (suc (length s))) (stepTaken st m (takeValue t (m .form) (suc (length s)) (m .code) (valueFrom m b s)))
 
 -- "6: a byte is needed at the declared end"
-unfoldable pub step : Edition → State → List ℕ → Step
-step e st [] = pick (isClosed (st .room)) (over []) (fails 6 0)
-step e st (b ∷ s) = stepMove st b s (look b (moves e (st .room)))
+unfoldable pub step : Told → State → List ℕ → Step
+step t st [] = pick (isClosed (st .room)) (over []) (fails 6 0)
+step t st (b ∷ s) = stepMove t st b s (look b (moves (t .edition) (st .room)))
 
 -- the whole inside: its rows and what is left behind the closing 01, or the refusal; `dry` is never the answer, since each step takes a byte
 pub data Out : Type 0 where
@@ -167,9 +168,9 @@ onward (fails refusal left) f = fault refusal left
 onward (over s) f = done [] s
 onward (next st rs rest) f = withRows rs (f st rest)
 
-unfoldable pub run : ℕ → Edition → State → List ℕ → Out
-run zero e st s = dry
-run (suc n) e st s = onward (step e st s) (run n e)
+unfoldable pub run : ℕ → Told → State → List ℕ → Out
+run zero t st s = dry
+run (suc n) t st s = onward (step t st s) (run n t)
 
-unfoldable pub inside : Edition → State → List ℕ → Out
-inside e st s = run (suc (length s)) e st s
+unfoldable pub inside : Told → State → List ℕ → Out
+inside t st s = run (suc (length s)) t st s

@@ -2,6 +2,7 @@
 use Prim.Native.Nat.{ℕ, zero, suc, _+_}
 use mathlib.Core.List.{List, [], _∷_, _++_}
 use lib.ListN.{length, take, drop, replicate}
+use Rattle.meaning.specs.Memory.{Numbers, row}
 use Rattle.meaning.specs.Cases.{joined, hex, aDate, baseWith, baseRows, Reading, accepts, refuses}
 use Rattle.meaning.specs.Accepting.{offset, withParameters, anExtension, extensionRows, baseRowsAt}
 
@@ -11,7 +12,7 @@ stops e s refusal at = refuses e (withParameters s) refusal (14 + at)
 abbrev both : List ℕ → ℕ → ℕ → List Reading
 both s refusal at = stops 1 s refusal at ∷ stops 2 s refusal at ∷ []
 
-abbrev goes : ℕ → List ℕ → List ℕ → Reading
+abbrev goes : ℕ → List ℕ → List Numbers → Reading
 goes e s rows = accepts e (withParameters s) (15 + length s) (baseRows 5 9 (offset rows))
 
 -- a received object of `b`, with this behind its date
@@ -86,9 +87,9 @@ abbrev nested : ℕ → List ℕ
 nested zero = hex 0x1_02_61_00_01
 nested (suc n) = hex 0x1_02_61_00_03 ++ (nested n ++ hex 0x1_01_01)
 
-abbrev nestedRows : ℕ → ℕ → ℕ → List ℕ
-nestedRows zero level at = 15 ∷ level ∷ (at + 1) ∷ 1 ∷ []
-nestedRows (suc n) level at = 15 ∷ level ∷ (at + 1) ∷ 1 ∷ 18 ∷ level ∷ (at + 3) ∷ 0 ∷ nestedRows n (suc level) (at + 4)
+abbrev nestedRows : ℕ → ℕ → ℕ → List Numbers
+nestedRows zero level at = row 15 level (at + 1) 1 ∷ []
+nestedRows (suc n) level at = row 15 level (at + 1) 1 ∷ row 18 level (at + 3) 0 ∷ nestedRows n (suc level) (at + 4)
 
 abbrev listed : ℕ → List ℕ
 listed n = 2 ∷ (nested n ++ hex 0x1_01)
@@ -100,24 +101,24 @@ abbrev pub values : List Reading
 values =
     joined (
     -- text byte 1F and 20; no text goes past the envelope's end, though the input does
-    both (hex 0x1_05_1f) 8 1 ∷ both (hex 0x1_05_63_01) 8 2 ∷ (goes 1 (hex 0x1_05_20_00) (22 ∷ 0 ∷ 1 ∷ 1 ∷ []) ∷ goes 2 (hex 0x1_05_ff_00) (22 ∷ 0 ∷ 1 ∷ 1 ∷ []) ∷
+    both (hex 0x1_05_1f) 8 1 ∷ both (hex 0x1_05_63_01) 8 2 ∷ (goes 1 (hex 0x1_05_20_00) (row 22 0 1 1 ∷ []) ∷ goes 2 (hex 0x1_05_ff_00) (row 22 0 1 1 ∷ []) ∷
     refuses 1 (baseWith 0x10 0x20 (hex 0x1_05_63_00_01)) 6 16 ∷ refuses 2 (baseWith 0x0f 0x20 (hex 0x1_05_00_01)) 6 15 ∷ []) ∷
     -- payload length; an envelope that ends inside one, and inside a date
-    (goes 1 (hex 0x1_06_21_10) (23 ∷ 0 ∷ 1 ∷ 2 ∷ []) ∷ goes 2 (hex 0x1_06_10) (23 ∷ 0 ∷ 1 ∷ 1 ∷ []) ∷
+    (goes 1 (hex 0x1_06_21_10) (row 23 0 1 2 ∷ []) ∷ goes 2 (hex 0x1_06_10) (row 23 0 1 1 ∷ []) ∷
     refuses 1 (baseWith 0x10 0x20 (hex 0x1_06_23_00_01)) 6 16 ∷ refuses 2 (baseWith 0x0a 0x20 (hex 0x1_01)) 6 10 ∷ []) ∷
     both (hex 0x1_06_53_a5_a7_83_a7_00) 10 5 ∷ both (hex 0x1_06_53_a5_a7_83_a6_10) 10 6 ∷ both (hex 0x1_06_12) 10 1 ∷ both (hex 0x1_06_00) 10 1 ∷ both (hex 0x1_06_0b) 10 1 ∷ both (hex 0x1_06_b0) 10 1 ∷ both (hex 0x1_06_2b) 10 1 ∷
     -- byte blocks of 255 and 256, of 65,535 and 65,536
-    (goes 1 (hex 0x1_0b_16_ff ++ replicate 255 7) (29 ∷ 0 ∷ 0 ∷ 0 ∷ 21 ∷ 0 ∷ 3 ∷ 255 ∷ []) ∷ goes 2 (hex 0x1_0b_16_00) (29 ∷ 0 ∷ 0 ∷ 0 ∷ 21 ∷ 0 ∷ 3 ∷ 0 ∷ []) ∷ []) ∷
+    (goes 1 (hex 0x1_0b_16_ff ++ replicate 255 7) (row 29 0 0 0 ∷ row 21 0 3 255 ∷ []) ∷ goes 2 (hex 0x1_0b_16_00) (row 29 0 0 0 ∷ row 21 0 3 0 ∷ []) ∷ []) ∷
     both (hex 0x1_0b_17_00_ff) 11 1 ∷ both (hex 0x1_0b_17_ff_ff) 6 5 ∷ both (hex 0x1_0b_19_00_00_ff_ff) 11 1 ∷ both (hex 0x1_0b_19_00_01_00_00) 6 7 ∷ both (hex 0x1_0b_19_00) 6 4 ∷ both (hex 0x1_0b_16_03_01) 6 5 ∷
     -- agent level 8 and 9, in a list and under `from`
-    (goes 1 (listed 7) (12 ∷ 0 ∷ 0 ∷ 0 ∷ nestedRows 7 1 1) ∷ goes 2 (single 7) (13 ∷ 0 ∷ 0 ∷ 0 ∷ nestedRows 7 1 1) ∷ []) ∷
+    (goes 1 (listed 7) (row 12 0 0 0 ∷ nestedRows 7 1 1) ∷ goes 2 (single 7) (row 13 0 0 0 ∷ nestedRows 7 1 1) ∷ []) ∷
     both (listed 8) 12 33 ∷ both (single 8) 12 33 ∷ [])
 
 abbrev times : ℕ → List ℕ → List ℕ
 times zero s = []
 times (suc n) s = s ++ times n s
 
-abbrev timesRows : ℕ → ℕ → List ℕ
+abbrev timesRows : ℕ → ℕ → List Numbers
 timesRows zero at = baseRowsAt at
 timesRows (suc n) at = extensionRows at ++ timesRows n (at + 17)
 

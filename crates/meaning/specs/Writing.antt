@@ -7,7 +7,8 @@ use lib.ListN.{length}
 use Rattle.meaning.specs.Basics.{pick, isEmpty}
 use Rattle.meaning.specs.Bytes.{textOk, numberOk, dateOk, dateChecks, blockOk, lengthBytes, twoBytes, fourBytes}
 use Rattle.meaning.specs.Kinds.{extensionOpens, baseOpens, standardRepresentation, ownRepresentation, receivedBy}
-use Rattle.meaning.specs.Editions.{Edition, Label, known, unknown, State, state, closed, go, Form, text, date, number, block, itself, opens, quiet, isQuiet, Move, noCode, closing, moves}
+use Rattle.meaning.specs.Told.{Edition, Label, known, unknown}
+use Rattle.meaning.specs.Editions.{State, state, closed, go, Form, text, date, number, block, itself, opens, quiet, isQuiet, Move, noCode, closing, moves}
 use Rattle.meaning.specs.Reading.{Row, Found, none, hit, find, orElse, hasCode, isClosed, tooDeep}
 use Rattle.meaning.specs.Headers.{envelopeMost, envelopesMost, start}
 

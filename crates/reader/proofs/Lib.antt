@@ -1,10 +1,1 @@
-pub mod Logic
-pub mod Stages
-pub mod Steps
-pub mod Values
-pub mod Rooms
-pub mod AgentRooms
-pub mod Headers
-pub mod Frames
-pub mod Turns
 pub mod Memory

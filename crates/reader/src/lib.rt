@@ -1,32 +1,15 @@
 // The reader: a header as rows in lent memory, and the payload behind it.
-mod agents;
-mod envelope;
-mod frame;
-mod header;
-mod kinds;
-mod look;
-mod parameters;
-mod received;
-mod rows;
-mod texts;
-
-use crate::header::read_header;
-use values::Allows;
-ghost use Rattle.reader.specs.Promises.{ReadPromise, PartPromise, PayloadPromise, Counted, Surveyed};
-
-// "either a value with the place after it, or a refusal": the place and the count of rows, or document 01's number and place.
-pub enum Stage {
-    Go { at: usize, rows: usize },
-    Refused { refusal: u32, at: usize },
-}
-
-// "The reader gives answer, place, row count."
-#[repr(C)]
-pub struct Answer {
-    pub answer: u32,
-    pub place: usize,
-    pub rows: usize,
-}
+use read_envelopes::header::read_header;
+use read_rows::Stage;
+use table::refusals::EDITION_UNKNOWN;
+use table::refusals::ROWS_SHORT;
+use table::reply::Reply;
+use table::reply::refused;
+use table::rows::room;
+use table::told::Label;
+use table::told::Told;
+use table::told::label_of;
+ghost use Rattle.reader.specs.Promises.{ReadPromise, PartPromise, PayloadPromise, AcceptedHeader, Surveyed};
 
 // A part of the input: its first place, and the place behind its last byte.
 #[repr(C)]
@@ -35,68 +18,67 @@ pub struct Part {
     pub end: usize,
 }
 
-// The header at the front of `input`, as rows. A refusal changes no row.
+// Takes an edition's number and the input. Fills `rows` with the rows of the header at the input's front, and answers 0, the place
+// behind the header and the count of rows. A refusal is answered by number and place, and changes no row.
 // Two passes of the same functions: the first, over no rows, validates and counts; the second fills.
-pub fn read(edition: u32, input: &[u8], rows: &mut [u32]) -> Answer
+pub fn read(edition: u32, input: &[u8], rows: &mut [u32]) -> Reply
     ensures { λ r. ⌜ ReadPromise edition (now (input .entry)) (now (rows .entry)) r (now (rows .exit)) ⌝ }
 {
     let counted = survey(edition, input, &mut rows[..0]);
     match counted {
-        Stage::Refused { refusal, at } => Answer {
-            answer: refusal,
-            place: at,
-            rows: 0,
-        },
-        Stage::Go { at, rows: n } => fill(edition, input, rows, at, n),
+        Stage::Refused { refusal, at } => refused(refusal, at),
+        Stage::Go(at, n) => fill(edition, input, rows, at, n),
     }
 }
 
-// The first pass. "1: edition not 1 or 2; before all else, 0."
+// One pass over the header. Answers the place behind it and how many rows it has, or the refusal: "1: edition not 1 or 2; before all else, 0."
+// The rows are put where `rows` has room for them: over no rows they are counted, over enough they are filled.
 fn survey(edition: u32, input: &[u8], rows: &mut [u32]) -> Stage
-    ensures { λ r. ⌜ Surveyed edition (now (input .entry)) r ⌝ }
+    ensures { λ r. ⌜ Surveyed edition (now (input .entry)) (now (rows .entry)) r (now (rows .exit)) ⌝ }
 {
-    if edition < 1 {
-        return Stage::Refused { refusal: 1, at: 0 };
-    }
-    if 2 < edition {
-        return Stage::Refused { refusal: 1, at: 0 };
-    }
-    let allows = Allows { edition: edition };
-    read_header(input, rows, allows)
+    let label = label_of(edition);
+    let Label::Known(known) = label else {
+        return Stage::Refused {
+            refusal: EDITION_UNKNOWN,
+            at: 0,
+        };
+    };
+    let told = Told { edition: known };
+    read_header(input, rows, told)
 }
 
-// The rows of a header that is accepted and has n rows. "14: all well, but rows exceed the room."
-fn fill(edition: u32, input: &[u8], rows: &mut [u32], place: usize, n: usize) -> Answer
-    requires { ⌜ Counted edition (now input) place n ⌝ }
+// The second pass, over a header that is accepted and has n rows. "14: all well, but rows exceed the room": then no row changes.
+fn fill(edition: u32, input: &[u8], rows: &mut [u32], place: usize, n: usize) -> Reply
+    requires { ⌜ AcceptedHeader edition (now input) place n ⌝ }
     ensures { λ r. ⌜ ReadPromise edition (now (input .entry)) (now (rows .entry)) r (now (rows .exit)) ⌝ }
 {
-    if rows::room(rows.len()) < n {
-        return Answer {
-            answer: 14,
+    if room(rows.len()) < n {
+        return Reply {
+            answer: ROWS_SHORT,
             place: place,
             rows: n,
         };
     }
-    let allows = Allows { edition: edition };
-    read_header(input, rows, allows);
-    Answer {
+    survey(edition, input, rows);
+    Reply {
         answer: 0,
         place: place,
         rows: n,
     }
 }
 
-// Where the payload lies: from its first byte up to the input's end, or the empty part at the front. C is given these two numbers.
+// Takes an edition's number and the input. Answers where the payload lies: from its first byte up to the input's end, or the empty part
+// at the front where the header is refused. C is given these two numbers.
 pub fn payload_part(edition: u32, input: &[u8]) -> Part
     ensures { λ r. ⌜ PartPromise edition (now (input .entry)) r ⌝ }
 {
     let mut none = [0u32; 1];
     let r = survey(edition, input, &mut none[..0]);
-    let Stage::Go { at: p, rows: _ } = r else {
+    let Stage::Go(first, _) = r else {
         return Part { start: 0, end: 0 };
     };
     Part {
-        start: p,
+        start: first,
         end: input.len(),
     }
 }

@@ -9,54 +9,41 @@ use borrow.Author.Tests.{ltb-true, ltb-false, le-ltb}
 use lib.Dec.{ltb}
 use lib.ListN.{length, getD}
 use Rattle.meaning.specs.Bytes.{Count, counted, short, highFirst, Width, oneByte, twoBytes, fourBytes, bytesOf, tooWide, takeBytes, blockOf, takeBlock}
+use Rattle.meaning.specs.Told.{Told}
 use Rattle.meaning.specs.Kinds.{anyBytes}
-use Rattle.laws.specs.From.{from, from-end, from-cons}
+use Rattle.laws.specs.From.{from, from-length, from-end, from-cons}
+use Rattle.laws.specs.HighFirst.{high-few, high-one, high-two, high-four}
 use Rattle.values.specs.declared.any.Length.{Length}
 use Rattle.values.specs.declared.any.Length.the-variants.{Says, Short}
 use Rattle.values.specs.declared.Value.the-variants.{Is, Refused}
 use Rattle.values.specs.Stages.{span, spans, misses, Valued}
-use Rattle.values.specs.Blocks.{said, Behind, LengthRead}
+use Rattle.values.specs.Blocks.{said, Behind, IsWidth, LengthRead}
 use Rattle.values.specs.Answers.{span-prefixed, answered, refuses}
 
--- the numbers of k bytes are below this
-abbrev pub bound : ℕ → ℕ
-bound zero = 1
-bound (suc k) = 256 * bound k
+-- a length at a place: too few bytes, or one, two or four of them
+module _ (s : List ℕ) (end at width : ℕ) (b : at ≤ end) (l : end ≤ length s) where
+  pub length-short : end - at < width → LengthRead s end at width Short
+  unfolding said Behind
+  length-short h = record { is = high-few width 0 (from s at end) (omega (arith, from-length s at end b l)); ends = tt }
 
-pub small-bound : (k : ℕ) → k < 4 → bound k ≤ 16777216
-small-bound zero h = omega arith
-small-bound (suc zero) h = omega arith
-small-bound (suc (suc zero)) h = omega arith
-small-bound (suc (suc (suc zero))) h = omega arith
-small-bound (suc (suc (suc (suc k)))) h = absurd (omega arith)
+  module _ (h : width ≤ end - at) {value : ℕ} where
+    pub length-one : width ≡ 1 → value ≡ getD s at 0 → LengthRead s end at width (Says value (at + width))
+    unfolding said Behind
+    length-one w q = record { is = rw (w, q) (high-one s end at l (omega arith)); ends = (refl, omega arith) }
 
-pub next-bound : (k : ℕ) → bound (k + 1) ≡ 256 * bound k
-next-bound k = rw (add-one k) refl
+    pub length-two : width ≡ 2 → value ≡ 256 * getD s at 0 + getD s (at + 1) 0 → LengthRead s end at width (Says value (at + width))
+    unfolding said Behind
+    length-two w q = record { is = rw (w, q) (high-two s end at l (omega arith)); ends = (refl, omega arith) }
 
--- a length of `width` bytes at `at`, behind k of them
-module _ (s : List ℕ) (end at width : ℕ) where
-  unfoldable pub lengthFrom : ℕ → ℕ → Count
-  lengthFrom k value = highFirst (width - k) value (from s (at + k) end)
+    pub length-four : width ≡ 4 → value ≡ 65536 * (256 * getD s at 0 + getD s (at + 1) 0) + (256 * getD s (at + 2) 0 + getD s (at + 2 + 1) 0) → LengthRead s end at width (Says value (at + width))
+    unfolding said Behind
+    length-four w q = record { is = rw (w, q) (high-four s end at l (omega arith)); ends = (refl, omega arith) }
 
-  pub length-begins : highFirst width 0 (from s at end) ≡ lengthFrom 0 0
-  unfolding lengthFrom
-  length-begins = let p : width ≡ width - 0 = omega arith in let q : at ≡ at + 0 = omega arith in rw (← p, ← q) refl
-
-  pub length-over : (k value : ℕ) → width ≤ k → lengthFrom k value ≡ counted value (from s (at + k) end)
-  unfolding lengthFrom highFirst
-  length-over k value h = let q : width - k ≡ 0 = omega arith in rw q refl
-
-  module _ (k value : ℕ) (h : k < width) where
-    one-more : width - k ≡ suc (width - (k + 1))
-    one-more = omega arith
-
-    pub length-short : end ≤ at + k → lengthFrom k value ≡ short
-    unfolding lengthFrom highFirst
-    length-short g = rw (one-more, from-end s (at + k) end g) refl
-
-    pub length-goes : end ≤ length s → at + k < end → {b : ℕ} → b ≡ getD s (at + k) 0 → lengthFrom k value ≡ lengthFrom (k + 1) (256 * value + b)
-    unfolding lengthFrom highFirst
-    length-goes l g is = let p : at + k + 1 ≡ at + (k + 1) = omega arith in rw (one-more, from-cons s (at + k) end g l, is, p) refl
+-- a width that is neither 1 nor 2
+pub four-wide : {width : ℕ} → IsWidth width → (width ≡ 1 → ⊥) → (width ≡ 2 → ⊥) → width ≡ 4
+four-wide (oneByte, q) h k = absurd (h (sym q))
+four-wide (twoBytes, q) h k = absurd (k (sym q))
+four-wide (fourBytes, q) h k = sym q
 
 pub take-all : (s : List ℕ) (end : ℕ) → end ≤ length s → (n i k : ℕ) → i + n ≤ end → span k (takeBytes n (from s i end)) ≡ spans (k + n) (from s (i + n) end)
 unfolding takeBytes
@@ -80,48 +67,54 @@ pub length-to : {s : List ℕ} {end at width value after : ℕ} {n : Length} →
 unfolding Behind
 length-to a h = rw h at (a .ends)
 
+some-bytes : (w : Width) → 1 ≤ bytesOf w
+some-bytes oneByte = omega arith
+some-bytes twoBytes = omega arith
+some-bytes fourBytes = omega arith
+
 -- a block behind the code at `at`, whose length was read as n
-module _ (s : List ℕ) (end at width : ℕ) (l : end ≤ length s) (b : at < end) (some : 1 ≤ width) (n : Length) (a : LengthRead s end (at + 1) width n) (w : Width) (hw : bytesOf w ≡ width) where
+module _ (s : List ℕ) (end at width : ℕ) (l : end ≤ length s) (b : at < end) (n : Length) (t : Told) (a : LengthRead s end (at + 1) width n) (w : Width) (hw : bytesOf w ≡ width) where
   length-is : highFirst (bytesOf w) 0 (from s (at + 1) end) ≡ said s end n
   length-is = ap (λ (x : ℕ). highFirst x 0 (from s (at + 1) end)) hw ∙ a .is
 
-  pub block-short : n ≡ Short → Valued s end (at + 1) anyBytes 0 (takeBlock w (end - at) (from s (at + 1) end)) (Refused 6 end)
+  pub block-short : n ≡ Short → Valued s end (at + 1) anyBytes 0 (takeBlock t w (end - at) (from s (at + 1) end)) (Refused 6 end)
   unfolding takeBlock blockOf said
   block-short h = refuses (rw (length-is, h) (ap (misses 6) (omega arith))) (omega arith)
 
-  module _ {value after : ℕ} (h : n ≡ Says value after) {r : Bool} (is : r ≡ tooWide w value) where
-    pub block-wide : r ≡ true → Valued s end (at + 1) anyBytes 0 (takeBlock w (end - at) (from s (at + 1) end)) (Refused 11 at)
+  module _ {value after : ℕ} (h : n ≡ Says value after) {r : Bool} (is : r ≡ tooWide t w value) where
+    pub block-wide : r ≡ true → Valued s end (at + 1) anyBytes 0 (takeBlock t w (end - at) (from s (at + 1) end)) (Refused 11 at)
     unfolding takeBlock blockOf said
     block-wide q = refuses (rw (length-is, h, sym is ∙ q) refl) (omega arith)
 
-    pub block-far : r ≡ false → end - after < value → Valued s end (at + 1) anyBytes 0 (takeBlock w (end - at) (from s (at + 1) end)) (Refused 6 end)
+    pub block-far : r ≡ false → end - after < value → Valued s end (at + 1) anyBytes 0 (takeBlock t w (end - at) (from s (at + 1) end)) (Refused 6 end)
     unfolding takeBlock blockOf said
     block-far q d =
         let (p, e) = length-to a h in
         refuses (rw (length-is, h, sym is ∙ q) (take-short s end l value after 0 e (omega arith) ∙ ap (misses 6) (omega arith))) (omega arith)
 
-    pub block-goes : r ≡ false → value ≤ end - after → Valued s end (at + 1) anyBytes 0 (takeBlock w (end - at) (from s (at + 1) end)) (Is anyBytes after value (after + value))
+    pub block-goes : r ≡ false → value ≤ end - after → Valued s end (at + 1) anyBytes 0 (takeBlock t w (end - at) (from s (at + 1) end)) (Is anyBytes after value (after + value))
     unfolding takeBlock blockOf said
     block-goes q d =
         let (p, e) = length-to a h in
+        let some = some-bytes w in
         answered (rw (length-is, h, sym is ∙ q) (take-all s end l value after 0 (omega arith) ∙ ap (λ (x : ℕ). spans x (from s (after + value) end)) (omega arith)))
         (omega arith) (omega arith) (omega arith) (omega arith)
 
 -- what each width refuses
-pub one-never : (w : Width) (width n : ℕ) → width ≡ 1 → bytesOf w ≡ width → false ≡ tooWide w n
+pub one-never : (t : Told) (w : Width) (width n : ℕ) → width ≡ 1 → bytesOf w ≡ width → false ≡ tooWide t w n
 unfolding tooWide
-one-never oneByte width n h q = sym (le-ltb n 0 (omega arith))
-one-never twoBytes width n h q = absurd (omega arith)
-one-never fourBytes width n h q = absurd (omega arith)
+one-never t oneByte width n h q = sym (le-ltb n 0 (omega arith))
+one-never t twoBytes width n h q = absurd (omega arith)
+one-never t fourBytes width n h q = absurd (omega arith)
 
-pub two-below : (w : Width) (width n : ℕ) → width ≡ 2 → bytesOf w ≡ width → ltb n 256 ≡ tooWide w n
+pub two-below : (t : Told) (w : Width) (width n : ℕ) → width ≡ 2 → bytesOf w ≡ width → ltb n 256 ≡ tooWide t w n
 unfolding tooWide
-two-below oneByte width n h q = absurd (omega arith)
-two-below twoBytes width n h q = refl
-two-below fourBytes width n h q = absurd (omega arith)
+two-below t oneByte width n h q = absurd (omega arith)
+two-below t twoBytes width n h q = refl
+two-below t fourBytes width n h q = absurd (omega arith)
 
-pub four-below : (w : Width) (width n : ℕ) → (width ≡ 1 → ⊥) → (width ≡ 2 → ⊥) → bytesOf w ≡ width → ltb n 65536 ≡ tooWide w n
+pub four-below : (t : Told) (w : Width) (width n : ℕ) → (width ≡ 1 → ⊥) → (width ≡ 2 → ⊥) → bytesOf w ≡ width → ltb n 65536 ≡ tooWide t w n
 unfolding tooWide
-four-below oneByte width n h k q = absurd (h (sym q))
-four-below twoBytes width n h k q = absurd (k (sym q))
-four-below fourBytes width n h k q = refl
+four-below t oneByte width n h k q = absurd (h (sym q))
+four-below t twoBytes width n h k q = absurd (k (sym q))
+four-below t fourBytes width n h k q = refl

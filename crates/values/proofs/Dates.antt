@@ -1,81 +1,22 @@
--- A date at a place in the input: its checks by their number, what each does to the bytes that are left, and what a code says.
-use Prim.Native.Nat.{ℕ, zero, suc, _+_, _-_, _/_, _%_, _≤_, _<_}
-use mathlib.Core.List.{List, [], _∷_}
+-- The bytes of a date: the code's tests are the checks, by their number; and what a code says.
+use Prim.Native.Nat.{ℕ, _+_, _-_, _/_, _%_, _≤_, _<_}
+use mathlib.Core.List.{List}
 use mathlib.Core.Bool.{Bool, true, false, _&&_}
-use mathlib.Core.Path.{_≡_, refl, ap, sym, _∙_}
-use native.Mathlib.Numerals.{add-one}
+use mathlib.Core.Path.{_≡_, refl, sym, _∙_}
 use native.Mathlib.Omega.{arith}
 use borrow.Author.Tests.{eq-eqb, ne-eqb, le-leb, leb-true}
-use lib.Dec.{eqb, leb}
-use lib.ListN.{length, getD}
-use Rattle.meaning.specs.Basics.{pick}
-use Rattle.meaning.specs.Bytes.{Check, half, letter, lastDay, isDigit, twoDigits, pairWithin, passes, dateChecks, takeDate}
+use lib.Dec.{leb}
+use lib.ListN.{getD}
+use Rattle.meaning.specs.Bytes.{half, letter, lastDay, isDigit, twoDigits, pairWithin, passes}
 use Rattle.meaning.specs.Plain.{pairByte}
-use Rattle.meaning.specs.Editions.{Edition, B, D, known, unknown, labelOf, Next, date, on_▸_▸_▸_}
+use Rattle.meaning.specs.Told.{Edition}
+use Rattle.meaning.specs.Editions.{Next, date, on_▸_▸_▸_}
 use Rattle.meaning.specs.Reading.{look, hit, none}
-use Rattle.laws.specs.From.{from, from-length, from-end, from-cons}
 use Rattle.values.specs.declared.date.Form.{Form}
 use Rattle.values.specs.declared.date.Form.the-variants.{Dated, Unknown}
-use Rattle.values.specs.Stages.{Span, span, spans, misses, Bears}
-use Rattle.values.specs.Dates.{reaching, dateLength, absoluteCheck, pairCheck, checkAt, earlier, datesOf, DateCode}
-use Rattle.values.specs.Answers.{span-prefixed}
-use Rattle.values.proofs.Logic.{both-hold}
-
--- the checks of n bytes from byte j on
-abbrev checksFrom : Bool → ℕ → ℕ → List Check
-checksFrom isAbsolute j zero = []
-checksFrom isAbsolute j (suc n) = checkAt isAbsolute j ∷ checksFrom isAbsolute (j + 1) n
-
-all-checks : (isAbsolute designated : Bool) → dateChecks (reaching isAbsolute) designated ≡ checksFrom isAbsolute 0 (dateLength designated)
-all-checks true true = refl
-all-checks true false = refl
-all-checks false true = refl
-all-checks false false = refl
-
-pub positive : (designated : Bool) → 0 < dateLength designated
-positive true = omega arith
-positive false = omega arith
-
--- a date of `many` bytes at `at`, from its byte j on
-module _ (s : List ℕ) (end : ℕ) (at : ℕ) (isAbsolute : Bool) (many : ℕ) where
-  unfoldable pub dateFrom : ℕ → Span
-  dateFrom j = span j (takeDate (checksFrom isAbsolute j (many - j)) (earlier s at j) (from s (at + j) end))
-
-  pub date-begins : (designated : Bool) → many ≡ dateLength designated → span 0 (takeDate (dateChecks (reaching isAbsolute) designated) [] (from s at end)) ≡ dateFrom 0
-  unfolding dateFrom earlier
-  date-begins designated h =
-      let p : at ≡ at + 0 = omega arith in
-      let q : dateLength designated ≡ many - 0 = omega arith in
-      rw (all-checks isAbsolute designated, q) (ap (λ (x : ℕ). span 0 (takeDate (checksFrom isAbsolute 0 (many - 0)) [] (from s x end))) p)
-
-  pub date-over : (j : ℕ) → many ≤ j → dateFrom j ≡ spans j (from s (at + j) end)
-  unfolding dateFrom takeDate
-  date-over j h =
-      let q : many - j ≡ 0 = omega arith in
-      rw q (ap (λ (x : ℕ). spans x (from s (at + j) end)) (omega arith))
-
-  module _ (j : ℕ) (h : j < many) where
-    one-more : many - j ≡ suc (many - (j + 1))
-    one-more = omega arith
-
-    pub date-ends : end ≤ at + j → dateFrom j ≡ misses 6 (end - end)
-    unfolding dateFrom takeDate
-    date-ends g = rw (one-more, from-end s (at + j) end g) (ap (misses 6) (omega arith))
-
-    -- r: whether byte j passes
-    module _ (l : end ≤ length s) (g : at + j < end) {r : Bool} (is : r ≡ passes (checkAt isAbsolute j) (earlier s at j) (getD s (at + j) 0)) where
-      pub date-wrong : r ≡ false → dateFrom j ≡ misses 9 (end - (at + j))
-      unfolding dateFrom takeDate
-      date-wrong q = rw (one-more, from-cons s (at + j) end g l, sym is ∙ q) (ap (misses 9) (omega (arith, from-length s (at + j + 1) end (omega arith) l)))
-
-      pub date-goes : r ≡ true → dateFrom j ≡ dateFrom (j + 1)
-      unfolding dateFrom takeDate earlier
-      date-goes q =
-          let b = getD s (at + j) 0 in
-          let onward = takeDate (checksFrom isAbsolute (j + 1) (many - (j + 1))) (b ∷ earlier s at j) (from s (at + j + 1) end) in
-          let p : at + j + 1 ≡ at + (j + 1) = omega arith in
-          let w : earlier s at (j + 1) ≡ b ∷ earlier s at j = rw (add-one j) refl in
-          rw (one-more, from-cons s (at + j) end g l, sym is ∙ q) (span-prefixed j b onward ∙ rw (w, p) refl)
+use Rattle.values.specs.Stages.{Bears}
+use Rattle.values.specs.Dates.{reaching, absoluteCheck, pairCheck, checkAt, earlier, datesOf, DateCode}
+use Rattle.laws.specs.Logic.{both-hold}
 
 pub day-small : (before : List ℕ) {day : ℕ} → day ≡ lastDay before → day ≤ 99
 unfolding lastDay
@@ -134,17 +75,6 @@ check-absolute j b before h a = a ∙ rw h refl
 pub check-relative : (j b : ℕ) (before : List ℕ) {isAbsolute r : Bool} → isAbsolute ≡ false → r ≡ pairWithin 0 99 b → r ≡ passes (pairCheck isAbsolute j) before b
 unfolding passes
 check-relative j b before h a = a ∙ rw h refl
-
--- the edition behind a number
-pub edition-b : (n : ℕ) (e : Edition) → n ≡ 1 → labelOf n ≡ known e → e ≡ B
-edition-b n e h q = let z : labelOf n ≡ known B = rw (eq-eqb n 1 h) refl in cc
-
-other-edition : (z : Bool) (e : Edition) → pick z (known D) unknown ≡ known e → e ≡ D
-other-edition true e q = cc
-other-edition false e q = let z : _≡_ {A = ℕ} 0 1 = cc in absurd (omega arith)
-
-pub edition-d : (n : ℕ) (e : Edition) → (n ≡ 1 → ⊥) → labelOf n ≡ known e → e ≡ D
-edition-d n e h q = other-edition (eqb n 2) e (rw (ne-eqb n 1 h) at q)
 
 module _ (e : Edition) (code : ℕ) {r : Form} (a : DateCode e code r) where
   pub dated-at : {kind : ℕ} {isAbsolute designated : Bool} → r ≡ Dated kind isAbsolute designated

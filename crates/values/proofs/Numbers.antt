@@ -8,18 +8,13 @@ use borrow.Author.Tests.{eq-eqb, ne-eqb, leb-true}
 use lib.Dec.{eqb, leb}
 use lib.ListN.{length, getD}
 use Rattle.meaning.specs.Bytes.{Taken, took, failed, prefixed, isDigit, digitOf, numberMost, turn, takeNumber}
-use Rattle.meaning.specs.Kinds.{payloadLength}
 use Rattle.meaning.specs.Plain.{numberValue}
 use Rattle.laws.specs.From.{from, from-length, from-end, from-cons}
 use Rattle.values.specs.declared.number.Turning.{Turning}
 use Rattle.values.specs.declared.number.Turning.the-variants.{Stop, More, Wrong}
-use Rattle.values.specs.declared.number.Number.{Number}
 use Rattle.values.specs.declared.number.Number.the-variants.{Counts, Fails}
-use Rattle.values.specs.declared.Value.the-variants.{Is, Refused}
-use Rattle.values.specs.Stages.{Span, span, spans, misses, Valued}
 use Rattle.values.specs.Numbers.{turned, Worth, Turned, Tally, counts, fails, tally, tallied, Ends, Counted}
-use Rattle.values.proofs.Logic.{both-hold}
-use Rattle.values.specs.Answers.{answered, refuses}
+use Rattle.laws.specs.Logic.{both-hold}
 
 -- one byte, with the digits d and e of its halves and whether they are digits
 module _ (number : ℕ) (first : Bool) (b : ℕ) {d e : ℕ} {x y : Bool} (hd : d ≡ digitOf (b / 16)) (he : e ≡ digitOf (b % 16)) (hx : x ≡ isDigit (b / 16)) (hy : y ≡ isDigit (b % 16)) where
@@ -109,32 +104,3 @@ module _ (s : List ℕ) (end : ℕ) (l : end ≤ length s) (at i number : ℕ) (
         let p : i - at + 1 ≡ i + 1 - at = omega arith in
         let onward = takeNumber value false (from s (i + 1) end) in
         rw (from-cons s i end h l, turns (More value) q, ← is) (tally-prefixed (i - at) number value b onward (w .1) ∙ ap (λ (x : ℕ). tally x value onward) p)
-
--- a tally without the number's value
-abbrev valueless : Tally → Span
-valueless (counts length value rest) = spans length rest
-valueless (fails refusal left) = misses refusal left
-
-span-tally : (k number : ℕ) (t : Taken) → span k t ≡ valueless (tally k number t)
-span-tally k number (took v rest) = refl
-span-tally k number (failed refusal left) = refl
-
-module _ {s : List ℕ} {end at : ℕ} {r : Number} (a : Counted s end at r) where
-  pub counted-to : {value after : ℕ} → r ≡ Counts value after → (at < after) × (after ≤ end)
-  unfolding Ends
-  counted-to h = rw h at (a .ends)
-
-  pub counted-fault : {refusal place : ℕ} → r ≡ Fails refusal place → place ≤ end
-  unfolding Ends
-  counted-fault h = rw h at (a .ends)
-
-  spans-counted : span 0 (takeNumber 0 true (from s at end)) ≡ valueless (tallied s end at r)
-  spans-counted = span-tally 0 0 (takeNumber 0 true (from s at end)) ∙ ap valueless (a .is)
-
-  pub counted-is : {value after : ℕ} → r ≡ Counts value after → Valued s end at payloadLength 0 (takeNumber 0 true (from s at end)) (Is payloadLength at (after - at) after)
-  unfolding tallied
-  counted-is h = let p = counted-to h in answered (spans-counted ∙ ap (λ (x : Number). valueless (tallied s end at x)) h) (omega arith) (omega arith) (p .0) (p .1)
-
-  pub counted-refused : {refusal place : ℕ} → r ≡ Fails refusal place → Valued s end at payloadLength 0 (takeNumber 0 true (from s at end)) (Refused refusal place)
-  unfolding tallied
-  counted-refused h = refuses (spans-counted ∙ ap (λ (x : Number). valueless (tallied s end at x)) h) (counted-fault h)

@@ -10,7 +10,7 @@ use lib.ListN.{length, getD}
 use Rattle.meaning.specs.Bytes.{Taken, took, failed, textByte, takeText}
 use Rattle.laws.specs.From.{from, from-length, from-end, from-cons}
 use Rattle.values.specs.Stages.{spans, misses, span, Skipped, textRun}
-use Rattle.values.proofs.Logic.{both-hold}
+use Rattle.laws.specs.Logic.{both-hold}
 use Rattle.values.specs.Answers.{span-prefixed}
 
 pub is-text : (b : ℕ) → 32 ≤ b → textByte b ≡ true

@@ -6,8 +6,9 @@ use mathlib.Core.Path.{_≡_}
 use lib.Dec.{eqb}
 use lib.ListN.{getD}
 use Rattle.meaning.specs.Basics.{pick}
-use Rattle.meaning.specs.Bytes.{Check, pair, day, half, letter, anyPair, Reach, absolute, relative}
-use Rattle.meaning.specs.Editions.{Edition, Next, Move, date, sharedDate, ownDates, on_▸_▸_▸_}
+use Rattle.meaning.specs.Bytes.{Check, pair, day, half, letter, anyPair, passes, Reach, absolute, relative}
+use Rattle.meaning.specs.Told.{Edition}
+use Rattle.meaning.specs.Editions.{Next, Move, date, sharedDate, ownDates, on_▸_▸_▸_}
 use Rattle.meaning.specs.Reading.{look, none, hit}
 use Rattle.values.specs.declared.date.Form.{Form}
 use Rattle.values.specs.declared.date.Form.the-variants.{Dated, Unknown}
@@ -37,6 +38,11 @@ checkAt isAbsolute j = pick (eqb j 8) half (pick (eqb j 9) letter (pairCheck isA
 unfoldable pub earlier : List ℕ → ℕ → ℕ → List ℕ
 earlier s at zero = []
 earlier s at (suc j) = getD s (at + j) 0 ∷ earlier s at j
+
+-- the first n bytes of a date pass their checks
+abbrev pub Passing : List ℕ → ℕ → Bool → ℕ → Type 0
+Passing s at isAbsolute zero = Unit {0}
+Passing s at isAbsolute (suc n) = Passing s at isAbsolute n × (passes (checkAt isAbsolute n) (earlier s at n) (getD s (at + n) 0) ≡ true)
 
 -- the moves of a room that has a date
 abbrev pub datesOf : Edition → Next → List Move

@@ -2,6 +2,7 @@
 pub mod Stages
 pub mod Answers
 pub mod Numbers
+pub mod Counting
 pub mod Dates
+pub mod DateSteps
 pub mod Blocks
-pub mod Plain

@@ -7,6 +7,7 @@ use lib.Dec.{eqb}
 use mathlib.Core.Path.{_≡_}
 use lib.ListN.{length, getD}
 use Rattle.meaning.specs.Bytes.{Taken, took, failed, textByte, takeText}
+use Rattle.meaning.specs.Told.{Told}
 use Rattle.meaning.specs.Kinds.{agentName}
 use Rattle.meaning.specs.Editions.{Next, Move, Form, isQuiet, noCode, on_▸_▸_▸_}
 use Rattle.meaning.specs.Reading.{look, none, hit, takeValue, reachBack}
@@ -25,9 +26,9 @@ span before (took v rest) = spans (before + length v) rest
 span before (failed refusal left) = misses refusal left
 
 -- "either a value with the place after it, or a refusal": what each case of the enum says
-unfoldable pub told : List ℕ → ℕ → Value → Span
-told s end (Is kind start length after) = spans length (from s after end)
-told s end (Refused refusal at) = misses refusal (end - at)
+unfoldable pub spanOf : List ℕ → ℕ → Value → Span
+spanOf s end (Is kind start length after) = spans length (from s after end)
+spanOf s end (Refused refusal at) = misses refusal (end - at)
 
 -- where a value stands: its row has this kind and begins `back` bytes and its length before the place after it, which is behind `at`
 unfoldable pub Stands : ℕ → ℕ → ℕ → ℕ → Value → Type 0
@@ -36,7 +37,7 @@ Stands end at kind back (Refused refusal place) = place ≤ end
 
 -- a stage's answer for the value that `meaning` takes at a place
 pub record Valued (s : List ℕ) (end at kind back : ℕ) (taken : Taken) (answer : Value) : Type 0 where
-  pub is : span 0 taken ≡ told s end answer
+  pub is : span 0 taken ≡ spanOf s end answer
   pub stands : Stands end at kind back answer
 
 -- a move that has a code and a row, and is no agent's
@@ -47,13 +48,13 @@ pub record Bears (code kind : ℕ) (form : Form) : Type 0 where
 
 -- a stage's answer where a room's moves begin at a code, whichever room is next:
 -- "6: a byte is needed at the declared end"; a code that is in no move, with its refusal; or the code's move and its value
-pub data Coded (moves : Next → List Move) (strange : ℕ) (s : List ℕ) (end at : ℕ) : Value → Type 0 where
-  ended : at ≡ end → Coded moves strange s end at (Refused 6 at)
-  unknown : at < end → ((n : Next) → look (getD s at 0) (moves n) ≡ none) → Coded moves strange s end at (Refused strange at)
+pub data Coded (t : Told) (moves : Next → List Move) (strange : ℕ) (s : List ℕ) (end at : ℕ) : Value → Type 0 where
+  ended : at ≡ end → Coded t moves strange s end at (Refused 6 at)
+  unknown : at < end → ((n : Next) → look (getD s at 0) (moves n) ≡ none) → Coded t moves strange s end at (Refused strange at)
   valued : {answer : Value} (kind : ℕ) (form : Form) → at < end → Bears (getD s at 0) kind form
       → ((n : Next) → look (getD s at 0) (moves n) ≡ hit (on getD s at 0 ▸ kind ▸ form ▸ n))
-      → Valued s end at kind (reachBack form) (takeValue form (end - at) (getD s at 0) (from s (at + 1) end)) answer
-      → Coded moves strange s end at answer
+      → Valued s end at kind (reachBack form) (takeValue t form (end - at) (getD s at 0) (from s (at + 1) end)) answer
+      → Coded t moves strange s end at answer
 
 -- what a stage asks: a place up to the declared end, which is in the input
 pub record Inside (s : List ℕ) (end at : ℕ) : Type 0 where

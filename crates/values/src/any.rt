@@ -1,19 +1,24 @@
 // "Any-value: 14 and a text, or 16, 17, 19 with a length of 1, 2, 4 bytes (high first) and that many bytes."
-use crate::BYTE_NEEDED;
-use crate::CODE_NOT_ALLOWED;
-use crate::LENGTH_TOO_WIDE;
 use crate::Value;
-use crate::kinds::ANY_BYTES;
-use crate::kinds::ANY_TEXT;
+use crate::bytes::four_bytes;
+use crate::bytes::one_byte;
+use crate::bytes::two_bytes;
 use crate::text;
+use table::kinds::ANY_BYTES;
+use table::kinds::ANY_TEXT;
+use table::refusals::CODE_WRONG;
+use table::refusals::ENVELOPE_ENDS;
+use table::refusals::LENGTH_FORM_WIDE;
+use table::told::Told;
 ghost use mathlib.Core.Path.{_≡_};
 ghost use Prim.Native.Nat.{_+_, _-_, _≤_, _<_};
 ghost use Rattle.meaning.specs.Bytes.{Width, bytesOf, tooWide, takeBlock};
 ghost use Rattle.meaning.specs.Kinds.{anyBytes};
 ghost use Rattle.meaning.specs.Editions.{anyValues};
 ghost use Rattle.laws.specs.From.{from};
+ghost use Rattle.table.specs.Told.{toldOf};
 ghost use Rattle.values.specs.Stages.{Inside, Valued, Coded};
-ghost use Rattle.values.specs.Blocks.{BlockAt, LengthRead};
+ghost use Rattle.values.specs.Blocks.{BlockAt, IsWidth, LengthRead};
 
 // A number of some bytes and the place after it, or too few bytes.
 pub enum Length {
@@ -22,13 +27,13 @@ pub enum Length {
 }
 
 // An any-value from its code on.
-pub fn take(s: &[u8], end: usize, at: usize) -> Value
+pub fn take(s: &[u8], end: usize, at: usize, told: Told) -> Value
     requires { ⌜ Inside (now s) end at ⌝ }
-    ensures { λ r. ⌜ Coded anyValues 7 (now (s .entry)) end at r ⌝ }
+    ensures { λ r. ⌜ Coded (toldOf told) anyValues 7 (now (s .entry)) end at r ⌝ }
 {
     if end <= at {
         return Value::Refused {
-            refusal: BYTE_NEEDED,
+            refusal: ENVELOPE_ENDS,
             at: at,
         };
     }
@@ -36,38 +41,38 @@ pub fn take(s: &[u8], end: usize, at: usize) -> Value
     let first = at + 1;
     match code {
         0x14 => text::take(s, end, first, ANY_TEXT),
-        0x16 => block(s, end, at, 1),
-        0x17 => block(s, end, at, 2),
-        0x19 => block(s, end, at, 4),
+        0x16 => block(s, end, at, 1, told),
+        0x17 => block(s, end, at, 2, told),
+        0x19 => block(s, end, at, 4, told),
         _ => Value::Refused {
-            refusal: CODE_NOT_ALLOWED,
+            refusal: CODE_WRONG,
             at: at,
         },
     }
 }
 
 // Bytes behind a length of so many bytes. "11 comes after the length bytes, before the block", at the code.
-fn block(s: &[u8], end: usize, at: usize, width: usize) -> Value
+fn block(s: &[u8], end: usize, at: usize, width: usize, told: Told) -> Value
     requires { ⌜ BlockAt (now s) end at width ⌝ }
-    ensures { λ r. ⌜ ((w : Width) → bytesOf w ≡ width → Valued (now (s .entry)) end (at + 1) anyBytes 0 (takeBlock w (end - at) (from (now (s .entry)) (at + 1) end)) r) ⌝ }
+    ensures { λ r. ⌜ ((w : Width) → bytesOf w ≡ width → Valued (now (s .entry)) end (at + 1) anyBytes 0 (takeBlock (toldOf told) w (end - at) (from (now (s .entry)) (at + 1) end)) r) ⌝ }
 {
     let first = at + 1;
-    let n = high_first(s, end, first, width);
+    let n = length_at(s, end, first, width);
     let Length::Says { value, after } = n else {
         return Value::Refused {
-            refusal: BYTE_NEEDED,
+            refusal: ENVELOPE_ENDS,
             at: end,
         };
     };
-    if too_wide(width, value) {
+    if too_wide(width, value, told) {
         return Value::Refused {
-            refusal: LENGTH_TOO_WIDE,
+            refusal: LENGTH_FORM_WIDE,
             at: at,
         };
     }
     if end - after < value {
         return Value::Refused {
-            refusal: BYTE_NEEDED,
+            refusal: ENVELOPE_ENDS,
             at: end,
         };
     }
@@ -80,9 +85,9 @@ fn block(s: &[u8], end: usize, at: usize, width: usize) -> Value
     }
 }
 
-// "The shortest length form is required."
-fn too_wide(width: usize, n: usize) -> bool
-    ensures { λ r. ⌜ ((w : Width) → bytesOf w ≡ width → r ≡ tooWide w n) ⌝ }
+// "The shortest length form is required": whether a length of n stands in too wide a form.
+fn too_wide(width: usize, n: usize, told: Told) -> bool
+    ensures { λ r. ⌜ ((w : Width) → bytesOf w ≡ width → r ≡ tooWide (toldOf told) w n) ⌝ }
 {
     match width {
         1 => false,
@@ -91,29 +96,27 @@ fn too_wide(width: usize, n: usize) -> bool
     }
 }
 
-fn high_first(s: &[u8], end: usize, at: usize, width: usize) -> Length
-    requires { ⌜ (Inside (now s) end at) × (width ≤ 4) ⌝ }
+// Takes the place of a length of 1, 2 or 4 bytes, high first. Answers it and the place behind it; or that bytes are missing.
+fn length_at(s: &[u8], end: usize, at: usize, width: usize) -> Length
+    requires { ⌜ (Inside (now s) end at) × (IsWidth width) ⌝ }
     ensures { λ r. ⌜ LengthRead (now (s .entry)) end at width r ⌝ }
 {
-    let mut value: usize = 0;
-    let mut k: usize = 0;
-    while k < width {
-        if end - at <= k {
-            return Length::Short;
-        }
-        let i = at + k;
-        value = 256 * value + wide(s[i]);
-        k += 1;
+    if end - at < width {
+        return Length::Short;
     }
-    let after = at + k;
-    Length::Says {
-        value: value,
-        after: after,
+    let after = at + width;
+    match width {
+        1 => Length::Says {
+            value: one_byte(s, at),
+            after: after,
+        },
+        2 => Length::Says {
+            value: two_bytes(s, at),
+            after: after,
+        },
+        _ => Length::Says {
+            value: four_bytes(s, at),
+            after: after,
+        },
     }
-}
-
-fn wide(b: u8) -> usize
-    ensures { λ r. ⌜ r ≡ b ⌝ }
-{
-    b as usize
 }

@@ -1,23 +1,25 @@
 // "Date: a code, then year 4 digits, month, day, hour, minute, second 2 each, millisecond 3 digits and four zero bits."
-use crate::Allows;
-use crate::BYTE_NEEDED;
-use crate::DATE_WRONG;
 use crate::Value;
+use crate::bytes::wide;
 use crate::digits::is_digit;
-use crate::digits::wide;
-use crate::encode::pair_byte;
-use crate::kinds::DATE_ABSOLUTE;
-use crate::kinds::DATE_BACKWARD;
-use crate::kinds::DATE_FORWARD;
+use crate::digits::pair_byte;
+use table::kinds::DATE_ABSOLUTE;
+use table::kinds::DATE_BACKWARD;
+use table::kinds::DATE_FORWARD;
+use table::refusals::DATE_WRONG;
+use table::refusals::ENVELOPE_ENDS;
+use table::told::Edition;
 ghost use mathlib.Core.Path.{_≡_};
 ghost use mathlib.Core.List.{List, []};
+ghost use mathlib.Core.Bool.{true};
 ghost use Prim.Native.Nat.{ℕ, _+_, _≤_, _<_};
 ghost use lib.ListN.{length, getD};
 ghost use Rattle.meaning.specs.Bytes.{pairWithin, passes, half, letter, lastDay, dateChecks, takeDate};
-ghost use Rattle.meaning.specs.Editions.{Edition, B, D, known, labelOf};
+ghost use Rattle.meaning.specs.Told.{Told, B, D};
 ghost use Rattle.laws.specs.From.{from};
+ghost use Rattle.table.specs.Told.{editionOf};
 ghost use Rattle.values.specs.Stages.{Inside, Valued, Coded};
-ghost use Rattle.values.specs.Dates.{reaching, absoluteCheck, checkAt, earlier, dateLength, DateCode, datesOf};
+ghost use Rattle.values.specs.Dates.{reaching, absoluteCheck, checkAt, earlier, dateLength, Passing, DateCode, datesOf};
 
 // What a date's code says: its kind, whether it is absolute, and whether a designator follows.
 pub enum Form {
@@ -25,31 +27,18 @@ pub enum Form {
     Unknown,
 }
 
-// A plain date: "the seven components and a designator, 0 for none"
-#[repr(C)]
-pub struct Date {
-    pub year: u32,
-    pub month: u32,
-    pub day: u32,
-    pub hour: u32,
-    pub minute: u32,
-    pub second: u32,
-    pub millisecond: u32,
-    pub designator: u32,
-}
-
 // A date from its code on.
-pub fn take(s: &[u8], end: usize, at: usize, allows: Allows) -> Value
+pub fn take(s: &[u8], end: usize, at: usize, edition: Edition) -> Value
     requires { ⌜ Inside (now s) end at ⌝ }
-    ensures { λ r. ⌜ ((e : Edition) → labelOf (allows .edition) ≡ known e → Coded (datesOf e) 9 (now (s .entry)) end at r) ⌝ }
+    ensures { λ r. ⌜ ((t : Told) → Coded t (datesOf (editionOf edition)) 9 (now (s .entry)) end at r) ⌝ }
 {
     if end <= at {
         return Value::Refused {
-            refusal: BYTE_NEEDED,
+            refusal: ENVELOPE_ENDS,
             at: at,
         };
     }
-    let f = form_of(allows, wide(s[at]));
+    let f = form_of(edition, wide(s[at]));
     let Form::Dated(kind, absolute, designated) = f else {
         return Value::Refused {
             refusal: DATE_WRONG,
@@ -66,11 +55,11 @@ pub fn bytes(s: &[u8], end: usize, at: usize, kind: u32, absolute: bool, designa
     ensures { λ r. ⌜ Valued (now (s .entry)) end at kind 0 (takeDate (dateChecks (reaching absolute) designated) [] (from (now (s .entry)) at end)) r ⌝ }
 {
     let length = length_of(designated);
-    let mut j: usize = 0;
+    let mut j = passed(s, end, at, absolute);
     while j < length {
         if end - at <= j {
             return Value::Refused {
-                refusal: BYTE_NEEDED,
+                refusal: ENVELOPE_ENDS,
                 at: end,
             };
         }
@@ -93,6 +82,7 @@ pub fn bytes(s: &[u8], end: usize, at: usize, kind: u32, absolute: bool, designa
     }
 }
 
+// How many bytes a date has, with a designator or without.
 pub fn length_of(designated: bool) -> usize
     ensures { λ r. ⌜ r ≡ dateLength designated ⌝ }
 {
@@ -100,6 +90,32 @@ pub fn length_of(designated: bool) -> usize
         return 10;
     }
     9
+}
+
+// How many bytes of a date pass at a first look: all nine, where they are there and pass together, or none.
+fn passed(s: &[u8], end: usize, at: usize, absolute: bool) -> usize
+    requires { ⌜ Inside (now s) end at ⌝ }
+    ensures { λ r. ⌜ (r ≤ 9) × (at + r ≤ end) × Passing (now (s .entry)) at absolute r ⌝ }
+{
+    if end - at < 9 {
+        return 0;
+    }
+    if nine_pass(s, at, absolute) {
+        return 9;
+    }
+    0
+}
+
+// Whether the nine bytes of the date that begins at `at` all pass their checks.
+fn nine_pass(s: &[u8], at: usize, absolute: bool) -> bool
+    requires { ⌜ at + 9 ≤ length (now s) ⌝ }
+    ensures { λ r. ⌜ (r ≡ true → Passing (now (s .entry)) at absolute 9) ⌝ }
+{
+    let year = byte_passes(s, at, 0, absolute) & byte_passes(s, at, 1, absolute);
+    let day = byte_passes(s, at, 2, absolute) & byte_passes(s, at, 3, absolute);
+    let minute = byte_passes(s, at, 4, absolute) & byte_passes(s, at, 5, absolute);
+    let second = byte_passes(s, at, 6, absolute) & byte_passes(s, at, 7, absolute);
+    year & day & minute & second & byte_passes(s, at, 8, absolute)
 }
 
 // Whether byte j of the date that begins at `at` passes its check.
@@ -168,15 +184,15 @@ fn is_letter(b: u32) -> bool
     ((0x41 <= b) & (b <= 0x5a)) | ((0x61 <= b) & (b <= 0x7a))
 }
 
-fn form_of(allows: Allows, code: u32) -> Form
+// Takes a date's code. Answers what it says in the edition.
+fn form_of(edition: Edition, code: u32) -> Form
     requires { ⌜ code < 256 ⌝ }
-    ensures { λ r. ⌜ ((e : Edition) → labelOf (allows .edition) ≡ known e → DateCode e code r) ⌝ }
+    ensures { λ r. ⌜ DateCode (editionOf edition) code r ⌝ }
 {
-    let edition = allows.edition;
-    if edition == 1 {
-        return form_in_b(code);
+    match edition {
+        Edition::B => form_in_b(code),
+        Edition::D => form_in_d(code),
     }
-    form_in_d(code)
 }
 
 // "Codes in B: 20 absolute, 21 absolute with designator."

@@ -1,8 +1,10 @@
 // "Coded digits: digit n is the four bits n+1; the high four bits are the earlier digit."
 ghost use mathlib.Core.Path.{_≡_};
-ghost use Prim.Native.Nat.{_<_};
+ghost use Prim.Native.Nat.{_≤_, _<_};
 ghost use Rattle.meaning.specs.Bytes.{isDigit, digitOf, twoDigits};
+ghost use Rattle.meaning.specs.Plain.{pairByte};
 
+// Whether four bits code a digit.
 pub fn is_digit(bits: u32) -> bool
     ensures { λ r. ⌜ r ≡ isDigit bits ⌝ }
 {
@@ -19,6 +21,7 @@ pub fn digit(bits: u32) -> u32
     bits - 1
 }
 
+// The number of the two digits of a byte.
 pub fn two_digits(b: u32) -> u32
     requires { ⌜ b < 256 ⌝ }
     ensures { λ r. ⌜ r ≡ twoDigits b ⌝ }
@@ -26,8 +29,10 @@ pub fn two_digits(b: u32) -> u32
     10 * digit(b / 16) + digit(b % 16)
 }
 
-pub fn wide(b: u8) -> u32
-    ensures { λ r. ⌜ r ≡ b ⌝ }
+// The byte that codes the two digits of a number up to 99.
+pub fn pair_byte(x: u32) -> u8
+    requires { ⌜ x ≤ 99 ⌝ }
+    ensures { λ r. ⌜ r ≡ pairByte x ⌝ }
 {
-    b as u32
+    (16 * (x / 10 + 1) + (x % 10 + 1)) as u8
 }

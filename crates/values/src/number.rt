@@ -1,19 +1,19 @@
 // "Payload length has no identifier byte. It has decimal digits only, no leading zero, and at most 4,294,967,295."
-use crate::BYTE_NEEDED;
-use crate::NUMBER_WRONG;
 use crate::Value;
+use crate::bytes::wide;
 use crate::digits::digit;
 use crate::digits::is_digit;
-use crate::digits::wide;
-use crate::kinds::PAYLOAD_LENGTH;
+use table::kinds::PAYLOAD_LENGTH;
+use table::refusals::ENVELOPE_ENDS;
+use table::refusals::NUMBER_WRONG;
 ghost use mathlib.Core.Path.{_≡_};
 ghost use mathlib.Core.Bool.{true};
-ghost use Prim.Native.Nat.{_-_, _*_, _%_, _≤_, _<_};
+ghost use Prim.Native.Nat.{_≤_, _<_};
 ghost use Rattle.meaning.specs.Bytes.{takeNumber, numberMost};
 ghost use Rattle.meaning.specs.Kinds.{payloadLength};
 ghost use Rattle.laws.specs.From.{from};
 ghost use Rattle.values.specs.Stages.{Inside, Valued};
-ghost use Rattle.values.specs.Numbers.{Turned, Counted, HasDigits, quotient, packedByte};
+ghost use Rattle.values.specs.Numbers.{Turned, Counted};
 
 pub const MOST: u64 = 4294967295;
 
@@ -50,7 +50,7 @@ pub fn take(s: &[u8], end: usize, at: usize) -> Value
     }
 }
 
-// The same, with what it is worth.
+// A payload length from its first byte on: its value and the place behind it, or the refusal.
 pub fn count(s: &[u8], end: usize, at: usize) -> Number
     requires { ⌜ Inside (now s) end at ⌝ }
     ensures { λ r. ⌜ Counted (now (s .entry)) end at r ⌝ }
@@ -77,7 +77,7 @@ pub fn count(s: &[u8], end: usize, at: usize) -> Number
         }
     }
     Number::Fails {
-        refusal: BYTE_NEEDED,
+        refusal: ENVELOPE_ENDS,
         at: i,
     }
 }
@@ -107,49 +107,4 @@ fn turn(number: u64, first: bool, b: u32) -> Turning
         }
     }
     Turning::Wrong
-}
-
-// How many decimal digits a number has.
-pub fn digit_count(value: u64) -> usize
-    requires { ⌜ value ≤ numberMost ⌝ }
-    ensures { λ r. ⌜ (1 ≤ r) × (r ≤ 10) × HasDigits r value ⌝ }
-{
-    let mut rest = value;
-    let mut more: usize = 0;
-    while 10 <= rest {
-        rest = rest / 10;
-        more += 1;
-    }
-    more + 1
-}
-
-// Byte j of a number of n digits: two of them, or the last one and four zero bits, or the 00 behind an even count.
-pub fn coded_byte(value: u64, n: usize, j: usize) -> u8
-    requires { ⌜ (n ≤ 10) × (j ≤ 5) ⌝ }
-    ensures { λ r. ⌜ r ≡ packedByte value (n - 2 * j) ⌝ }
-{
-    let before = 2 * j;
-    if n <= before {
-        return 0;
-    }
-    let left = n - before;
-    let high = 16 * (digit_at(value, left - 1) + 1);
-    if left == 1 {
-        return high as u8;
-    }
-    let low = digit_at(value, left - 2) + 1;
-    (high + low) as u8
-}
-
-// The digit of a number behind which so many more stand.
-fn digit_at(value: u64, behind: usize) -> u64
-    ensures { λ r. ⌜ r ≡ quotient behind value % 10 ⌝ }
-{
-    let mut rest = value;
-    let mut k: usize = 0;
-    while k < behind {
-        rest = rest / 10;
-        k += 1;
-    }
-    rest % 10
 }

@@ -1,21 +1,22 @@
 // "Representation: 10, 11 or 12, or 00 and a text."
-use crate::BYTE_NEEDED;
-use crate::CODE_NOT_ALLOWED;
 use crate::Value;
-use crate::kinds::OWN_REPRESENTATION;
-use crate::kinds::STANDARD_REPRESENTATION;
 use crate::text;
+use table::kinds::OWN_REPRESENTATION;
+use table::kinds::STANDARD_REPRESENTATION;
+use table::refusals::CODE_WRONG;
+use table::refusals::ENVELOPE_ENDS;
+ghost use Rattle.meaning.specs.Told.{Told};
 ghost use Rattle.meaning.specs.Editions.{representations};
 ghost use Rattle.values.specs.Stages.{Inside, Coded};
 
 // A representation from its code on; the standard ones are the code itself.
 pub fn take(s: &[u8], end: usize, at: usize) -> Value
     requires { ⌜ Inside (now s) end at ⌝ }
-    ensures { λ r. ⌜ Coded representations 7 (now (s .entry)) end at r ⌝ }
+    ensures { λ r. ⌜ ((t : Told) → Coded t representations 7 (now (s .entry)) end at r) ⌝ }
 {
     if end <= at {
         return Value::Refused {
-            refusal: BYTE_NEEDED,
+            refusal: ENVELOPE_ENDS,
             at: at,
         };
     }
@@ -30,7 +31,7 @@ pub fn take(s: &[u8], end: usize, at: usize) -> Value
             after: first,
         },
         _ => Value::Refused {
-            refusal: CODE_NOT_ALLOWED,
+            refusal: CODE_WRONG,
             at: at,
         },
     }

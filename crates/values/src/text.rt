@@ -1,7 +1,7 @@
 // "Text: bytes 20 to FF (hex), possibly none, then 00."
-use crate::BYTE_NEEDED;
-use crate::TEXT_WRONG;
 use crate::Value;
+use table::refusals::ENVELOPE_ENDS;
+use table::refusals::TEXT_WRONG;
 ghost use mathlib.Core.Path.{_≡_};
 ghost use Prim.Native.Nat.{_+_, _-_, _≤_, _<_};
 ghost use lib.ListN.{length};
@@ -20,7 +20,7 @@ pub fn take(s: &[u8], end: usize, at: usize, kind: u32) -> Value
     let i = run(s, end, at);
     if end <= i {
         return Value::Refused {
-            refusal: BYTE_NEEDED,
+            refusal: ENVELOPE_ENDS,
             at: i,
         };
     }

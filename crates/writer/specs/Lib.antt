@@ -1,10 +1,1 @@
-pub mod Edition
-pub mod Laying
-pub mod Bodies
-pub mod Codes
-pub mod Rooms
-pub mod Stages
-pub mod Turns
-pub mod Parameters
-pub mod Whole
 pub mod Promise

@@ -3,20 +3,15 @@ use Prim.Native.Nat.{ℕ}
 use mathlib.Core.List.{List}
 use mathlib.Core.Path.{_≡_}
 use Rattle.meaning.specs.Writing.{Written}
-use Rattle.meaning.specs.Memory.{Reply, reply, roomOf, writeReply, writeMemory, writeAnswer, writeOutput}
-use Rattle.writer.specs.declared.Answer.{Answer}
+use Rattle.meaning.specs.Memory.{roomOf, writeReply, writeMemory, writeAnswer, writeOutput}
+use Rattle.table.specs.declared.reply.Reply.{Reply}
+use Rattle.table.specs.Reply.{replyOf}
 
-abbrev pub replyOf : Answer → Reply
-replyOf a = reply (a .answer) (a .place) (a .rows)
-
-pub record WritePromise (edition : ℕ) (rows pool before : List ℕ) (answer : Answer) (after : List ℕ) : Type 0 where
+pub record WritePromise (edition : ℕ) (rows pool before : List ℕ) (answer : Reply) (after : List ℕ) : Type 0 where
   pub answers : replyOf answer ≡ writeAnswer edition rows pool before
   pub leaves : after ≡ writeOutput edition rows pool before
 
-abbrev pub refusedAt : ℕ → ℕ → Answer
-refusedAt answer place = record { answer = answer; place = place; rows = 0 }
-
 -- the same of one edition, over what it writes
-pub record WrittenAs (w : Written) (rows before : List ℕ) (answer : Answer) (after : List ℕ) : Type 0 where
+pub record WrittenAs (w : Written) (rows before : List ℕ) (answer : Reply) (after : List ℕ) : Type 0 where
   pub answers : replyOf answer ≡ writeReply (roomOf rows) w
   pub leaves : after ≡ writeMemory before w

@@ -15,7 +15,7 @@ field-requires-2 c κs =
     let start = c .before .before .before .before .before .before in
     let at-field = c .before .before .before in
     let a = start .args in
-    omega (arith, start .pre, at-field .field .kept .1 .1 .0, field-end (a .answer) 9 (at-field .field .ensures), ten-digits (a .answer) (omega arith), twenty-digits (a .place) (omega arith))
+    omega (arith, start .pre, at-field .field .kept .0, field-end (a .answer) 9 (at-field .field .ensures), ten-digits (a .answer) (omega arith), twenty-digits (a .place) (omega arith))
 
 field-requires-3 : tie.Need-field-requires-3
 field-requires-3 c κs =
@@ -23,13 +23,13 @@ field-requires-3 c κs =
     let at-field = c .before .before .before .before .before .before .before in
     let at-field2 = c .before .before .before in
     let a = start .args in
-    omega (arith, start .pre, at-field .field .kept .1 .1 .0, at-field2 .field2 .kept .1 .1 .0, field-end (a .answer) 9 (at-field .field .ensures), field-end (a .place) 9 (at-field2 .field2 .ensures), ten-digits (a .answer) (omega arith), twenty-digits (a .place) (omega arith), twenty-digits (a .count) (omega arith))
+    omega (arith, start .pre, at-field .field .kept .0, at-field2 .field2 .kept .0, field-end (a .answer) 9 (at-field .field .ensures), field-end (a .place) 9 (at-field2 .field2 .ensures), ten-digits (a .answer) (omega arith), twenty-digits (a .place) (omega arith), twenty-digits (a .count) (omega arith))
 
 same-length : tie.Need-same-length
 same-length c =
     let at-field = c .before .before .before .before .before .before .before .before .before .before in
     let at-field2 = c .before .before .before .before .before .before in
-    c .before .before .field3 .kept .1 .1 .0 ∙ at-field2 .field2 .kept .1 .1 .0 ∙ at-field .field .kept .1 .1 .0
+    c .before .before .field3 .kept .0 ∙ at-field2 .field2 .kept .0 ∙ at-field .field .kept .0
 
 returns : tie.Need-returns
 returns c =

@@ -20,10 +20,10 @@ enum-told : tie.Need-enum-told
 enum-told c = search needs
 
 returns : tie.Need-returns
-returns c = no-part (c .before .before .before .before .before .before .args .edition) (c .before .before .before .before .before .before .args .input .now) (c .enum-told .given .1) (c .before .before .before .survey .ensures)
+returns c = let a = c .before .before .before .before .before .before .args in no-part (a .edition) (a .input .now) _ _ (c .enum-told .given .1) (c .before .before .before .survey .ensures)
 
 returns-2 : tie.Need-returns-2
-returns-2 c = the-part (c .before .before .before .before .before .before .before .args .edition) (c .before .before .before .before .before .before .before .args .input .now) (c .before .r .given .1) (c .before .before .before .before .survey .ensures)
+returns-2 c = let a = c .before .before .before .before .before .before .before .args in the-part (a .edition) (a .input .now) _ _ (c .before .r .given .1) (c .before .before .before .before .survey .ensures)
 
 pub payload-part-spec : {M : Type 1} → statement M
 payload-part-spec =

@@ -1,7 +1,7 @@
 -- `read`: the first pass refuses, or counts the rows of an accepted header for the second.
 use mathlib.Core.List.{_++_}
 use borrow.Author.Needs.{needs}
-use Rattle.reader.proofs.Memory.{counted-by, nothing-lent, refusal-answered}
+use Rattle.reader.proofs.Memory.{header-counted, nothing-lent, refusal-answered}
 use Rattle.reader.proofs.read.Statement.{statement}
 use Rattle.reader.proofs.read.Tie as tie
 
@@ -17,20 +17,24 @@ survey-requires c κs = search needs
 enum-known-counted : tie.Need-enum-known-counted
 enum-known-counted c = search needs
 
+refused-requires : tie.Need-refused-requires
+refused-requires c κs = search needs
+
 enum-known-counted-2 : tie.Need-enum-known-counted-2
 enum-known-counted-2 c = search needs
 
 fill-requires : tie.Need-fill-requires
-fill-requires c κs = counted-by (c .before .before .before .before .before .before .before .before .before .before .args .edition) (c .before .before .before .before .before .before .before .before .before .before .args .input .now) (c .before .before .counted2 .given .1) (c .before .before .before .before .before .before .survey .ensures)
+fill-requires c κs = let a = c .before .before .before .before .before .before .before .before .before .before .args in header-counted (a .edition) (a .input .now) _ _ (c .before .before .counted2 .given .1) (c .before .before .before .before .before .before .survey .ensures)
 
 same-length : tie.Need-same-length
 same-length c = search needs
 
 returns : tie.Need-returns
 returns c =
-    let a = c .before .before .before .before .before .before .before .before .before .args in
-    nothing-lent (a .edition) (a .input .now) (a .rows .now) (c .before .before .before .before .before .survey .last .1 .1 .0) _ _ (c .before .before .before .before .before .survey .kept .1 .1 .0)
-    (refusal-answered (a .edition) (a .input .now) (c .before .before .before .before .before .survey .last .1 .1 .0 ++ a .rows .now) (c .before .counted .given .1) (c .before .before .before .before .before .survey .ensures))
+    let a = c .before .before .before .before .before .before .before .before .before .before .args in
+    let survey = c .before .before .before .before .before .before .survey in
+    nothing-lent (a .edition) (a .input .now) (a .rows .now) (survey .last .1 .1 .0) _ _ (survey .kept .1 .1 .0)
+    (refusal-answered (a .edition) (a .input .now) _ _ (survey .last .1 .1 .0 ++ a .rows .now) (c .before .before .counted .given .1) (survey .ensures) (c .refused .ensures))
 
 same-length-2 : tie.Need-same-length-2
 same-length-2 c = search needs
@@ -38,7 +42,8 @@ same-length-2 c = search needs
 returns-2 : tie.Need-returns-2
 returns-2 c =
     let a = c .before .before .before .before .before .before .before .before .before .before .before .before .before .args in
-    nothing-lent (a .edition) (a .input .now) (a .rows .now) (c .before .before .before .before .before .before .before .before .before .survey .last .1 .1 .0) _ _ (c .before .before .before .before .before .before .before .before .before .survey .kept .1 .1 .0) (c .before .before .fill .ensures)
+    let survey = c .before .before .before .before .before .before .before .before .before .survey in
+    nothing-lent (a .edition) (a .input .now) (a .rows .now) (survey .last .1 .1 .0) _ _ (survey .kept .1 .1 .0) (c .before .before .fill .ensures)
 
 pub read-spec : {M : Type 1} → statement M
 read-spec =
@@ -48,6 +53,7 @@ read-spec =
     slice-aggregate-survey
     survey-requires
     enum-known-counted
+    refused-requires
     enum-known-counted-2
     fill-requires
     same-length

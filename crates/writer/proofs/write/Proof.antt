@@ -1,44 +1,48 @@
 -- `write`: the edition by its number.
-use Rattle.writer.proofs.Answers.{first-label, in-edition, in-none, no-label, second-label}
+use Rattle.writer.proofs.Answers.{in-edition, in-none}
+use Rattle.table.specs.Told.{labelIs}
+use mathlib.Core.Path.{_∙_, ap, refl, sym}
 use borrow.Author.Needs.{needs}
-use mathlib.Core.Bool.{false, true}
-use mathlib.Core.Path.{refl}
 use Rattle.writer.proofs.write.Statement.{statement}
 use Rattle.writer.proofs.write.Tie as tie
+
+label-of-requires : tie.Need-label-of-requires
+label-of-requires c κs = search needs
+
+enum-known-label : tie.Need-enum-known-label
+enum-known-label c = search needs
+
+enum-told : tie.Need-enum-told
+enum-told c = search needs
+
+refused-requires : tie.Need-refused-requires
+refused-requires c κs = search needs
+
+returns : tie.Need-returns
+returns c =
+    let a = c .before .before .before .before .before .before .before .args in
+    in-none (a .edition) (a .rows .now) (a .pool .now) (a .output .now) (sym (c .before .before .before .label-of .ensures) ∙ ap labelIs (c .before .enum-told .given .1)) (c .refused .ensures) refl
 
 write-in-requires : tie.Need-write-in-requires
 write-in-requires c κs = search needs
 
-write-in-requires-2 : tie.Need-write-in-requires-2
-write-in-requires-2 c κs = search needs
-
-refusal-requires : tie.Need-refusal-requires
-refusal-requires c κs = search needs
-
 same-length : tie.Need-same-length
 same-length c = search needs
 
-returns : tie.Need-returns
-returns c = in-edition (c .before .before .before .before .before .before .before .before .args .edition) (c .before .before .before .before .before .before .before .before .args .rows .now) (c .before .before .before .before .before .before .before .before .args .pool .now) (c .before .before .before .before .before .before .before .before .args .output .now) false (first-label _ (c .before .before .before .before .match .keys1)) (c .before .before .write-in .ensures)
-
-same-length-2 : tie.Need-same-length-2
-same-length-2 c = search needs
-
 returns-2 : tie.Need-returns-2
-returns-2 c = in-edition (c .before .before .before .before .before .before .before .before .args .edition) (c .before .before .before .before .before .before .before .before .args .rows .now) (c .before .before .before .before .before .before .before .before .args .pool .now) (c .before .before .before .before .before .before .before .before .args .output .now) true (second-label _ (c .before .before .before .before .match .keys2)) (c .before .before .write-in2 .ensures)
-
-returns-3 : tie.Need-returns-3
-returns-3 c = in-none (c .before .before .before .before .before .args .edition) (c .before .before .before .before .before .args .rows .now) (c .before .before .before .before .before .args .pool .now) (c .before .before .before .before .before .args .output .now) (no-label _ (c .before .match .rest .0 .1) (c .before .match .rest .1)) (c .refusal .ensures) refl
+returns-2 c =
+    let a = c .before .before .before .before .before .before .before .before .before .before .before .args in
+    in-edition (a .edition) (a .rows .now) (a .pool .now) (a .output .now) (sym (c .before .before .before .before .before .before .before .label-of .ensures) ∙ ap labelIs (c .before .before .before .before .before .label .given .1)) (c .before .before .write-in .ensures)
 
 pub write-spec : {M : Type 1} → statement M
 write-spec =
     tie.close
     (tie.spec
-    write-in-requires
-    write-in-requires-2
-    refusal-requires
-    same-length
+    label-of-requires
+    enum-known-label
+    enum-told
+    refused-requires
     returns
-    same-length-2
-    returns-2
-    returns-3)
+    write-in-requires
+    same-length
+    returns-2)

@@ -1,4 +1,5 @@
 -- `write_in`: the verdict's answer, and the output where it is written.
+use Rattle.table.specs.Told.{editionOf}
 use Rattle.writer.proofs.Answers.{accepts, refuses, too-short, writable}
 use borrow.Author.Needs.{needs}
 use mathlib.Core.Path.{refl}
@@ -14,19 +15,19 @@ check-requires c κs = refl
 enum-known-c : tie.Need-enum-known-c
 enum-known-c c = search needs
 
-refusal-requires : tie.Need-refusal-requires
-refusal-requires c κs = search needs
+refused-requires : tie.Need-refused-requires
+refused-requires c κs = search needs
 
 enum-known-c-2 : tie.Need-enum-known-c-2
 enum-known-c-2 c = search needs
 
-refusal-requires-2 : tie.Need-refusal-requires-2
-refusal-requires-2 c κs = search needs
+refused-requires-2 : tie.Need-refused-requires-2
+refused-requires-2 c κs = search needs
 
 returns : tie.Need-returns
 returns c =
     let a = c .before .before .before .before .before .before .before .before .before .before .before .args in
-    too-short (a .in-d) (a .pool .now) (a .rows .now) (a .output .now) (c .before .before .before .before .before .before .check .ensures) (c .before .before .before .c2 .given .1) (c .before .if1 .taken) (c .refusal2 .ensures)
+    too-short (editionOf (a .edition)) (a .pool .now) (a .rows .now) (a .output .now) (c .before .before .before .before .before .before .check .ensures) (c .before .before .before .c2 .given .1) (c .before .if1 .taken) (c .refused2 .ensures)
 
 slice-aggregate-put-all : tie.Need-slice-aggregate-put-all
 slice-aggregate-put-all c = search needs
@@ -35,20 +36,23 @@ put-all-requires : tie.Need-put-all-requires
 put-all-requires c κs =
     let a = c .before .before .before .before .before .before .before .before .before .before .before .before .args in
     let k = c .before .before .before .before .before .before .before .check in
-    writable (a .in-d) (a .pool .now) (a .rows .now) (a .output .now) (k .ensures) (c .before .before .before .before .c2 .given .1) (k .kept .1 .1 .1 .0) (c .before .before .if1 .left)
+    writable (editionOf (a .edition)) (a .pool .now) (a .rows .now) (a .output .now) (k .ensures) (c .before .before .before .before .c2 .given .1) (k .kept .1 .1 .1 .0) (c .before .before .if1 .left)
+
+room-requires : tie.Need-room-requires
+room-requires c κs = search needs
 
 returns-2 : tie.Need-returns-2
 returns-2 c =
     let a = c .before .before .before .before .before .before .before .before .before .before .args in
-    refuses (a .in-d) (a .pool .now) (a .rows .now) (a .output .now) (c .before .before .before .before .before .check .ensures) (c .before .before .c .given .1) (c .refusal .ensures)
+    refuses (editionOf (a .edition)) (a .pool .now) (a .rows .now) (a .output .now) (c .before .before .before .before .before .check .ensures) (c .before .before .c .given .1) (c .refused .ensures)
 
 same-length : tie.Need-same-length
 same-length c = search needs
 
 returns-3 : tie.Need-returns-3
 returns-3 c =
-    let a = c .before .before .before .before .before .before .before .before .before .before .before .before .before .before .before .args in
-    accepts (a .in-d) (a .pool .now) (a .rows .now) (a .output .now) (c .before .before .before .before .before .before .before .before .before .before .check .ensures) (c .before .before .before .before .before .before .before .c2 .given .1) (c .before .before .before .before .before .if1 .left) (c .before .before .put-all .ensures)
+    let a = c .before .before .before .before .before .before .before .before .before .before .before .before .before .before .before .before .args in
+    accepts (editionOf (a .edition)) (a .pool .now) (a .rows .now) (a .output .now) (c .before .before .before .before .before .before .before .before .before .before .before .check .ensures) (c .before .before .before .before .before .before .before .before .c2 .given .1) (c .before .before .before .before .before .before .if1 .left) (c .before .before .before .put-all .ensures) (c .room .ensures)
 
 pub write-in-spec : {M : Type 1} → statement M
 write-in-spec =
@@ -57,12 +61,13 @@ write-in-spec =
     slice-aggregate-check
     check-requires
     enum-known-c
-    refusal-requires
+    refused-requires
     enum-known-c-2
-    refusal-requires-2
+    refused-requires-2
     returns
     slice-aggregate-put-all
     put-all-requires
+    room-requires
     returns-2
     same-length
     returns-3)

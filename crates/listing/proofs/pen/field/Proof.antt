@@ -12,12 +12,12 @@ put-requires : tie.Need-put-requires
 put-requires c κs =
     let start = c .before .before .before .before .before .before in
     let at-number = c .before .before .before in
-    omega (arith, start .pre, at-number .number .ensures .ends, at-number .number .kept .1 .0)
+    omega (arith, start .pre, at-number .number .ensures .ends, at-number .number .kept .0)
 
 same-length : tie.Need-same-length
 same-length c =
     let at-number = c .before .before .before .before .before .before in
-    c .before .before .put .kept .1 .0 ∙ at-number .number .kept .1 .0
+    c .before .before .put .kept .0 ∙ at-number .number .kept .0
 
 returns : tie.Need-returns
 returns c =

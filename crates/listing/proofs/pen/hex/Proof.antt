@@ -10,10 +10,10 @@ use Rattle.listing.proofs.pen.hex.Statement.{statement}
 use Rattle.listing.proofs.pen.hex.Tie as tie
 
 abbrev Inv-loop : tie.InvT-loop
-Inv-loop bytes out₀ at end₀ k₀ out end k = (k ≤ length bytes) × (end ≡ at + 2 * k) × (length out ≡ length out₀) × Printing hexOf bytes k out₀ out at end
+Inv-loop out₀ at bytes end₀ k₀ out end k = (k ≤ length bytes) × (end ≡ at + 2 * k) × (length out ≡ length out₀) × Printing hexOf bytes k out₀ out at end
 
 abbrev μ-loop : tie.MeasureT-loop
-μ-loop bytes out₀ at end₀ k₀ out end k = length bytes - k
+μ-loop out₀ at bytes end₀ k₀ out end k = length bytes - k
 
 loop-holds : tie.Need-loop-holds Inv-loop μ-loop
 loop-holds c = (omega arith, omega arith, refl, printing-begins (c .before .before .args .bytes .now) (c .before .before .args .out .now) (c .before .before .args .at))
@@ -38,7 +38,7 @@ loop-again c =
     let at-loop-test = c .before .before .before .before .before in
     let l = at-loop .loop in
     let w = c .before .before .pair .ensures in
-    (omega arith, omega (arith, w .ends), c .before .before .pair .kept .1 .0 ∙ l .inv .2, printing-goes (λ b. hexCharacter (b / 16) ∷ hexCharacter (b % 16) ∷ []) (λ x xs. refl) (l .inv .3) (at-loop-test .loop-test .taken) w)
+    (omega arith, omega (arith, w .ends), c .before .before .pair .kept .0 ∙ l .inv .2, printing-goes (λ b. hexCharacter (b / 16) ∷ hexCharacter (b % 16) ∷ []) (λ x xs. refl) (l .inv .3) (at-loop-test .loop-test .taken) w)
 
 same-length : tie.Need-same-length Inv-loop μ-loop
 same-length c = c .before .loop .inv .2

@@ -21,9 +21,9 @@ same-length c = search needs
 
 returns : tie.Need-returns
 returns c =
-    let at-character = c .before .before .before .before .before .before .before .before .before in
+    let at-character = c .before .before .before .before .before .before .before .before in
     let at-put = c .before .before .before .before .before .before .before in
-    let at-character2 = c .before .before .before .before in
+    let at-character2 = c .before .before .before in
     wrote-then (wrote-byte (at-character .character .ensures) (at-put .put .ensures)) (wrote-byte (at-character2 .character2 .ensures) (c .before .before .put2 .ensures))
 
 pub pair-spec : {M : Type 1} → statement M

@@ -13,7 +13,7 @@ put-requires : tie.Need-put-requires
 put-requires c κs =
     let start = c .before .before .before .before .before .before .before in
     let at-hex = c .before .before .before in
-    omega (arith, start .pre, at-hex .hex .ensures .ends, at-hex .hex .kept .1 .0, hex-length (start .args .rest .now))
+    omega (arith, start .pre, at-hex .hex .ensures .ends, at-hex .hex .kept .0, hex-length (start .args .rest .now))
 
 same-length : tie.Need-same-length
 same-length c = search needs

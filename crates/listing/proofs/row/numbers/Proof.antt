@@ -43,7 +43,7 @@ loop-again c =
     let at-loop-test = c .before .before .before .before .before in
     let l = at-loop .loop in
     let w = c .before .before .row-field .ensures in
-    (omega arith, omega (arith, w .few), c .before .before .row-field .kept .1 .0 ∙ l .inv .2, printing-goes (λ n. decimal n ++ (0x09 ∷ [])) fields-next (l .inv .3) (at-loop-test .loop-test .taken) (w .wrote))
+    (omega arith, omega (arith, w .few), c .before .before .row-field .kept .0 ∙ l .inv .2, printing-goes (λ n. decimal n ++ (0x09 ∷ [])) fields-next (l .inv .3) (at-loop-test .loop-test .taken) (w .wrote))
 
 same-length : tie.Need-same-length Inv-loop μ-loop
 same-length c = c .before .loop .inv .2

@@ -8,7 +8,7 @@ field-requires : tie.Need-field-requires
 field-requires c κs = omega (arith, c .before .before .pre, ten-digits (c .before .before .args .number) (omega arith))
 
 same-length : tie.Need-same-length
-same-length c = c .before .before .field .kept .1 .1 .0
+same-length c = c .before .before .field .kept .0
 
 returns : tie.Need-returns
 returns c =

@@ -23,13 +23,13 @@ take-requires : tie.Need-take-requires
 take-requires c κs = record { whole = c .before .before .before .before .pre .whole; before = omega arith }
 
 block-requires : tie.Need-block-requires
-block-requires c κs = record { whole = c .before .before .before .before .pre .whole; before = c .before .before .if1 .left; some = omega arith; few = omega arith }
+block-requires c κs = record { whole = c .before .before .before .before .pre .whole; before = c .before .before .if1 .left; wide = (oneByte, refl) }
 
 block-requires-2 : tie.Need-block-requires-2
-block-requires-2 c κs = record { whole = c .before .before .before .before .pre .whole; before = c .before .before .if1 .left; some = omega arith; few = omega arith }
+block-requires-2 c κs = record { whole = c .before .before .before .before .pre .whole; before = c .before .before .if1 .left; wide = (twoBytes, refl) }
 
 block-requires-3 : tie.Need-block-requires-3
-block-requires-3 c κs = record { whole = c .before .before .before .before .pre .whole; before = c .before .before .if1 .left; some = omega arith; few = omega arith }
+block-requires-3 c κs = record { whole = c .before .before .before .before .pre .whole; before = c .before .before .if1 .left; wide = (fourBytes, refl) }
 
 returns-2 : tie.Need-returns-2
 unfolding takeValue look find

@@ -4,13 +4,13 @@ use Rattle.values.proofs.any.too_wide.Statement.{statement}
 use Rattle.values.proofs.any.too_wide.Tie as tie
 
 returns : tie.Need-returns
-returns c w q = one-never w (c .before .args .width) (c .before .args .n) (c .match .keys1) q
+returns c w q = one-never _ w (c .before .args .width) (c .before .args .n) (c .match .keys1) q
 
 returns-2 : tie.Need-returns-2
-returns-2 c w q = two-below w (c .before .args .width) (c .before .args .n) (c .match .keys2) q
+returns-2 c w q = two-below _ w (c .before .args .width) (c .before .args .n) (c .match .keys2) q
 
 returns-3 : tie.Need-returns-3
-returns-3 c w q = four-below w (c .before .args .width) (c .before .args .n) (c .match .rest .0 .1) (c .match .rest .1) q
+returns-3 c w q = four-below _ w (c .before .args .width) (c .before .args .n) (c .match .rest .0 .1) (c .match .rest .1) q
 
 pub too-wide-spec : {M : Type 1} → statement M
 too-wide-spec = tie.close (tie.spec returns returns-2 returns-3)

@@ -9,7 +9,7 @@ use Rattle.laws.specs.From.{from}
 use Rattle.values.specs.Stages.{span}
 use Rattle.values.specs.Answers.{answered, refuses}
 use Rattle.values.specs.Dates.{reaching}
-use Rattle.values.proofs.Dates.{dateFrom, date-begins, date-over, date-ends, date-wrong, date-goes, positive}
+use Rattle.values.specs.DateSteps.{dateFrom, date-begins, date-over, date-ends, date-wrong, date-goes, passing-goes, nine-at-least}
 use Rattle.values.proofs.date.bytes.Statement.{statement}
 use Rattle.values.proofs.date.bytes.Tie as tie
 
@@ -22,19 +22,29 @@ abbrev μ-loop : tie.MeasureT-loop
 length-of-requires : tie.Need-length-of-requires Inv-loop μ-loop
 length-of-requires c κs = tt
 
+passed-requires : tie.Need-passed-requires Inv-loop μ-loop
+passed-requires c κs = c .before .before .pre
+
 loop-holds : tie.Need-loop-holds Inv-loop μ-loop
 loop-holds c =
-    let start = c .before .before in
-    let a = start .args in
-    (omega arith, omega (arith, start .pre .before), date-begins (a .s .now) (a .end) (a .at) (a .absolute) (c .length-of .result) (a .designated) (c .length-of .ensures))
+    let start = c .before .before .before in
+    let many = c .before .length-of in
+    let (most, room, known) = c .passed .ensures in
+    let nine = nine-at-least (start .args .designated) in
+    let a = start .args in (
+      omega (arith, nine, many .ensures),
+      room,
+      date-begins (a .s .now) (a .end) (a .at) (a .absolute) (many .result) (a .designated) (many .ensures)
+          ∙ passing-goes (a .s .now) (a .end) (a .at) (a .absolute) (many .result) (start .pre .whole) (c .passed .result) (omega (arith, nine, many .ensures)) room known,
+    )
 
 sub-if1 : tie.Need-sub-if1 Inv-loop μ-loop
-sub-if1 c = c .before .before .before .before .pre .before
+sub-if1 c = c .before .before .before .before .before .pre .before
 
 returns : tie.Need-returns Inv-loop μ-loop
 returns c =
-    let start = c .before .before .before .before .before in
-    let at-length-of = c .before .before .before in
+    let start = c .before .before .before .before .before .before in
+    let at-length-of = c .before .before .before .before in
     let at-loop = c .before .before in
     let a = start .args in
     refuses (at-loop .loop .inv .2 ∙ date-ends (a .s .now) (a .end) (a .at) (a .absolute) (at-length-of .length-of .result) (at-loop .loop .j) (c .before .loop-test .taken) (omega arith)) (omega arith)
@@ -43,7 +53,7 @@ add-i : tie.Need-add-i Inv-loop μ-loop
 add-i c = omega arith
 
 byte-passes-requires : tie.Need-byte-passes-requires Inv-loop μ-loop
-byte-passes-requires c κs = omega (arith, c .before .before .before .before .before .pre .whole)
+byte-passes-requires c κs = omega (arith, c .before .before .before .before .before .before .pre .whole)
 
 add-j : tie.Need-add-j Inv-loop μ-loop
 add-j c = omega arith
@@ -53,8 +63,8 @@ loop-less c = omega arith
 
 loop-again : tie.Need-loop-again Inv-loop μ-loop
 loop-again c =
-    let start = c .before .before .before .before .before .before .before in
-    let at-length-of = c .before .before .before .before .before in
+    let start = c .before .before .before .before .before .before .before .before in
+    let at-length-of = c .before .before .before .before .before .before in
     let at-loop = c .before .before .before .before in
     let at-loop-test = c .before .before .before in
     let a = start .args in
@@ -62,8 +72,8 @@ loop-again c =
 
 returns-2 : tie.Need-returns-2 Inv-loop μ-loop
 returns-2 c =
-    let start = c .before .before .before .before .before .before .before in
-    let at-length-of = c .before .before .before .before .before in
+    let start = c .before .before .before .before .before .before .before .before in
+    let at-length-of = c .before .before .before .before .before .before in
     let at-loop = c .before .before .before .before in
     let at-loop-test = c .before .before .before in
     let a = start .args in
@@ -74,10 +84,10 @@ add-after c = omega arith
 
 returns-3 : tie.Need-returns-3 Inv-loop μ-loop
 returns-3 c =
-    let start = c .before .before .before .before in
-    let at-length-of = c .before .before in
+    let start = c .before .before .before .before .before in
+    let at-length-of = c .before .before .before in
     let a = start .args in
-    let k = positive (a .designated) in
+    let k = nine-at-least (a .designated) in
     answered (c .before .loop .inv .2 ∙ date-over (a .s .now) (a .end) (a .at) (a .absolute) (at-length-of .length-of .result) (c .before .loop .j) (omega arith)) (omega arith) (omega arith) (omega (arith, at-length-of .length-of .ensures)) (omega arith)
 
 pub bytes-spec : {M : Type 1} → statement M
@@ -87,6 +97,7 @@ bytes-spec =
     Inv-loop
     μ-loop
     length-of-requires
+    passed-requires
     loop-holds
     sub-if1
     returns

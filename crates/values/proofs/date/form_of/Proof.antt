@@ -1,20 +1,25 @@
--- `date::form_of`: a number that is an edition's and not 1 is edition D's.
+-- `date::form_of`: the edition's own reading of the code.
 use borrow.Author.Needs.{needs}
-use Rattle.values.proofs.Dates.{edition-b, edition-d}
 use Rattle.values.proofs.date.form_of.Statement.{statement}
 use Rattle.values.proofs.date.form_of.Tie as tie
+
+enum-told : tie.Need-enum-told
+enum-told c = search needs
 
 form-in-b-requires : tie.Need-form-in-b-requires
 form-in-b-requires c κs = search needs
 
-returns : tie.Need-returns
-returns c e q = rw (edition-b (c .before .before .args .allows .edition) e (c .before .if1 .taken) q) (c .form-in-b .ensures)
+enum-told-2 : tie.Need-enum-told-2
+enum-told-2 c = search needs
 
 form-in-d-requires : tie.Need-form-in-d-requires
 form-in-d-requires c κs = search needs
 
+returns : tie.Need-returns
+returns c = rw (c .before .enum-told .given .1) (c .form-in-b .ensures)
+
 returns-2 : tie.Need-returns-2
-returns-2 c e q = rw (edition-d (c .before .before .args .allows .edition) e (c .before .if1 .left) q) (c .form-in-d .ensures)
+returns-2 c = rw (c .before .enum-told2 .given .1) (c .form-in-d .ensures)
 
 pub form-of-spec : {M : Type 1} → statement M
-form-of-spec = tie.close (tie.spec form-in-b-requires returns form-in-d-requires returns-2)
+form-of-spec = tie.close (tie.spec enum-told form-in-b-requires enum-told-2 form-in-d-requires returns returns-2)

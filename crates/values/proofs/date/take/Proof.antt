@@ -9,7 +9,7 @@ use Rattle.values.proofs.date.take.Statement.{statement}
 use Rattle.values.proofs.date.take.Tie as tie
 
 returns : tie.Need-returns
-returns c e q = ended (omega (arith, c .before .before .pre .before))
+returns c t = ended (omega (arith, c .before .before .pre .before))
 
 shared-slice-read-wide : tie.Need-shared-slice-read-wide
 shared-slice-read-wide c = omega (arith, c .before .before .before .pre .whole)
@@ -27,11 +27,11 @@ enum-told : tie.Need-enum-told
 enum-told c = search needs
 
 returns-2 : tie.Need-returns-2
-returns-2 c e q =
+returns-2 c t =
     let at-if1 = c .before .before .before .before .before in
     let at-wide = c .before .before .before in
     let at-form-of = c .before .before in
-    code-unknown (at-if1 .if1 .left) (at-wide .wide .ensures) (undated e (at-wide .wide .result) (at-form-of .form-of .ensures e q) (c .enum-told .given .1))
+    code-unknown (at-if1 .if1 .left) (at-wide .wide .ensures) (undated _ (at-wide .wide .result) (at-form-of .form-of .ensures) (c .enum-told .given .1))
 
 add-first : tie.Need-add-first
 add-first c = search needs
@@ -41,12 +41,12 @@ bytes-requires c κs = search needs
 
 returns-3 : tie.Need-returns-3
 unfolding takeValue
-returns-3 c e q =
+returns-3 c t =
     let at-if1 = c .before .before .before .before .before .before .before in
     let at-wide = c .before .before .before .before .before in
     let at-form-of = c .before .before .before .before in
     let at-f = c .before .before in
-    let f = dated-at e (at-wide .wide .result) (at-form-of .form-of .ensures e q) (at-f .f .given .1) in
+    let f = dated-at _ (at-wide .wide .result) (at-form-of .form-of .ensures) (at-f .f .given .1) in
     code-before (at-if1 .if1 .left) (at-wide .wide .ensures) _ (f .0) (f .1) (c .bytes .ensures)
 
 pub take-spec : {M : Type 1} → statement M

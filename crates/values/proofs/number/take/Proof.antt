@@ -1,7 +1,7 @@
 -- `number::take` is `number::count` without the value.
 use native.Mathlib.Omega.{arith}
 use borrow.Author.Needs.{needs}
-use Rattle.values.proofs.Numbers.{counted-to, counted-is, counted-refused}
+use Rattle.values.specs.Counting.{counted-to, counted-is, counted-refused}
 use Rattle.values.proofs.number.take.Statement.{statement}
 use Rattle.values.proofs.number.take.Tie as tie
 

@@ -13,7 +13,7 @@ use Rattle.values.proofs.representation.take.Statement.{statement}
 use Rattle.values.proofs.representation.take.Tie as tie
 
 returns : tie.Need-returns
-returns c = ended (omega (arith, c .before .before .pre .before))
+returns c t = ended (omega (arith, c .before .before .pre .before))
 
 shared-slice-read-code : tie.Need-shared-slice-read-code
 shared-slice-read-code c = omega (arith, c .before .before .before .pre .whole)
@@ -26,13 +26,13 @@ take-requires c κs = record { whole = c .before .before .before .before .pre .w
 
 returns-2 : tie.Need-returns-2
 unfolding takeValue look find
-returns-2 c =
+returns-2 c t =
     let at-if1 = c .before .before .before in
     code-before (at-if1 .if1 .left) (sym (c .before .match .keys1)) text (record { coded = refl; rowed = refl; flat = refl }) (λ n. refl) (c .take .ensures)
 
 returns-3 : tie.Need-returns-3
 unfolding takeValue
-returns-3 c =
+returns-3 c t =
     let start = c .before .before .before .before .before .before in
     let at-if1 = c .before .before .before .before in
     let b = getD (start .args .s .now) (start .args .at) 0 in
@@ -40,10 +40,10 @@ returns-3 c =
     (answered refl (omega arith) (omega arith) (omega arith) (omega arith))
 
 returns-4 : tie.Need-returns-4
-returns-4 c = code-unknown (c .before .before .before .if1 .left) refl (no-representation _ (c .before .match .rest .1) (λ q. omega arith) (λ q. omega arith) (λ q. omega arith))
+returns-4 c t = code-unknown (c .before .before .before .if1 .left) refl (no-representation _ (c .before .match .rest .1) (λ q. omega arith) (λ q. omega arith) (λ q. omega arith))
 
 returns-5 : tie.Need-returns-5
-returns-5 c =
+returns-5 c t =
     let at-if1 = c .before .before .before .before in
     let at-match = c .before .before in
     code-unknown (at-if1 .if1 .left) refl (no-representation _ (at-match .match .rest .1) (λ q. omega arith) (λ q. omega arith) (λ q. omega arith))

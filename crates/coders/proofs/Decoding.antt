@@ -1,0 +1,188 @@
+-- A slice that must hold exactly one value: what a decoder answers, from the span of the value at its front.
+use Prim.Native.Nat.{ℕ, suc, _+_, _-_, _*_, _/_, _≤_, _<_}
+use mathlib.Core.List.{List, [], _∷_, _++_, append-nil}
+use mathlib.Core.Bool.{Bool, true, false}
+use mathlib.Core.Path.{_≡_, refl, ap, sym, _∙_}
+use native.Mathlib.Nat.{le-refl}
+use native.Mathlib.Omega.{arith}
+use borrow.Author.Tests.{ne-eqb}
+use lib.Dec.{ltb}
+use lib.ListN.{length, getD, length-append}
+use lib.Seq.{take-all}
+use Rattle.meaning.specs.Basics.{pick}
+use Rattle.meaning.specs.Bytes.{Taken, took, failed, prefixed, Check, passes, dateChecks, takeDate, takeNumber, digitOf, twoDigits}
+use Rattle.meaning.specs.Plain.{decoded, undecoded, exactly, Reached, noReach, reachOf, numberValue, decodeNumber, numberDecoded, numberPlain, dateOf, dated, decodeDate, dateDecoded, datePlain}
+use Rattle.meaning.specs.Kinds.{dateAbsolute, dateForward, dateBackward}
+use Rattle.laws.specs.From.{from, from-length, from-end, from-cons}
+use Rattle.values.specs.declared.Value.{Value}
+use Rattle.values.specs.declared.Value.the-variants.{Is, Refused}
+use Rattle.values.specs.declared.number.Number.{Number}
+use Rattle.values.specs.declared.number.Number.the-variants.{Counts, Fails}
+use Rattle.coders.specs.declared.Date.{Date}
+use Rattle.values.specs.Stages.{span, spans, misses, Valued}
+use Rattle.values.specs.Answers.{valued-at, valued-refused}
+use Rattle.values.specs.Numbers.{counts, tally, tallied, Counted}
+use Rattle.values.specs.Dates.{reaching}
+use Rattle.coders.specs.declared.decode.DecodedDate.{DecodedDate}
+use Rattle.coders.specs.Plain.{NumberDecodes, DateDecodes, DecodesReach, plainOf, undecodedAt, PairAt}
+use Rattle.values.specs.Counting.{counted-is, counted-refused}
+
+pub from-all : (s : List ℕ) → from s 0 (length s) ≡ s
+unfolding from
+from-all s = take-all (length s - 0) s (omega arith)
+
+-- the value that was taken, if any
+abbrev front : Taken → List ℕ
+front (took v rest) = v
+front (failed refusal left) = []
+
+module _ (s : List ℕ) where
+  exactly-refused : (t : Taken) {refusal place : ℕ} → span 0 t ≡ misses refusal (length s - place) → place ≤ length s → exactly s t ≡ undecoded place
+  exactly-refused (took v rest) q h = let z : _≡_ {A = ℕ} 0 1 = cc in absurd (omega arith)
+  exactly-refused (failed refusal left) {place = place} q h = let e : left ≡ length s - place = cc in ap undecoded (omega arith)
+
+  exactly-left : (t : Taken) {many after : ℕ} → span 0 t ≡ spans many (from s after (length s)) → many ≡ after → after < length s → exactly s t ≡ undecoded after
+  exactly-left (took v rest) {many} {after} q m h =
+      let e : rest ≡ from s after (length s) = cc in
+      let k : 0 + length v ≡ many = cc in
+      rw (e, from-cons s after (length s) h (le-refl (length s))) (ap undecoded (omega arith))
+  exactly-left (failed refusal left) q m h = let z : _≡_ {A = ℕ} 0 1 = cc in absurd (omega arith)
+
+  -- the slice's end: the value is all of it
+  exactly-all : (t : Taken) {many after : ℕ} → span 0 t ≡ spans many (from s after (length s)) → many ≡ after → length s ≤ after → (exactly s t ≡ decoded (front t)) × (length (front t) ≡ after) × (t ≡ took (front t) [])
+  exactly-all (took v rest) {many} {after} q m h =
+      let e : rest ≡ [] = (let r : rest ≡ from s after (length s) = cc in r ∙ from-end s after (length s) h) in
+      let k : 0 + length v ≡ many = cc in
+      (rw e refl, omega arith, rw e refl)
+  exactly-all (failed refusal left) q m h = let z : _≡_ {A = ℕ} 0 1 = cc in absurd (omega arith)
+
+tally-worth : (t : Taken) {many value : ℕ} {rest : List ℕ} → tally 0 0 t ≡ counts many value rest → numberValue 0 (front t) ≡ value
+tally-worth (took v rest) q = cc
+tally-worth (failed refusal left) q = let z : _≡_ {A = ℕ} 0 1 = cc in absurd (omega arith)
+
+module _ (s : List ℕ) {r : Number} (a : Counted s (length s) 0 r) where
+  abbrev number : Taken
+  number = takeNumber 0 true s
+
+  here : takeNumber 0 true (from s 0 (length s)) ≡ number
+  here = ap (takeNumber 0 true) (from-all s)
+
+  refused-at : (place : ℕ) → exactly s number ≡ undecoded place → NumberDecodes s (record { answer = 10; place = place; value = 0 })
+  unfolding numberDecoded numberPlain decodeNumber
+  refused-at place q = record { is = rw q refl; worth = rw q refl }
+
+  pub number-refused : {refusal place : ℕ} → r ≡ Fails refusal place → NumberDecodes s (record { answer = 10; place = place; value = 0 })
+  number-refused {place = place} h =
+      let (q, k) = valued-refused (counted-refused a h) refl in
+      refused-at place (exactly-refused s number (ap (span 0) (sym here) ∙ q) k)
+
+  pub number-left : {value after : ℕ} → r ≡ Counts value after → after < length s → NumberDecodes s (record { answer = 10; place = after; value = 0 })
+  number-left {after = after} h k =
+      let p = valued-at (counted-is a h) refl in
+      refused-at after (exactly-left s number (ap (span 0) (sym here) ∙ p .0) (omega arith) k)
+
+  pub number-whole : {value after : ℕ} → r ≡ Counts value after → length s ≤ after → NumberDecodes s (record { answer = 0; place = after; value = value })
+  unfolding numberDecoded numberPlain decodeNumber tallied
+  number-whole {value} {after} h k =
+      let p = valued-at (counted-is a h) refl in
+      let (q, n, e) = exactly-all s number (ap (span 0) (sym here) ∙ p .0) (omega arith) k in
+      let w : numberValue 0 (front number) ≡ value = tally-worth number (ap (tally 0 0) (sym here) ∙ a .is ∙ ap (tallied s (length s) 0) h) in
+      record { is = rw (q, n) refl; worth = rw q (sym w) }
+
+-- a date that was taken is the front of the bytes, with a byte for each check
+abbrev Fronts : List Check → List ℕ → Taken → Type 0
+Fronts cs s (took v rest) = (s ≡ v ++ rest) × (length v ≡ length cs)
+Fronts cs s (failed refusal left) = Unit {0}
+
+fronts-byte : (z : Bool) (cs : List Check) (c : Check) (b : ℕ) (s : List ℕ) (t : Taken) (refusal left : ℕ) → Fronts cs s t → Fronts (c ∷ cs) (b ∷ s) (pick z (prefixed b t) (failed refusal left))
+fronts-byte true cs c b s (took v rest) refusal left f = (ap (λ (x : List ℕ). b ∷ x) (f .0), ap suc (f .1))
+fronts-byte true cs c b s (failed x y) refusal left f = tt
+fronts-byte false cs c b s t refusal left f = tt
+
+date-fronts : (cs : List Check) (earlier s : List ℕ) → Fronts cs s (takeDate cs earlier s)
+unfolding takeDate
+date-fronts [] earlier s = (refl, refl)
+date-fronts (c ∷ cs) earlier [] = tt
+date-fronts (c ∷ cs) earlier (b ∷ s) = fronts-byte (passes c earlier b) cs c b s (takeDate cs (b ∷ earlier) s) 9 (suc (length s)) (date-fronts cs (b ∷ earlier) s)
+
+front-whole : (cs : List Check) (s : List ℕ) (t : Taken) → Fronts cs s t → t ≡ took (front t) [] → (front t ≡ s) × (length s ≡ length cs)
+front-whole cs s (took v rest) f e =
+    let z : rest ≡ [] = cc in
+    let q : s ≡ v = f .0 ∙ ap (λ (x : List ℕ). v ++ x) z ∙ append-nil v in
+    (sym q, ap length q ∙ f .1)
+front-whole cs s (failed refusal left) f e = let z : _≡_ {A = ℕ} 0 1 = cc in absurd (omega arith)
+
+-- its length is the place after it
+front-fills : (cs : List Check) (s : List ℕ) (t : Taken) {many after : ℕ} → Fronts cs s t → span 0 t ≡ spans many (from s after (length s)) → after ≤ length s → many ≡ after
+front-fills cs s (took v rest) {many} {after} f q h =
+    let e : rest ≡ from s after (length s) = cc in
+    let k : 0 + length v ≡ many = cc in
+    omega (arith, ap length e, from-length s after (length s) h (le-refl (length s)), ap length (f .0), length-append v rest)
+front-fills cs s (failed refusal left) f q h = let z : _≡_ {A = ℕ} 0 1 = cc in absurd (omega arith)
+
+pub nine-checks : (isAbsolute designated : Bool) → 9 ≤ length (dateChecks (reaching isAbsolute) designated)
+nine-checks true true = omega arith
+nine-checks true false = omega arith
+nine-checks false true = omega arith
+nine-checks false false = omega arith
+
+module _ (s : List ℕ) (isAbsolute : Bool) {kind : ℕ} {r : Value}
+    (a : Valued s (length s) 0 kind 0 (takeDate (dateChecks (reaching isAbsolute) (ltb 9 (length s))) [] (from s 0 (length s))) r) where
+  abbrev checks : List Check
+  checks = dateChecks (reaching isAbsolute) (ltb 9 (length s))
+
+  abbrev date : Taken
+  date = takeDate checks [] s
+
+  there : takeDate checks [] (from s 0 (length s)) ≡ date
+  there = ap (takeDate checks []) (from-all s)
+
+  undated-at : (place : ℕ) → exactly s date ≡ undecoded place → DecodesReach (dated (reaching isAbsolute)) s (undecodedAt place)
+  undated-at place q = record { is = rw q refl; worth = rw q refl }
+
+  pub date-refused : {refusal place : ℕ} → r ≡ Refused refusal place → DecodesReach (dated (reaching isAbsolute)) s (undecodedAt place)
+  date-refused {place = place} h =
+      let (q, k) = valued-refused a h in
+      undated-at place (exactly-refused s date (ap (span 0) (sym there) ∙ q) k)
+
+  module _ {k start many after : ℕ} (h : r ≡ Is k start many after) where
+    span-here : span 0 date ≡ spans many (from s after (length s))
+    span-here = let p = valued-at a h in ap (span 0) (sym there) ∙ p .0
+
+    fills : many ≡ after
+    fills = let p = valued-at a h in front-fills checks s date (date-fronts checks [] s) span-here (p .5)
+
+    pub date-left : after < length s → DecodesReach (dated (reaching isAbsolute)) s (undecodedAt after)
+    date-left l = undated-at after (exactly-left s date span-here fills l)
+
+    whole : length s ≤ after → (exactly s date ≡ decoded (front date)) × (length (front date) ≡ after) × (date ≡ took (front date) [])
+    whole l = exactly-all s date span-here fills l
+
+    pub date-long : length s ≤ after → 9 ≤ length s
+    date-long l =
+        let f = front-whole checks s date (date-fronts checks [] s) (whole l .2) in
+        omega (arith, nine-checks isAbsolute (ltb 9 (length s)))
+
+    pub date-whole : length s ≤ after → {d : Date} → plainOf d ≡ dateOf s → DecodesReach (dated (reaching isAbsolute)) s (record { answer = 0; place = after; date = d })
+    date-whole l g =
+        let w = whole l in
+        let f = front-whole checks s date (date-fronts checks [] s) (w .2) in
+        record { is = rw (w .0, w .1) refl; worth = g ∙ rw (w .0, f .0) refl }
+
+-- the kind's reach
+pub kind-decodes : (kind : ℕ) (s : List ℕ) {reach : Reached} {r : DecodedDate} → reachOf kind ≡ reach → DecodesReach reach s r → DateDecodes kind s r
+unfolding dateDecoded datePlain decodeDate
+kind-decodes kind s h a = record { is = a .is ∙ rw h refl; worth = a .worth ∙ rw h refl }
+
+pub another-kind : (kind : ℕ) → (kind ≡ dateAbsolute → ⊥) → (kind ≡ dateForward → ⊥) → (kind ≡ dateBackward → ⊥) → reachOf kind ≡ noReach
+another-kind kind h i j = rw (ne-eqb kind 5 h, ne-eqb kind 6 i, ne-eqb kind 7 j) refl
+
+-- the components of a slice
+pub date-components : (s : List ℕ) {century yearIn month day hour minute second hundredths thousandth letter : ℕ}
+    → PairAt s 0 century → PairAt s 1 yearIn → PairAt s 2 month → PairAt s 3 day → PairAt s 4 hour → PairAt s 5 minute → PairAt s 6 second → PairAt s 7 hundredths
+    → thousandth ≡ digitOf (getD s 8 0 / 16) → letter ≡ getD s 9 0
+    → plainOf (record { year = 100 * century + yearIn; month = month; day = day; hour = hour; minute = minute; second = second; millisecond = 10 * hundredths + thousandth; designator = letter }) ≡ dateOf s
+date-components s a b c d e f g h i j = rw (a .is, b .is, c .is, d .is, e .is, f .is, g .is, h .is, i, j) refl
+
+pub pair-small : (s : List ℕ) (j : ℕ) {b two : ℕ} → b < 256 → b ≡ getD s j 0 → two ≡ twoDigits b → PairAt s j two
+pair-small s j h q p = record { is = p ∙ ap twoDigits q; small = omega arith }

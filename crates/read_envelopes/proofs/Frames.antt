@@ -1,0 +1,79 @@
+-- An envelope's frame: the laws of its identifier and length, as its stages answer them.
+use Prim.Native.Nat.{ℕ, _+_, _-_, _≤_}
+use mathlib.Core.List.{List}
+use mathlib.Core.Bool.{Bool}
+use mathlib.Core.Path.{_≡_, ap, _∙_}
+use native.Mathlib.Omega.{arith}
+use lib.ListN.{length}
+use Rattle.meaning.specs.Told.{Told}
+use Rattle.meaning.specs.Headers.{Answer, refused, envelopeMost, Onward, header}
+use Rattle.laws.specs.From.{from}
+use Rattle.laws.specs.Finishing.{finish, opened}
+use Rattle.read_envelopes.specs.declared.frame.Frame.{Frame}
+use Rattle.read_envelopes.specs.declared.frame.Frame.the-variants.{Opens, Refused}
+use Rattle.read_envelopes.specs.declared.envelope.Envelope.{Envelope}
+use Rattle.read_envelopes.specs.declared.envelope.Envelope.the-variants as answer
+use Rattle.read_envelopes.specs.Frames.{framed, FrameFits, FrameRead, MayCome, HeaderFramed}
+use Rattle.read_envelopes.specs.Envelopes.{behindEnvelope, EnvelopeEnds, EnvelopeFits, OthersCome, EnvelopeOpened, EnvelopeRead}
+
+-- a stage's answer
+pub frame-refused : {answer : Told → Onward → Answer} {s : List ℕ} {at refusal p : ℕ} → ((t : Told) (more : Onward) → answer t more ≡ refused refusal p) → FrameRead answer s at (Refused refusal p)
+unfolding framed FrameFits
+frame-refused h = record { is = h; fits = tt }
+
+pub frame-opens : {answer : Told → Onward → Answer} {s : List ℕ} {at head n : ℕ} {base : Bool} → ((t : Told) (more : Onward) → answer t more ≡ opened t more s at base (at + head) (at + n))
+    → 3 ≤ head → head ≤ n → n ≤ envelopeMost → at + n ≤ length s → FrameRead answer s at (Opens base (at + head) (at + n))
+unfolding framed FrameFits
+frame-opens is k h most l = record { is = is; fits = (omega arith, omega arith, l, omega arith) }
+
+-- an equation before a frame
+pub frame-begun : {answer onward : Told → Onward → Answer} {s : List ℕ} {at : ℕ} {r : Frame} → ((t : Told) (more : Onward) → answer t more ≡ onward t more) → FrameRead onward s at r → FrameRead answer s at r
+frame-begun h f = record { is = λ t more. h t more ∙ f .is t more; fits = f .fits }
+
+pub refused-at-frame : {s : List ℕ} {at left refusal p : ℕ} → ((t : Told) → header left t at (from s at (length s)) ≡ refused refusal p) → HeaderFramed s at left (Refused refusal p)
+unfolding framed FrameFits MayCome
+refused-at-frame h = record { is = h; fits = tt; more = tt }
+
+may-come : (left : ℕ) (r : Frame) → 1 ≤ left → MayCome left r
+unfolding MayCome
+may-come left (Opens base first end) h = h
+may-come left (Refused refusal p) h = tt
+
+pub header-framed : {answer : Told → Onward → Answer} {s : List ℕ} {at left : ℕ} {r : Frame} → ((t : Told) → header left t at (from s at (length s)) ≡ answer t (header (left - 1) t)) → (left ≡ 0 → ⊥) → FrameRead answer s at r → HeaderFramed s at left r
+header-framed {left = left} {r = r} is h f = record { is = λ t. is t ∙ f .is t (header (left - 1) t); fits = f .fits; more = may-come left r (omega arith) }
+
+-- One envelope, from its frame and what was read in it
+
+ended-fits : (s : List ℕ) (at end : ℕ) (r : Envelope) → at + 3 ≤ end → end ≤ length s → end ≤ at + envelopeMost → EnvelopeEnds end r → EnvelopeFits s at r
+unfolding EnvelopeEnds EnvelopeFits
+ended-fits s at end (answer.Base p n) h l k a = (omega arith, a .1, omega arith)
+ended-fits s at end (answer.Extension p n) h l k a = (omega arith, omega arith, a .1, omega arith)
+ended-fits s at end (answer.Refused refusal p) h l k a = tt
+
+others-come : (left : ℕ) (r : Envelope) → 1 ≤ left → OthersCome left r
+unfolding OthersCome
+others-come left (answer.Base p n) h = tt
+others-come left (answer.Extension p n) h = h
+others-come left (answer.Refused refusal p) h = tt
+
+module _ {s : List ℕ} {at left : ℕ} {f : Frame} where
+  pub opens-fit : {base : Bool} {first end : ℕ} → f ≡ Opens base first end → HeaderFramed s at left f → (at + 3 ≤ first) × (first ≤ end) × (end ≤ length s) × (end ≤ at + envelopeMost) × (1 ≤ left)
+  unfolding FrameFits MayCome
+  opens-fit h a =
+      let fits = rw h at (a .fits) in
+      let more = rw h at (a .more) in
+      (fits .0, fits .1, fits .2, fits .3, more)
+
+  pub envelope-refused : (t : Told) (n : ℕ) (m : List ℕ) {kept : List ℕ} {refusal p : ℕ} → f ≡ Refused refusal p → HeaderFramed s at left f → EnvelopeRead t s left at n m (answer.Refused refusal p) kept
+  unfolding framed behindEnvelope EnvelopeFits OthersCome
+  envelope-refused t n m h a =
+      let is = rw h at (a .is t) in
+      record { is = ap (λ (x : Answer). finish x n m) is; fits = tt; more = tt }
+
+  pub envelope-read : (t : Told) (n : ℕ) (m : List ℕ) {kept : List ℕ} {base : Bool} {first end : ℕ} {r : Envelope} → f ≡ Opens base first end → HeaderFramed s at left f
+      → EnvelopeOpened t s at first end base n m r kept → EnvelopeRead t s left at n m r kept
+  unfolding framed
+  envelope-read t n m {end = end} {r = r} h a b =
+      let (begins, before, whole, most, comes) = opens-fit h a in
+      let is = rw h at (a .is t) in
+      record { is = ap (λ (x : Answer). finish x n m) is ∙ b .is (header (left - 1) t); fits = ended-fits s at end r (omega arith) whole most (b .fits); more = others-come left r comes }

@@ -1,0 +1,4 @@
+// A whole header, envelope by envelope: identifier and length, the envelope's own row, its inside, and the next one.
+mod envelope;
+mod frame;
+pub mod header;

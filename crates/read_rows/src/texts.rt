@@ -1,0 +1,144 @@
+// Runs of rows of one shape. Each function takes n rows so far and answers the place behind what it read with the rows then, or the first refusal.
+use crate::Stage;
+use crate::look::CLOSING;
+use crate::look::fault;
+use crate::look::peek;
+use crate::rows;
+use table::kinds::EXTRA_KEY;
+use table::told::Told;
+ghost use mathlib.Core.Path.{_≡_};
+ghost use Prim.Native.Nat.{_<_};
+ghost use Rattle.meaning.specs.Kinds.{extraKey};
+ghost use Rattle.meaning.specs.Told as meaning;
+ghost use Rattle.meaning.specs.Editions.{State, anyValues};
+ghost use Rattle.laws.specs.Pouring.{Ready};
+ghost use Rattle.laws.specs.Shapes.{Shaped, Texts, Optional, Extras};
+ghost use Rattle.table.specs.Told.{toldOf};
+ghost use Rattle.read_rows.specs.Stages.{StateRead, TextRead};
+
+// A text that may be left out, from its code on. Where another byte stands, nothing is taken and no row changes.
+pub fn optional(
+    s: &[u8],
+    end: usize,
+    at: usize,
+    rows: &mut [u32],
+    n: usize,
+    code: u32,
+    kind: u32,
+    level: u32,
+) -> Stage
+    requires { ⌜ (Ready (now s) end at n) × (code < 256) ⌝ }
+    ensures { λ r. ⌜ ((t : meaning.Told) (q d : State) → Optional t q d code kind level → StateRead t (now (s .entry)) end q at n (now (rows .entry)) r d (now (rows .exit))) ⌝ }
+{
+    if peek(s, end, at) != code {
+        return Stage::Go(at, n);
+    }
+    let first = at + 1;
+    rows::text(s, end, first, rows, n, kind, level)
+}
+
+// Texts of one kind and level, and the 01 behind them: "In a list of texts, 01 where an item would begin ends the list."
+pub fn texts(
+    s: &[u8],
+    end: usize,
+    at: usize,
+    rows: &mut [u32],
+    n: usize,
+    kind: u32,
+    level: u32,
+) -> Stage
+    requires { ⌜ Ready (now s) end at n ⌝ }
+    ensures { λ r. ⌜ ((t : meaning.Told) (q d : State) → Texts t q d kind level → StateRead t (now (s .entry)) end q at n (now (rows .entry)) r d (now (rows .exit))) ⌝ }
+{
+    let mut here = at;
+    let mut count = n;
+    loop {
+        if peek(s, end, here) == CLOSING {
+            let behind = here + 1;
+            return Stage::Go(behind, count);
+        }
+        let r = rows::text(s, end, here, rows, count, kind, level);
+        let Stage::Go(after_text, with_text) = r else {
+            return r;
+        };
+        here = after_text;
+        count = with_text;
+    }
+}
+
+// Extras with this code, and the 01 behind them. A code above 256 is no byte: there are no extras.
+// Most often there are none, so the 01 is looked for before anything is called.
+pub fn extras(
+    s: &[u8],
+    end: usize,
+    at: usize,
+    rows: &mut [u32],
+    n: usize,
+    code: u32,
+    level: u32,
+    told: Told,
+) -> Stage
+    requires { ⌜ (Ready (now s) end at n) × (code ≡ 256 → ⊥) ⌝ }
+    ensures { λ r. ⌜ ((q any d : State) → Extras (toldOf told) q any d code level → StateRead (toldOf told) (now (s .entry)) end q at n (now (rows .entry)) r d (now (rows .exit))) ⌝ }
+{
+    if peek(s, end, at) == CLOSING {
+        let behind = at + 1;
+        return Stage::Go(behind, n);
+    }
+    some_extras(s, end, at, rows, n, code, level, told)
+}
+
+// .. extra by extra.
+fn some_extras(
+    s: &[u8],
+    end: usize,
+    at: usize,
+    rows: &mut [u32],
+    n: usize,
+    code: u32,
+    level: u32,
+    told: Told,
+) -> Stage
+    requires { ⌜ (Ready (now s) end at n) × (code ≡ 256 → ⊥) ⌝ }
+    ensures { λ r. ⌜ ((q any d : State) → Extras (toldOf told) q any d code level → StateRead (toldOf told) (now (s .entry)) end q at n (now (rows .entry)) r d (now (rows .exit))) ⌝ }
+{
+    let mut here = at;
+    let mut count = n;
+    loop {
+        let b = peek(s, end, here);
+        if b == CLOSING {
+            let behind = here + 1;
+            return Stage::Go(behind, count);
+        }
+        if b != code {
+            return fault(b, here);
+        }
+        let key = here + 1;
+        let r = extra(s, end, key, rows, count, level, told);
+        let Stage::Go(after_extra, with_extra) = r else {
+            return r;
+        };
+        here = after_extra;
+        count = with_extra;
+    }
+}
+
+// An extra, after its code: "key text; any-value".
+fn extra(
+    s: &[u8],
+    end: usize,
+    at: usize,
+    rows: &mut [u32],
+    n: usize,
+    level: u32,
+    told: Told,
+) -> Stage
+    requires { ⌜ Ready (now s) end at n ⌝ }
+    ensures { λ r. ⌜ ((q d : State) → Shaped (toldOf told) q d level 7 anyValues → TextRead (toldOf told) (now (s .entry)) end extraKey level q at n (now (rows .entry)) r d (now (rows .exit))) ⌝ }
+{
+    let key = rows::text(s, end, at, rows, n, EXTRA_KEY, level);
+    let Stage::Go(after_key, with_key) = key else {
+        return key;
+    };
+    rows::any(s, end, after_key, rows, with_key, level, told)
+}

@@ -1,0 +1,4 @@
+pub mod Told
+pub mod Codes
+pub mod Rows
+pub mod Reply

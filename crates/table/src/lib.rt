@@ -1,0 +1,8 @@
+// What reader, writer and listing share: document 01's numbers by name, what a reading is told, and rows in lent memory.
+pub mod codes;
+pub mod kinds;
+pub mod limits;
+pub mod refusals;
+pub mod reply;
+pub mod rows;
+pub mod told;

@@ -1,0 +1,4 @@
+pub mod Rooms
+pub mod Others
+pub mod Choosing
+pub mod Insides

@@ -1,0 +1,117 @@
+-- The rooms of both editions, by computation: what a stage asks of its room, one fact for each.
+use mathlib.Core.List.{[], _∷_}
+use mathlib.Core.Bool.{Bool, true, false}
+use mathlib.Core.Path.{_≡_, refl}
+use Rattle.meaning.specs.Kinds.{standardRepresentation, ownRepresentation, receivedBy, toOpens, fromOpens, receiverOpens, comments, payloadLength, payloadEncoding, encryptedOpens, encryptedItem, ownKey, ownValue, behaviourOpens}
+use Rattle.meaning.specs.Editions.{state, receivedBegins, headRepresentation, headDate, parameters, ownText, parameterRepresentation, behaviourValue, encryptedTexts, outer, text, number, opens, noCode, moves, shared, own, representations, anyValues, go, on_▸_▸_▸_, pass_▸_}
+use Rattle.meaning.specs.Reading.{hit, find}
+use Rattle.meaning.specs.Writing.{isPass}
+use Rattle.meaning.specs.Told.{Edition, B, D}
+use Rattle.write_rows.specs.Rooms.{ofKind, Needs, TextsIn, dates-lead}
+use Rattle.write_objects.specs.Turns.{agentsAt}
+use Rattle.write_rows.specs.Stages.{atParameters}
+use Rattle.write_inside.specs.Parameters.{encryptedIn, agentsNext, InParameters, AgentsIn}
+use Rattle.values.specs.Dates.{datesOf}
+
+-- "Base: FE, length, representation, date"
+
+pub front-representation : (edition : Edition) → Needs edition (state headRepresentation 0 false) (representations (outer headDate)) (outer headDate)
+unfolding moves shared own find
+front-representation D = record { rows = refl; lead = (refl, refl, (refl, refl, (refl, refl, (refl, refl, tt)))); lost = refl }
+front-representation B = record { rows = refl; lead = (refl, refl, (refl, refl, (refl, refl, (refl, refl, tt)))); lost = refl }
+
+pub front-date : (edition : Edition) → Needs edition (state headDate 0 false) (datesOf edition (outer parameters)) (outer parameters)
+unfolding moves shared own find
+front-date D = record { rows = refl; lead = dates-lead D (outer parameters) (state headDate 0 false); lost = refl }
+front-date B = record { rows = refl; lead = dates-lead B (outer parameters) (state headDate 0 false); lost = refl }
+
+-- "Parameters, any order": the first row of each, and what has to follow it
+
+pub own-first : (edition : Edition) → InParameters edition (on 0x00 ▸ ownKey ▸ text ▸ outer ownText)
+unfolding moves shared own
+own-first D = refl
+own-first B = refl
+
+pub own-text : (edition : Edition) → Needs edition (state ownText 0 false) (on noCode ▸ ownValue ▸ text ▸ outer parameters ∷ []) (outer parameters)
+unfolding moves shared own find
+own-text D = record { rows = refl; lead = (refl, refl, tt); lost = refl }
+own-text B = record { rows = refl; lead = (refl, refl, tt); lost = refl }
+
+pub to-first : (edition : Edition) → AgentsIn edition toOpens 2 false
+unfolding moves shared own
+to-first D = record { is = refl; shallow = refl }
+to-first B = record { is = refl; shallow = refl }
+
+pub from-first : (edition : Edition) → AgentsIn edition fromOpens 3 true
+unfolding moves shared own
+from-first D = record { is = refl; shallow = refl }
+from-first B = record { is = refl; shallow = refl }
+
+pub receiver-first : (edition : Edition) → AgentsIn edition receiverOpens 9 false
+unfolding moves shared own
+receiver-first D = record { is = refl; shallow = refl }
+receiver-first B = record { is = refl; shallow = refl }
+
+pub agents-begin : (one : Bool) → go (agentsNext one) atParameters ≡ agentsAt 1 one
+agents-begin true = refl
+agents-begin false = refl
+
+pub pass-represents : (edition : Edition) → find (isPass 0x04) (moves edition parameters) ≡ hit (pass 0x04 ▸ outer parameterRepresentation)
+unfolding moves shared own find
+pass-represents D = refl
+pass-represents B = refl
+
+pub parameter-representation : (edition : Edition) → Needs edition (state parameterRepresentation 0 false) (representations (outer parameters)) (outer parameters)
+unfolding moves shared own find
+parameter-representation D = record { rows = refl; lead = (refl, refl, (refl, refl, (refl, refl, (refl, refl, tt)))); lost = refl }
+parameter-representation B = record { rows = refl; lead = (refl, refl, (refl, refl, (refl, refl, (refl, refl, tt)))); lost = refl }
+
+pub comments-first : (edition : Edition) → InParameters edition (on 0x05 ▸ comments ▸ text ▸ outer parameters)
+unfolding moves shared own
+comments-first D = refl
+comments-first B = refl
+
+pub length-first : (edition : Edition) → InParameters edition (on 0x06 ▸ payloadLength ▸ number ▸ outer parameters)
+unfolding moves shared own
+length-first D = refl
+length-first B = refl
+
+pub encoding-first : (edition : Edition) → InParameters edition (on 0x07 ▸ payloadEncoding ▸ text ▸ outer parameters)
+unfolding moves shared own
+encoding-first D = refl
+encoding-first B = refl
+
+pub encrypted-first : InParameters B (on 0x08 ▸ encryptedOpens ▸ opens ▸ outer encryptedTexts)
+unfolding moves shared own
+encrypted-first = refl
+
+pub encrypted-texts : TextsIn B encryptedTexts encryptedItem 0 false atParameters
+unfolding moves shared own find
+encrypted-texts = record { item = outer encryptedTexts; rows = refl; again = refl; next = outer parameters; closes = refl; leads = refl; shallow = refl }
+
+pub pass-receives : (edition : Edition) → find (isPass 0x0a) (moves edition parameters) ≡ hit (pass 0x0a ▸ outer receivedBegins)
+unfolding moves shared own find
+pass-receives D = refl
+pass-receives B = refl
+
+pub behaviour-first : (edition : Edition) → InParameters edition (on 0x0b ▸ behaviourOpens ▸ opens ▸ outer behaviourValue)
+unfolding moves shared own
+behaviour-first D = refl
+behaviour-first B = refl
+
+pub behaviour-value : (edition : Edition) → Needs edition (state behaviourValue 0 false) (anyValues (outer parameters)) (outer parameters)
+unfolding moves shared own find
+behaviour-value D = record { rows = refl; lead = (refl, refl, (refl, refl, (refl, refl, (refl, refl, tt)))); lost = refl }
+behaviour-value B = record { rows = refl; lead = (refl, refl, (refl, refl, (refl, refl, (refl, refl, tt)))); lost = refl }
+
+-- kinds that no parameter begins with
+
+pub none-represents : (edition : Edition) → (ofKind standardRepresentation (moves edition parameters) ≡ []) × (ofKind ownRepresentation (moves edition parameters) ≡ []) × (ofKind receivedBy (moves edition parameters) ≡ [])
+unfolding moves shared own
+none-represents D = (refl, refl, refl)
+none-represents B = (refl, refl, refl)
+
+pub encrypted-is : (edition : Edition) → ofKind encryptedOpens (moves edition parameters) ≡ ofKind encryptedOpens (encryptedIn edition)
+unfolding moves shared own
+encrypted-is D = refl
+encrypted-is B = refl

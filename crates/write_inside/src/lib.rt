@@ -1,0 +1,3 @@
+// The inside of one envelope, row by row: what stands at its front, its parameters, and where it ends.
+pub mod body;
+mod parameters;

@@ -1,0 +1,4 @@
+pub mod Values
+pub mod Sought
+pub mod Forms
+pub mod Lists

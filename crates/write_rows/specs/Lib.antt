@@ -1,0 +1,10 @@
+pub mod Laying
+pub mod Bodies
+pub mod Codes
+pub mod Rooms
+pub mod Stages
+pub mod Openings
+pub mod Among
+pub mod Stands
+pub mod Onward
+pub mod Optional

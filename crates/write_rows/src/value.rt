@@ -1,0 +1,55 @@
+// Whether the bytes that a row views are a value of a form.
+use values::Value;
+ghost use mathlib.Core.Path.{_≡_};
+ghost use mathlib.Core.Bool.{true};
+ghost use mathlib.Core.List.{[]};
+ghost use Rattle.meaning.specs.Bytes.{textOk, numberOk, dateOk, dateChecks};
+ghost use Rattle.values.specs.Dates.{reaching};
+
+// "Text: bytes 20 to FF." Answers whether all bytes are such: whether the reader's own run over them comes to their end.
+pub fn text_ok(bytes: &[u8]) -> bool
+    ensures { λ r. ⌜ r ≡ textOk (now (bytes .entry)) ⌝ }
+{
+    let end = bytes.len();
+    end <= values::text::run(bytes, end, 0)
+}
+
+// Answers whether the bytes are a number: whether the reader's own stage takes all of them.
+pub fn number_ok(bytes: &[u8]) -> bool
+    ensures { λ r. ⌜ r ≡ numberOk 0 true (now (bytes .entry)) ⌝ }
+{
+    let end = bytes.len();
+    let r = values::number::take(bytes, end, 0);
+    let Value::Is {
+        kind: _,
+        start: _,
+        length: _,
+        after,
+    } = r
+    else {
+        return false;
+    };
+    end <= after
+}
+
+// Answers whether the bytes are a date of this reach, with a designator or without. Those of another length are none, and the reader's
+// own stage looks at the others.
+pub fn date_ok(bytes: &[u8], absolute: bool, designated: bool) -> bool
+    ensures { λ r. ⌜ r ≡ dateOk (dateChecks (reaching absolute) designated) [] (now (bytes .entry)) ⌝ }
+{
+    let end = bytes.len();
+    if end != values::date::length_of(designated) {
+        return false;
+    }
+    let r = values::date::bytes(bytes, end, 0, 0, absolute, designated);
+    let Value::Is {
+        kind: _,
+        start: _,
+        length: _,
+        after,
+    } = r
+    else {
+        return false;
+    };
+    end <= after
+}
