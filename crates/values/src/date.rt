@@ -170,7 +170,10 @@ fn last_day(s: &[u8], at: usize) -> u32
     requires { ⌜ at + 3 ≤ length (now s) ⌝ }
     ensures { λ r. ⌜ r ≡ lastDayAfter (earlier (now (s .entry)) at 3) ⌝ }
 {
-    month_days(100 * pair_at(s, at) + pair_at(s, at + 1), pair_at(s, at + 2))
+    month_days(
+        100 * pair_at(s, at) + pair_at(s, at + 1),
+        pair_at(s, at + 2),
+    )
 }
 
 // "the days of their month by the Gregorian rule".
