@@ -174,7 +174,7 @@ static void check_number(struct source *source, struct tally *tally, const uint8
     both_number(tally, value, bytes, length, random_below(source, 9));
 }
 
-/* Each component up to just above its bound, and from year to designator. */
+/* Each component up to just above its bound, from year to designator; days at a month's end and years of a century more often. */
 static void check_date(struct source *source, struct tally *tally, const uint8_t *bytes)
 {
     static const size_t bounds[8] = {10002, 15, 34, 26, 62, 62, 1002, 128};
@@ -183,6 +183,10 @@ static void check_date(struct source *source, struct tally *tally, const uint8_t
         components[i] = (uint32_t)random_below(source, bounds[i]);
     if (random_once_in(source, 2))
         components[7] = 0;
+    if (random_once_in(source, 2))
+        components[2] = 27 + (uint32_t)random_below(source, 6);
+    if (random_once_in(source, 4))
+        components[0] -= components[0] % 100;
     struct header date = {header_bytes, 0};
     generate_header(source, EDITION_D, &date);
     uint32_t kind = 4 + (uint32_t)random_below(source, 5);

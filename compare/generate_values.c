@@ -1,5 +1,7 @@
 #include "generate_values.h"
 
+#include "values.h"
+
 void put(struct header *header, unsigned byte)
 {
     if (header->length < MOST_HEADER)
@@ -39,18 +41,48 @@ void put_text(struct source *source, struct header *header)
     put_text_of(source, header, text_length(source));
 }
 
-static void put_pair(struct source *source, struct header *header, unsigned least, unsigned most)
+static void put_pair(struct header *header, unsigned value)
 {
-    unsigned value = least + (unsigned)random_below(source, most - least + 1);
     put(header, 16 * (value / 10 + 1) + value % 10 + 1);
+}
+
+static void put_pair_up_to(struct source *source, struct header *header, unsigned most)
+{
+    put_pair(header, (unsigned)random_below(source, most + 1));
+}
+
+/* Any digits. */
+static void put_relative(struct source *source, struct header *header)
+{
+    for (unsigned part = 0; part < 8; part++)
+        put_pair_up_to(source, header, 99);
+}
+
+/* One time in four a century's year, or February, or a day at the month's end, and of those now and then the one behind it. */
+static void put_absolute(struct source *source, struct header *header)
+{
+    unsigned year = (unsigned)(random_once_in(source, 4) ? 100 * random_below(source, 100) : random_below(source, 10000));
+    unsigned month = random_once_in(source, 4) ? 2 : 1 + (unsigned)random_below(source, 12);
+    unsigned last = second_days_in(year, month);
+    unsigned day = 1 + (unsigned)random_below(source, 28);
+    if (random_once_in(source, 4))
+        day = random_once_in(source, 8) ? last + 1 : last - (unsigned)random_below(source, 2);
+    put_pair(header, year / 100);
+    put_pair(header, year % 100);
+    put_pair(header, month);
+    put_pair(header, day);
+    put_pair_up_to(source, header, 23);
+    put_pair_up_to(source, header, 59);
+    put_pair_up_to(source, header, 59);
+    put_pair_up_to(source, header, 99);
 }
 
 static void put_date_bytes(struct source *source, struct header *header, int absolute)
 {
-    static const unsigned least[8] = {0, 0, 1, 1, 0, 0, 0, 0};
-    static const unsigned most[8] = {99, 99, 12, 31, 23, 59, 59, 99};
-    for (unsigned part = 0; part < 8; part++)
-        put_pair(source, header, absolute ? least[part] : 0, absolute ? most[part] : 99);
+    if (absolute)
+        put_absolute(source, header);
+    else
+        put_relative(source, header);
     put(header, 16 * (1 + (unsigned)random_below(source, 10)));
 }
 

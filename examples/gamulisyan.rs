@@ -138,6 +138,7 @@ mod tests {
 
     /// M of document 01, and one byte of payload.
     const M: [u8; 16] = *b"\xFE\x00\x0F\x12\x20\x31\x11\x16\x19\x15\x37\x62\x59\x20\x01!";
+    const ABSOLUTE: u32 = 5;
     const FORWARD: u32 = 6;
 
     #[test]
@@ -179,6 +180,17 @@ mod tests {
         assert_eq!(coded, Coded { answer: 0, place: 10 });
         let dated = unsafe { gamulisyan_date_decode(FORWARD, output.as_ptr(), output.len()) };
         assert_eq!(dated, Dated { answer: 0, place: 10, date });
+    }
+
+    #[test]
+    fn knows_which_days_exist() {
+        let leap_day = Date { year: 2000, month: 2, day: 29, hour: 0, minute: 0, second: 0, millisecond: 0, designator: 0 };
+        let mut output = [0; 9];
+        let coded = unsafe { gamulisyan_date_encode(ABSOLUTE, leap_day, output.as_mut_ptr(), output.len()) };
+        assert_eq!(coded, Coded { answer: 0, place: 9 });
+        let never = Date { year: 1900, ..leap_day };
+        let refused = unsafe { gamulisyan_date_encode(ABSOLUTE, never, output.as_mut_ptr(), output.len()) };
+        assert_eq!(refused, Coded { answer: 9, place: 0 });
     }
 
     #[test]

@@ -141,13 +141,13 @@ struct gamulisyan_number gamulisyan_number_decode(const uint8_t *bytes, size_t l
 struct gamulisyan_coded gamulisyan_number_encode(uint64_t value, uint8_t *output, size_t length);
 
 /* Takes a date row's kind and its bytes, nine or with a designator ten. Answers 0, their count and the date; or 9 at the byte
-   that is wrong, missing or left over, or at 0 for another kind than 5, 6 and 7, and then 0 in every component. Changes no
-   memory. */
+   that is wrong, missing or left over, or at 0 for another kind than 5, 6 and 7, and then 0 in every component. A day that its
+   month does not have is wrong in an absolute date: the fault lies on the day's byte. Changes no memory. */
 struct gamulisyan_dated gamulisyan_date_decode(uint32_t kind, const uint8_t *bytes, size_t length);
 
 /* Takes a date row's kind, a date and an output lent. Answers 0 and the bytes written, 9 or with a designator 10; or 9 at 0 for
-   a component out of range or another kind, then 16 at the bytes needed. Leaves the coded date, without a date code, at the
-   front of `output`, and after a refusal nothing. */
+   a component out of range, in an absolute date a day that its month does not have, or another kind; then 16 at the bytes
+   needed. Leaves the coded date, without a date code, at the front of `output`, and after a refusal nothing. */
 struct gamulisyan_coded gamulisyan_date_encode(uint32_t kind, struct gamulisyan_date date, uint8_t *output, size_t length);
 
 /* Takes nothing. Answers the version of the archive that is linked, a number as GAMULISYAN_VERSION is; the two are equal unless header

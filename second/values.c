@@ -132,7 +132,7 @@ struct second_answer second_number_encode(uint64_t value, uint8_t *output, size_
 
 /* Dates */
 
-enum { DATE_PAIRS = 8 }; /* the last of the nine bytes holds one digit and four zero bits */
+enum { DATE_PAIRS = 8, DAY_PLACE = 3 }; /* the last of the nine bytes holds one digit and four zero bits */
 
 static bool is_date_kind(uint32_t kind)
 {
@@ -142,6 +142,21 @@ static bool is_date_kind(uint32_t kind)
 static bool is_letter(uint32_t byte)
 {
     return (byte >= 'A' && byte <= 'Z') || (byte >= 'a' && byte <= 'z');
+}
+
+/* Order 3: "the days of their month by the Gregorian rule, year 0000 counted as a leap year" */
+unsigned second_days_in(unsigned year, unsigned month)
+{
+    static const unsigned days[12] = {31, 28, 31, 30, 31, 30, 31, 31, 30, 31, 30, 31};
+    bool leap = year % 400 == 0 || (year % 4 == 0 && year % 100 != 0);
+    return month == 2 && leap ? 29 : days[month - 1];
+}
+
+/* Whether the month of an absolute date, whose bytes before the day were found to fit, has this day. */
+static bool day_exists(const uint8_t *bytes)
+{
+    unsigned year = (unsigned)(digit_pair(bytes[0]) * 100 + digit_pair(bytes[1]));
+    return (unsigned)digit_pair(bytes[DAY_PLACE]) <= second_days_in(year, (unsigned)digit_pair(bytes[2]));
 }
 
 static bool in_range(uint32_t kind, size_t place, int pair)
@@ -174,6 +189,8 @@ struct second_answer second_date_front(struct date_form form, const uint8_t *byt
         if (place == length)
             return answered(BYTE_NEEDED, length);
         if (!date_byte_fits(form.kind, place, bytes[place]))
+            return answered(DATE_WRONG, place);
+        if (form.kind == KIND_DATE_ABSOLUTE && place == DAY_PLACE && !day_exists(bytes))
             return answered(DATE_WRONG, place);
     }
     return answered(ACCEPTED, needed);

@@ -30,6 +30,9 @@ struct second_answer second_text_front(const uint8_t *bytes, size_t length);
 struct second_answer second_number_front(const uint8_t *bytes, size_t length, uint64_t *value);
 
 /* The date behind its code; `form.kind` must be one of the three date kinds. */
+/* How many days a month from 1 to 12 has. */
+unsigned second_days_in(unsigned year, unsigned month);
+
 struct second_answer second_date_front(struct date_form form, const uint8_t *bytes, size_t length);
 
 /* False if the edition has no such date. */

@@ -1,4 +1,4 @@
-/* Runs the recorded cases of one folder: read.tsv, write.tsv, number.tsv and date.tsv. Each case is given its own lent
+/* Runs the recorded cases of one folder: read.tsv, write.tsv, number.tsv, date.tsv and days.tsv. Each case is given its own lent
    memory between guards, and the whole of it is compared afterwards. */
 #include "second.h"
 
@@ -97,22 +97,21 @@ static void print_lent(struct lent *lent)
     print_hex(inside(lent) + lent->length, GUARD);
 }
 
-/* edition, row room, input, answer, place, rows, rows themselves */
-static bool check_read(const struct fields *fields, struct bench *bench)
+/* edition, what is lent, input, answer, place, rows, rows themselves; room: the numbers lent */
+static bool check_reading(const char *const *text, size_t room, struct bench *bench)
 {
-    uint32_t edition = (uint32_t)number(fields->text[0]);
-    size_t room = number(fields->text[1]) * ROW_NUMBERS;
-    size_t length = hex_bytes(fields->text[2], bench->given);
-    uint32_t answer = (uint32_t)number(fields->text[3]);
-    uint64_t place = number(fields->text[4]);
-    size_t expected = list_bytes(fields->text[6], bench->expected);
+    uint32_t edition = (uint32_t)number(text[0]);
+    size_t length = hex_bytes(text[2], bench->given);
+    uint32_t answer = (uint32_t)number(text[3]);
+    uint64_t place = number(text[4]);
+    size_t expected = list_bytes(text[6], bench->expected);
     uint8_t *input = lend_copy(&bench->source, bench->given, length);
     uint32_t *rows = as_rows(lend(&bench->target, room * sizeof *rows));
 
     struct second_reply got = second_read(edition, input, length, rows, room);
     struct second_part payload = second_payload(edition, input, length);
     bool well = answer == ACCEPTED || answer == ROOM_EXCEEDED;
-    if (got.answer == answer && got.place == place && got.rows == number(fields->text[5])
+    if (got.answer == answer && got.place == place && got.rows == number(text[5])
         && payload.start == (well ? place : 0) && payload.length == (well ? length - place : 0)
         && holds_only(&bench->source, bench->given, length) && holds_only(&bench->target, bench->expected, expected))
         return true;
@@ -124,24 +123,30 @@ static bool check_read(const struct fields *fields, struct bench *bench)
     return false;
 }
 
-/* edition, rows themselves, pool, output room, answer, place, rows, output */
-static bool check_write(const struct fields *fields, struct bench *bench)
+/* in read.tsv rows are lent */
+static bool check_read(const struct fields *fields, struct bench *bench)
 {
-    uint32_t edition = (uint32_t)number(fields->text[0]);
-    size_t rows_bytes = list_bytes(fields->text[1], bench->given);
+    return check_reading(fields->text, number(fields->text[1]) * ROW_NUMBERS, bench);
+}
+
+/* edition, rows themselves, pool, output room, answer, place, rows, output */
+static bool check_writing(const char *const *text, struct bench *bench)
+{
+    uint32_t edition = (uint32_t)number(text[0]);
+    size_t rows_bytes = list_bytes(text[1], bench->given);
     const uint32_t *rows = as_rows(lend_copy(&bench->source, bench->given, rows_bytes));
-    size_t pool_length = hex_bytes(fields->text[2], bench->given);
+    size_t pool_length = hex_bytes(text[2], bench->given);
     const uint8_t *pool = lend_copy(&bench->pool, bench->given, pool_length);
-    size_t room = number(fields->text[3]);
+    size_t room = number(text[3]);
     uint8_t *output = lend(&bench->target, room);
 
     struct second_reply got = second_write(edition, rows, rows_bytes / sizeof *rows, pool, pool_length, output, room);
     bool sources = holds_only(&bench->pool, bench->given, pool_length);
-    list_bytes(fields->text[1], bench->given);
+    list_bytes(text[1], bench->given);
     sources = sources && holds_only(&bench->source, bench->given, rows_bytes);
-    size_t expected = hex_bytes(fields->text[7], bench->expected);
-    if (got.answer == number(fields->text[4]) && got.place == number(fields->text[5])
-        && got.rows == number(fields->text[6]) && sources && holds_only(&bench->target, bench->expected, expected))
+    size_t expected = hex_bytes(text[7], bench->expected);
+    if (got.answer == number(text[4]) && got.place == number(text[5])
+        && got.rows == number(text[6]) && sources && holds_only(&bench->target, bench->expected, expected))
         return true;
     printf("  got %" PRIu32 "\t%" PRIu64 "\t%" PRIu64 "\t", got.answer, got.place, got.rows);
     print_hex(output, got.answer == ACCEPTED ? got.place : 0);
@@ -150,6 +155,11 @@ static bool check_write(const struct fields *fields, struct bench *bench)
     bench->target.length = got.answer == ACCEPTED ? got.place : 0;
     print_lent(&bench->target);
     return false;
+}
+
+static bool check_write(const struct fields *fields, struct bench *bench)
+{
+    return check_writing(fields->text, bench);
 }
 
 static bool check_encoded(struct second_answer got, const struct fields *fields, size_t first, struct bench *bench)
@@ -221,6 +231,16 @@ static bool check_date(const struct fields *fields, struct bench *bench)
                                                   : check_date_decode(fields, bench);
 }
 
+/* a case that names its call; a read's numbers are lent, not rows */
+static bool check_named(const struct fields *fields, struct bench *bench)
+{
+    if (strcmp(fields->text[0], "read") == 0)
+        return check_reading(fields->text + 1, number(fields->text[2]), bench);
+    if (strcmp(fields->text[0], "write") == 0)
+        return check_writing(fields->text + 1, bench);
+    return check_date(fields, bench);
+}
+
 struct tally {
     unsigned passed;
     unsigned failed;
@@ -253,6 +273,7 @@ int main(int count, char **arguments)
     check_file(arguments[1], "write.tsv", check_write, &bench, &tally);
     check_file(arguments[1], "number.tsv", check_number, &bench, &tally);
     check_file(arguments[1], "date.tsv", check_date, &bench, &tally);
+    check_file(arguments[1], "days.tsv", check_named, &bench, &tally);
     printf("%u passed, %u failed\n", tally.passed, tally.failed);
     return tally.failed == 0 ? 0 : 1;
 }

@@ -9,6 +9,8 @@ use lib.Dec.{leb}
 use lib.ListN.{length, take}
 use Rattle.meaning.specs.Bytes.{numberMost}
 use Rattle.meaning.specs.Plain.{decoded, valueOf, numberValue, decodeNumber, numberDecoded, numberPlain, numberBytes, numberEncoded, numberOutput, dateOf, dateBytes, decodeDate, componentsOf, dateDecoded, datePlain, dateInRange, dateEncoded, dateOutput}
+use Rattle.meaning.specs.Kinds.{dateAbsolute}
+use Rattle.laws.specs.Days.{DayExists, day-exists}
 use Rattle.laws.specs.Demands.{number-again, number-bytes-again, date-again, date-bytes-again}
 use Rattle.coders.specs.declared.decode.DecodedNumber.{DecodedNumber}
 use Rattle.coders.specs.declared.decode.DecodedDate.{DecodedDate}
@@ -60,3 +62,14 @@ date-decoded-again {kind} {bytes} {before} {after} {a} {b} p z q room =
     let worth : plainOf (a .date) ≡ dateOf v = p .worth ∙ ap componentsOf d in
     let bytes-back : dateBytes (plainOf (a .date)) ≡ bytes = ap dateBytes worth ∙ back in
     subst (λ (x : List ℕ). Encodes x before after b) bytes-back (encodes 9 (dateBytes (plainOf (a .date))) before (dateInRange kind (plainOf (a .date))) (q .is) (q .lays) (ap (dateInRange kind) worth ∙ range) (omega (arith, ap length bytes-back)))
+
+-- order 3: an absolute date that a call decodes or encodes has a day of its month
+pub decoded-day-exists : {bytes : List ℕ} {a : DecodedDate} → DateDecodes dateAbsolute bytes a → a .answer ≡ 0 → DayExists (plainOf (a .date))
+unfolding dateDecoded datePlain
+decoded-day-exists {bytes} {a} p z =
+    let (v, d) = decoded-call 9 (omega arith) (decodeDate dateAbsolute bytes) (p .is) z in
+    subst DayExists (sym (p .worth ∙ ap componentsOf d)) (day-exists (dateOf v) (date-bytes-again dateAbsolute bytes v d .1))
+
+pub encoded-day-exists : {date : Date} {before after : List ℕ} {a : Encoded} → DateEncodes dateAbsolute (plainOf date) before after a → a .answer ≡ 0 → DayExists (plainOf date)
+unfolding dateEncoded dateOutput
+encoded-day-exists {date} {before} p z = day-exists (plainOf date) (encoded-call 9 (dateBytes (plainOf date)) before (omega arith) (dateInRange dateAbsolute (plainOf date)) (p .is) (p .lays) z .0)

@@ -10,7 +10,7 @@ use lib.Dec.{ltb}
 use lib.ListN.{length, getD, length-append}
 use lib.Seq.{take-all}
 use Rattle.meaning.specs.Basics.{pick}
-use Rattle.meaning.specs.Bytes.{Taken, took, failed, prefixed, Check, passes, dateChecks, takeDate, takeNumber, digitOf, twoDigits}
+use Rattle.meaning.specs.Bytes.{Taken, took, failed, prefixed, Check, passes, dateChecks, takeDate, takeNumber, digitOf}
 use Rattle.meaning.specs.Plain.{decoded, undecoded, exactly, Reached, noReach, reachOf, numberValue, decodeNumber, numberDecoded, numberPlain, dateOf, dated, decodeDate, dateDecoded, datePlain}
 use Rattle.meaning.specs.Kinds.{dateAbsolute, dateForward, dateBackward}
 use Rattle.laws.specs.From.{from, from-length, from-end, from-cons}
@@ -22,9 +22,9 @@ use Rattle.coders.specs.declared.Date.{Date}
 use Rattle.values.specs.Stages.{span, spans, misses, Valued}
 use Rattle.values.specs.Answers.{valued-at, valued-refused}
 use Rattle.values.specs.Numbers.{counts, tally, tallied, Counted}
-use Rattle.values.specs.Dates.{reaching}
+use Rattle.values.specs.Dates.{reaching, PairAt}
 use Rattle.coders.specs.declared.decode.DecodedDate.{DecodedDate}
-use Rattle.coders.specs.Plain.{NumberDecodes, DateDecodes, DecodesReach, plainOf, undecodedAt, PairAt}
+use Rattle.coders.specs.Plain.{NumberDecodes, DateDecodes, DecodesReach, plainOf, undecodedAt}
 use Rattle.values.specs.Counting.{counted-is, counted-refused}
 
 pub from-all : (s : List ℕ) → from s 0 (length s) ≡ s
@@ -183,6 +183,3 @@ pub date-components : (s : List ℕ) {century yearIn month day hour minute secon
     → thousandth ≡ digitOf (getD s 8 0 / 16) → letter ≡ getD s 9 0
     → plainOf (record { year = 100 * century + yearIn; month = month; day = day; hour = hour; minute = minute; second = second; millisecond = 10 * hundredths + thousandth; designator = letter }) ≡ dateOf s
 date-components s a b c d e f g h i j = rw (a .is, b .is, c .is, d .is, e .is, f .is, g .is, h .is, i, j) refl
-
-pub pair-small : (s : List ℕ) (j : ℕ) {b two : ℕ} → b < 256 → b ≡ getD s j 0 → two ≡ twoDigits b → PairAt s j two
-pair-small s j h q p = record { is = p ∙ ap twoDigits q; small = omega arith }

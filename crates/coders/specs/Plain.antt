@@ -53,11 +53,6 @@ noComponents = record { year = 0; month = 0; day = 0; hour = 0; minute = 0; seco
 abbrev pub undecodedAt : ℕ → DecodedDate
 undecodedAt offset = record { answer = 9; place = offset; date = noComponents }
 
--- two digits of any byte
-pub record PairAt (bytes : List ℕ) (j two : ℕ) : Type 0 where
-  pub is : two ≡ twoDigits (getD bytes j 0)
-  pub small : two ≤ 154
-
 -- the encoder of dates
 pub record DateEncodes (kind : ℕ) (date : PlainDate) (before after : List ℕ) (result : Encoded) : Type 0 where
   pub is : outcome (result .answer) (result .place) ≡ dateEncoded kind date (length before)

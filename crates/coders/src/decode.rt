@@ -9,15 +9,15 @@ use table::refusals::NUMBER_WRONG;
 use values::Value;
 use values::bytes::wide;
 use values::digits::digit;
-use values::digits::two_digits;
+use values::digits::pair_at;
 use values::number::Number;
 use values::number::count;
 ghost use mathlib.Core.Path.{_≡_};
-ghost use Prim.Native.Nat.{_≤_, _<_};
+ghost use Prim.Native.Nat.{_≤_};
 ghost use lib.ListN.{length, getD};
 ghost use Rattle.meaning.specs.Plain.{dateOf, dated};
 ghost use Rattle.values.specs.Dates.{reaching};
-ghost use Rattle.coders.specs.Plain.{NumberDecodes, DateDecodes, DecodesReach, plainOf, undecodedAt, PairAt};
+ghost use Rattle.coders.specs.Plain.{NumberDecodes, DateDecodes, DecodesReach, plainOf, undecodedAt};
 
 // An answer, the bytes read or its place, and the number, 0 where it is refused.
 #[repr(C)]
@@ -138,14 +138,6 @@ fn components(bytes: &[u8]) -> Date
         millisecond: 10 * pair_at(bytes, 7) + digit(wide(bytes[8]) / 16),
         designator: designator_of(bytes),
     }
-}
-
-// The two digits of byte j.
-fn pair_at(bytes: &[u8], j: usize) -> u32
-    requires { ⌜ j < length (now bytes) ⌝ }
-    ensures { λ r. ⌜ PairAt (now (bytes .entry)) j r ⌝ }
-{
-    two_digits(wide(bytes[j]))
 }
 
 // The tenth byte, or 0 where there is none.

@@ -10,7 +10,7 @@ use lib.Dec.{T, eqb, leb, leb→le, ltb→lt, le→leb, eqb→eq}
 use lib.ListN.{length}
 use borrow.Author.Tests.{lt-leb}
 use Rattle.meaning.specs.Basics.{pick, every}
-use Rattle.meaning.specs.Bytes.{Taken, took, failed, prefixed, isDigit, twoDigits, Check, pair, day, half, letter, lastDay, pairWithin, passes, Reach, absolute, relative, anyPair, dateChecks, takeDate, dateOk}
+use Rattle.meaning.specs.Bytes.{Taken, took, failed, prefixed, isDigit, twoDigits, Check, pair, day, half, letter, lastDayAfter, pairWithin, passes, Reach, absolute, relative, anyPair, dateChecks, takeDate, dateOk}
 use Rattle.meaning.specs.Kinds.{agentName}
 use Rattle.meaning.specs.Told.{Edition, B, D, Told, told}
 use Rattle.meaning.specs.Editions.{Room, State, Next, outer, inner, innerOne, stay, deeper, listEnds, agentEnds, go, Form, text, date, number, block, itself, opens, quiet, Move, noCode, moves}
@@ -91,7 +91,7 @@ pair-loose lo hi b t =
 passes-loose : (c : Check) (earlier : List ℕ) (b : ℕ) → T (passes c earlier b) → T (passes (loose c) earlier b)
 unfolding passes loose
 passes-loose (pair lo hi) earlier b t = pair-loose lo hi b t
-passes-loose day earlier b t = pair-loose 1 (lastDay earlier) b t
+passes-loose day earlier b t = pair-loose 1 (lastDayAfter earlier) b t
 passes-loose half earlier b t = t
 passes-loose letter earlier b t = t
 

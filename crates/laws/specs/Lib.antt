@@ -36,3 +36,4 @@ pub mod PlainNumbers
 pub mod PlainDates
 pub mod Ties
 pub mod Demands
+pub mod Days

@@ -90,16 +90,31 @@ pub data Check : Type 0 where
   half : Check
   letter : Check
 
--- "day 1 to 31": the one name for which days exist; earlier: the date's bytes before the day, the month first
-unfoldable pub lastDay : List ℕ → ℕ
-lastDay earlier = 31
+-- Order 3: "the days of their month by the Gregorian rule". A leap year is one that 4 divides and 100 does not, or 400 does:
+-- "year 0000 counted as a leap year"
+abbrev pub divides : ℕ → ℕ → Bool
+divides n year = eqb (year % n) 0
+
+abbrev pub isLeap : ℕ → Bool
+isLeap year = divides 4 year && (not (divides 100 year) || divides 400 year)
+
+-- thirty days have April, June, September and November, February 28 or in a leap year 29, all others 31: the one name for which days exist
+unfoldable pub lastDay : ℕ → ℕ → ℕ
+lastDay year month = pick (eqb month 2) (pick (isLeap year) 29 28) (pick (eqb month 4 || eqb month 6 || eqb month 9 || eqb month 11) 30 31)
+
+-- .. by the date's bytes before the day, the last one first: month, and the year's two
+abbrev pub lastDayAfter : List ℕ → ℕ
+lastDayAfter [] = 31
+lastDayAfter (month ∷ []) = 31
+lastDayAfter (month ∷ (low ∷ [])) = 31
+lastDayAfter (month ∷ (low ∷ (high ∷ before))) = lastDay (100 * twoDigits high + twoDigits low) (twoDigits month)
 
 abbrev pub pairWithin : ℕ → ℕ → ℕ → Bool
 pairWithin lo hi b = isDigit (b / 16) && isDigit (b % 16) && leb lo (twoDigits b) && leb (twoDigits b) hi
 
 unfoldable pub passes : Check → List ℕ → ℕ → Bool
 passes (pair lo hi) earlier b = pairWithin lo hi b
-passes day earlier b = pairWithin 1 (lastDay earlier) b
+passes day earlier b = pairWithin 1 (lastDayAfter earlier) b
 passes half earlier b = isDigit (b / 16) && eqb (b % 16) 0
 passes letter earlier b = (leb 0x41 b && leb b 0x5a) || (leb 0x61 b && leb b 0x7a)
 

@@ -16,4 +16,5 @@ pub mod Instances
 pub mod Accepting
 pub mod Refusing
 pub mod Coding
+pub mod Days
 pub mod Bounds

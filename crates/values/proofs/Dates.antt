@@ -2,12 +2,12 @@
 use Prim.Native.Nat.{ℕ, _+_, _-_, _/_, _%_, _≤_, _<_}
 use mathlib.Core.List.{List}
 use mathlib.Core.Bool.{Bool, true, false, _&&_}
-use mathlib.Core.Path.{_≡_, refl, sym, _∙_}
+use mathlib.Core.Path.{_≡_, refl, ap, sym, _∙_}
 use native.Mathlib.Omega.{arith}
 use borrow.Author.Tests.{eq-eqb, ne-eqb, le-leb, leb-true}
 use lib.Dec.{leb}
 use lib.ListN.{getD}
-use Rattle.meaning.specs.Bytes.{half, letter, lastDay, isDigit, twoDigits, pairWithin, passes}
+use Rattle.meaning.specs.Bytes.{half, letter, isDigit, twoDigits, pairWithin, passes}
 use Rattle.meaning.specs.Plain.{pairByte}
 use Rattle.meaning.specs.Told.{Edition}
 use Rattle.meaning.specs.Editions.{Next, date, on_▸_▸_▸_}
@@ -15,12 +15,8 @@ use Rattle.meaning.specs.Reading.{look, hit, none}
 use Rattle.values.specs.declared.date.Form.{Form}
 use Rattle.values.specs.declared.date.Form.the-variants.{Dated, Unknown}
 use Rattle.values.specs.Stages.{Bears}
-use Rattle.values.specs.Dates.{reaching, absoluteCheck, pairCheck, checkAt, earlier, datesOf, DateCode}
+use Rattle.values.specs.Dates.{reaching, absoluteCheck, pairCheck, checkAt, earlier, PairAt, datesOf, DateCode}
 use Rattle.laws.specs.Logic.{both-hold}
-
-pub day-small : (before : List ℕ) {day : ℕ} → day ≡ lastDay before → day ≤ 99
-unfolding lastDay
-day-small before q = omega arith
 
 -- the code's tests of a byte are its check: the bytes of two digits are in the order of what they say
 alike : (x y : Bool) → (x ≡ true → y ≡ true) → (y ≡ true → x ≡ true) → x ≡ y
@@ -85,3 +81,7 @@ module _ (e : Edition) (code : ℕ) {r : Form} (a : DateCode e code r) where
   pub undated : r ≡ Unknown → (n : Next) → look code (datesOf e n) ≡ none
   unfolding DateCode
   undated h = rw h at a
+
+-- two digits of any byte
+pub pair-small : (s : List ℕ) (j : ℕ) {b two : ℕ} → b < 256 → b ≡ getD s j 0 → two ≡ twoDigits b → PairAt s j two
+pair-small s j h q p = record { is = p ∙ ap twoDigits q; small = omega arith }

@@ -3,5 +3,6 @@ pub mod Coded
 pub mod Tables
 pub mod Texts
 pub mod Numbers
+pub mod Days
 pub mod Dates
 pub mod Blocks

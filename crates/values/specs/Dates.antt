@@ -1,12 +1,12 @@
 -- What the stages of a date promise: the check of each byte by its number, and what a code says in each edition.
-use Prim.Native.Nat.{ℕ, zero, suc, _+_}
+use Prim.Native.Nat.{ℕ, zero, suc, _+_, _≤_}
 use mathlib.Core.List.{List, [], _∷_, _++_}
 use mathlib.Core.Bool.{Bool, true, false}
 use mathlib.Core.Path.{_≡_}
 use lib.Dec.{eqb}
 use lib.ListN.{getD}
 use Rattle.meaning.specs.Basics.{pick}
-use Rattle.meaning.specs.Bytes.{Check, pair, day, half, letter, anyPair, passes, Reach, absolute, relative}
+use Rattle.meaning.specs.Bytes.{twoDigits, Check, pair, day, half, letter, anyPair, passes, Reach, absolute, relative}
 use Rattle.meaning.specs.Told.{Edition}
 use Rattle.meaning.specs.Editions.{Next, Move, date, sharedDate, ownDates, on_▸_▸_▸_}
 use Rattle.meaning.specs.Reading.{look, none, hit}
@@ -43,6 +43,11 @@ earlier s at (suc j) = getD s (at + j) 0 ∷ earlier s at j
 abbrev pub Passing : List ℕ → ℕ → Bool → ℕ → Type 0
 Passing s at isAbsolute zero = Unit {0}
 Passing s at isAbsolute (suc n) = Passing s at isAbsolute n × (passes (checkAt isAbsolute n) (earlier s at n) (getD s (at + n) 0) ≡ true)
+
+-- two digits of any byte
+pub record PairAt (bytes : List ℕ) (j two : ℕ) : Type 0 where
+  pub is : two ≡ twoDigits (getD bytes j 0)
+  pub small : two ≤ 154
 
 -- the moves of a room that has a date
 abbrev pub datesOf : Edition → Next → List Move

@@ -2,6 +2,7 @@
 use crate::Value;
 use crate::bytes::wide;
 use crate::digits::is_digit;
+use crate::digits::pair_at;
 use crate::digits::pair_byte;
 use table::kinds::DATE_ABSOLUTE;
 use table::kinds::DATE_BACKWARD;
@@ -14,7 +15,8 @@ ghost use mathlib.Core.List.{List, []};
 ghost use mathlib.Core.Bool.{true};
 ghost use Prim.Native.Nat.{ℕ, _+_, _≤_, _<_};
 ghost use lib.ListN.{length, getD};
-ghost use Rattle.meaning.specs.Bytes.{pairWithin, passes, half, letter, lastDay, dateChecks, takeDate};
+ghost use Rattle.meaning.specs.Basics.{pick};
+ghost use Rattle.meaning.specs.Bytes.{pairWithin, passes, half, letter, isLeap, lastDay, lastDayAfter, dateChecks, takeDate};
 ghost use Rattle.meaning.specs.Told.{Told, B, D};
 ghost use Rattle.laws.specs.From.{from};
 ghost use Rattle.table.specs.Told.{editionOf};
@@ -137,14 +139,14 @@ fn byte_passes(s: &[u8], at: usize, j: usize, absolute: bool) -> bool
     within(b, 0, 99)
 }
 
-// "Absolute dates have month 1 to 12, day 1 to 31, hour to 23, minute and second to 59."
+// Takes byte j of an absolute date: "month 1 to 12, .. hour to 23, minute and second to 59". Answers whether it passes.
 fn in_calendar(s: &[u8], at: usize, j: usize, b: u32) -> bool
     requires { ⌜ (at + j < length (now s)) × (b < 256) ⌝ }
     ensures { λ r. ⌜ r ≡ passes (absoluteCheck j) (earlier (now (s .entry)) at j) b ⌝ }
 {
     match j {
         2 => within(b, 1, 12),
-        3 => within(b, 1, last_day(s, at)),
+        3 => day_passes(s, at, b),
         4 => within(b, 0, 23),
         5 => within(b, 0, 59),
         6 => within(b, 0, 59),
@@ -152,12 +154,48 @@ fn in_calendar(s: &[u8], at: usize, j: usize, b: u32) -> bool
     }
 }
 
-// Which days exist, by the three bytes of the date before the day.
+// Takes the day's byte. Answers whether its month has that day. Every month has 28: most dates need no year.
+fn day_passes(s: &[u8], at: usize, b: u32) -> bool
+    requires { ⌜ (at + 3 ≤ length (now s)) × (b < 256) ⌝ }
+    ensures { λ r. ⌜ r ≡ pairWithin 1 (lastDayAfter (earlier (now (s .entry)) at 3)) b ⌝ }
+{
+    if within(b, 1, 28) {
+        return true;
+    }
+    within(b, 29, last_day(s, at))
+}
+
+// The last day of the month that the three bytes from `at` on name, with its year.
 fn last_day(s: &[u8], at: usize) -> u32
     requires { ⌜ at + 3 ≤ length (now s) ⌝ }
-    ensures { λ r. ⌜ r ≡ lastDay (earlier (now (s .entry)) at 3) ⌝ }
+    ensures { λ r. ⌜ r ≡ lastDayAfter (earlier (now (s .entry)) at 3) ⌝ }
 {
-    31
+    month_days(
+        100 * pair_at(s, at) + pair_at(s, at + 1),
+        pair_at(s, at + 2),
+    )
+}
+
+// "the days of their month by the Gregorian rule".
+fn month_days(year: u32, month: u32) -> u32
+    ensures { λ r. ⌜ r ≡ lastDay year month ⌝ }
+{
+    match month {
+        2 => february_days(year),
+        4 | 6 | 9 | 11 => 30,
+        _ => 31,
+    }
+}
+
+// 29 in a leap year, which 4 divides and 100 does not, or 400 does; else 28.
+fn february_days(year: u32) -> u32
+    ensures { λ r. ⌜ r ≡ pick (isLeap year) 29 28 ⌝ }
+{
+    let leap = (year % 4 == 0) & ((year % 100 != 0) | (year % 400 == 0));
+    if leap {
+        return 29;
+    }
+    28
 }
 
 // Two digits between two bounds. Coded digits stand in the order of the digits: the byte is held against the bounds' bytes.

@@ -1,8 +1,11 @@
 // "Coded digits: digit n is the four bits n+1; the high four bits are the earlier digit."
+use crate::bytes::wide;
 ghost use mathlib.Core.Path.{_≡_};
 ghost use Prim.Native.Nat.{_≤_, _<_};
 ghost use Rattle.meaning.specs.Bytes.{isDigit, digitOf, twoDigits};
 ghost use Rattle.meaning.specs.Plain.{pairByte};
+ghost use lib.ListN.{length};
+ghost use Rattle.values.specs.Dates.{PairAt};
 
 // Whether four bits code a digit.
 pub fn is_digit(bits: u32) -> bool
@@ -35,4 +38,12 @@ pub fn pair_byte(x: u32) -> u8
     ensures { λ r. ⌜ r ≡ pairByte x ⌝ }
 {
     (16 * (x / 10 + 1) + (x % 10 + 1)) as u8
+}
+
+// The number of the two digits of byte j.
+pub fn pair_at(bytes: &[u8], j: usize) -> u32
+    requires { ⌜ j < length (now bytes) ⌝ }
+    ensures { λ r. ⌜ PairAt (now (bytes .entry)) j r ⌝ }
+{
+    two_digits(wide(bytes[j]))
 }

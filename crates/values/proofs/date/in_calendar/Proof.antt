@@ -4,18 +4,17 @@ use borrow.Author.Needs.{needs}
 use native.Mathlib.Omega.{arith}
 use borrow.Author.Tests.{ne-eqb}
 use Rattle.meaning.specs.Bytes.{passes}
-use Rattle.values.proofs.Dates.{day-small}
 use Rattle.values.proofs.date.in_calendar.Statement.{statement}
 use Rattle.values.proofs.date.in_calendar.Tie as tie
 
 within-requires : tie.Need-within-requires
 within-requires c κs = search needs
 
-last-day-requires : tie.Need-last-day-requires
-last-day-requires c κs = search needs
+day-passes-requires : tie.Need-day-passes-requires
+day-passes-requires c κs = search needs
 
 within-requires-2 : tie.Need-within-requires-2
-within-requires-2 c κs = (c .before .before .before .pre .1, omega arith, day-small _ (c .last-day .ensures))
+within-requires-2 c κs = search needs
 
 within-requires-3 : tie.Need-within-requires-3
 within-requires-3 c κs = search needs
@@ -26,44 +25,40 @@ within-requires-4 c κs = search needs
 within-requires-5 : tie.Need-within-requires-5
 within-requires-5 c κs = search needs
 
-within-requires-6 : tie.Need-within-requires-6
-within-requires-6 c κs = search needs
-
 returns : tie.Need-returns
 unfolding passes
 returns c = c .within .ensures ∙ rw (c .before .match .keys1) refl
 
 returns-2 : tie.Need-returns-2
 unfolding passes
-returns-2 c = c .within2 .ensures ∙ rw (c .before .before .match .keys2, c .before .last-day .ensures) refl
+returns-2 c = c .day-passes .ensures ∙ rw (c .before .match .keys2) refl
 
 returns-3 : tie.Need-returns-3
 unfolding passes
-returns-3 c = c .within3 .ensures ∙ rw (c .before .match .keys3) refl
+returns-3 c = c .within2 .ensures ∙ rw (c .before .match .keys3) refl
 
 returns-4 : tie.Need-returns-4
 unfolding passes
-returns-4 c = c .within4 .ensures ∙ rw (c .before .match .keys4) refl
+returns-4 c = c .within3 .ensures ∙ rw (c .before .match .keys4) refl
 
 returns-5 : tie.Need-returns-5
 unfolding passes
-returns-5 c = c .within5 .ensures ∙ rw (c .before .match .keys5) refl
+returns-5 c = c .within4 .ensures ∙ rw (c .before .match .keys5) refl
 
 returns-6 : tie.Need-returns-6
 unfolding passes
-returns-6 c = let r = c .before .match .rest in c .within6 .ensures ∙ rw (ne-eqb _ _ (r .1), ne-eqb _ _ (r .0 .1), ne-eqb _ _ (r .0 .0 .1), ne-eqb _ _ (r .0 .0 .0 .1), ne-eqb _ _ (r .0 .0 .0 .0 .1)) refl
+returns-6 c = let r = c .before .match .rest in c .within5 .ensures ∙ rw (ne-eqb _ _ (r .1), ne-eqb _ _ (r .0 .1), ne-eqb _ _ (r .0 .0 .1), ne-eqb _ _ (r .0 .0 .0 .1), ne-eqb _ _ (r .0 .0 .0 .0 .1)) refl
 
 pub in-calendar-spec : {M : Type 1} → statement M
 in-calendar-spec =
     tie.close
     (tie.spec
     within-requires
-    last-day-requires
+    day-passes-requires
     within-requires-2
     within-requires-3
     within-requires-4
     within-requires-5
-    within-requires-6
     returns
     returns-2
     returns-3

@@ -1,10 +1,10 @@
--- `decode::pair_at`: two digits of a byte are at most 154.
+-- `digits::pair_at`: two digits of a byte are at most 154.
 use Prim.Native.Nat.{_<_}
 use native.Mathlib.Omega.{arith}
 use borrow.Author.Needs.{needs}
-use Rattle.coders.proofs.Decoding.{pair-small}
-use Rattle.coders.proofs.decode.pair_at.Statement.{statement}
-use Rattle.coders.proofs.decode.pair_at.Tie as tie
+use Rattle.values.proofs.Dates.{pair-small}
+use Rattle.values.proofs.digits.pair_at.Statement.{statement}
+use Rattle.values.proofs.digits.pair_at.Tie as tie
 
 shared-slice-read-wide : tie.Need-shared-slice-read-wide
 shared-slice-read-wide c = search needs
