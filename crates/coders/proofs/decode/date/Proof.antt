@@ -5,26 +5,26 @@ use Rattle.coders.proofs.Decoding.{kind-decodes, another-kind}
 use Rattle.coders.proofs.decode.date.Statement.{statement}
 use Rattle.coders.proofs.decode.date.Tie as tie
 
-reached-requires : tie.Need-reached-requires
-reached-requires c κs = search needs
+day-requires : tie.Need-day-requires
+day-requires c κs = search needs
 
-reached-requires-2 : tie.Need-reached-requires-2
-reached-requires-2 c κs = search needs
+day-requires-2 : tie.Need-day-requires-2
+day-requires-2 c κs = search needs
 
-reached-requires-3 : tie.Need-reached-requires-3
-reached-requires-3 c κs = search needs
+day-requires-3 : tie.Need-day-requires-3
+day-requires-3 c κs = search needs
 
 undecoded-requires : tie.Need-undecoded-requires
 undecoded-requires c κs = search needs
 
 returns : tie.Need-returns
-returns c = kind-decodes (c .before .before .before .args .kind) (c .before .before .before .args .bytes .now) (rw (c .before .match .keys1) refl) (c .reached .ensures)
+returns c = kind-decodes (c .before .before .before .args .kind) (c .before .before .before .args .bytes .now) (rw (c .before .match .keys1) refl) (c .day .ensures)
 
 returns-2 : tie.Need-returns-2
-returns-2 c = kind-decodes (c .before .before .before .args .kind) (c .before .before .before .args .bytes .now) (rw (c .before .match .keys2) refl) (c .reached2 .ensures)
+returns-2 c = kind-decodes (c .before .before .before .args .kind) (c .before .before .before .args .bytes .now) (rw (c .before .match .keys2) refl) (c .day2 .ensures)
 
 returns-3 : tie.Need-returns-3
-returns-3 c = kind-decodes (c .before .before .before .args .kind) (c .before .before .before .args .bytes .now) (rw (c .before .match .keys3) refl) (c .reached3 .ensures)
+returns-3 c = kind-decodes (c .before .before .before .args .kind) (c .before .before .before .args .bytes .now) (rw (c .before .match .keys3) refl) (c .day3 .ensures)
 
 returns-4 : tie.Need-returns-4
 returns-4 c =
@@ -36,9 +36,9 @@ pub date-spec : {M : Type 1} → statement M
 date-spec =
     tie.close
     (tie.spec
-    reached-requires
-    reached-requires-2
-    reached-requires-3
+    day-requires
+    day-requires-2
+    day-requires-3
     undecoded-requires
     returns
     returns-2
