@@ -1,16 +1,17 @@
 -- A slice that must hold exactly one value: what a decoder answers, from the span of the value at its front.
 use Prim.Native.Nat.{ℕ, suc, _+_, _-_, _*_, _/_, _≤_, _<_}
 use mathlib.Core.List.{List, [], _∷_, _++_, append-nil}
-use mathlib.Core.Bool.{Bool, true, false, not}
+use mathlib.Core.Bool.{Bool, true, false, not, _||_}
 use mathlib.Core.Logic.{_⊎_, inl, inr}
 use mathlib.Core.Path.{_≡_, refl, ap, sym, _∙_}
 use native.Mathlib.Nat.{le-refl}
 use native.Mathlib.Omega.{arith}
-use borrow.Author.Tests.{ne-eqb, lt-ltb, le-ltb}
+use borrow.Author.Tests.{lt-ltb, le-ltb}
+use lib.Dec.{eqb}
 use lib.ListN.{length, getD, length-append}
 use lib.Seq.{take-all}
 use Rattle.meaning.specs.Basics.{pick}
-use Rattle.meaning.specs.Bytes.{Taken, took, failed, prefixed, Check, passes, dateChecks, takeDate, takeNumber, digitOf}
+use Rattle.meaning.specs.Bytes.{Taken, took, failed, prefixed, Check, passes, absolute, relative, dateChecks, takeDate, takeNumber, digitOf}
 use Rattle.meaning.specs.Plain.{decoded, undecoded, exactly, Reached, noReach, reachOf, numberValue, decodeNumber, numberDecoded, numberPlain, Date as PlainDate, dateOf, dated, decodeDate, dateDecoded, datePlain}
 use Rattle.meaning.specs.Kinds.{dateAbsolute, dateForward, dateBackward}
 use Rattle.laws.specs.From.{from, from-length, from-end, from-cons}
@@ -26,7 +27,7 @@ use Rattle.values.specs.Dates.{reaching, dateLength, checkAt, earlier}
 use Rattle.values.specs.DateSteps.{date-begins, date-over, date-ends, date-wrong, date-goes}
 use Rattle.coders.specs.declared.decode.DecodedDate.{DecodedDate}
 use Rattle.coders.specs.Stepped.{FailsAt, hasDesignator, Behind, TimeRead}
-use Rattle.coders.specs.Plain.{NumberDecodes, DateDecodes, DecodesReach, plainOf, undecodedAt}
+use Rattle.coders.specs.Plain.{NumberDecodes, DateDecodes, DecodesReach, isDate, plainOf, undecodedAt}
 use Rattle.values.specs.Counting.{counted-is, counted-refused}
 
 pub from-all : (s : List ℕ) → from s 0 (length s) ≡ s
@@ -217,5 +218,17 @@ pub kind-decodes : (kind : ℕ) (s : List ℕ) {reach : Reached} {r : DecodedDat
 unfolding dateDecoded datePlain decodeDate
 kind-decodes kind s h a = record { is = a .is ∙ rw h refl; worth = a .worth ∙ rw h refl }
 
-pub another-kind : (kind : ℕ) → (kind ≡ dateAbsolute → ⊥) → (kind ≡ dateForward → ⊥) → (kind ≡ dateBackward → ⊥) → reachOf kind ≡ noReach
-another-kind kind h i j = rw (ne-eqb kind 5 h, ne-eqb kind 6 i, ne-eqb kind 7 j) refl
+-- whether a kind is a date's, by one test
+pub a-date : (kind : ℕ) → isDate kind ≡ true → reachOf kind ≡ dated (reaching (eqb kind dateAbsolute))
+a-date kind q = at (eqb kind dateAbsolute) (eqb kind dateForward || eqb kind dateBackward) q
+  where
+    at : (a r : Bool) → (a || r) ≡ true → pick a (dated absolute) (pick r (dated relative) noReach) ≡ dated (reaching a)
+    at true r h = refl
+    at false r h = rw h refl
+
+pub no-date : (kind : ℕ) → isDate kind ≡ false → reachOf kind ≡ noReach
+no-date kind q = at (eqb kind dateAbsolute) (eqb kind dateForward || eqb kind dateBackward) q
+  where
+    at : (a r : Bool) → (a || r) ≡ false → pick a (dated absolute) (pick r (dated relative) noReach) ≡ noReach
+    at true r h = let z : _≡_ {A = ℕ} 0 1 = cc in absurd (omega arith)
+    at false r h = rw h refl

@@ -1,9 +1,8 @@
 // Plain values of coded bytes: "Number and date decoders answer 9 or 10 with the place in their own slice, which must hold exactly one value;
 // an early end or a byte left over is refused at that offset."
 use crate::Date;
+use crate::is_date;
 use table::kinds::DATE_ABSOLUTE;
-use table::kinds::DATE_BACKWARD;
-use table::kinds::DATE_FORWARD;
 use table::refusals::DATE_WRONG;
 use table::refusals::NUMBER_WRONG;
 use values::bytes::wide;
@@ -68,12 +67,10 @@ pub fn number(bytes: &[u8]) -> DecodedNumber
 pub fn date(kind: u32, bytes: &[u8]) -> DecodedDate
     ensures { λ r. ⌜ DateDecodes kind (now (bytes .entry)) r ⌝ }
 {
-    match kind {
-        DATE_ABSOLUTE => day(bytes, true),
-        DATE_FORWARD => day(bytes, false),
-        DATE_BACKWARD => day(bytes, false),
-        _ => undecoded(0),
+    if is_date(kind) {
+        return day(bytes, kind == DATE_ABSOLUTE);
     }
+    undecoded(0)
 }
 
 // Takes a date's bytes and whether it is held to the calendar: year, month and day, then the rest.
