@@ -1,17 +1,18 @@
 -- A slice that must hold exactly one value: what a decoder answers, from the span of the value at its front.
 use Prim.Native.Nat.{ℕ, suc, _+_, _-_, _*_, _/_, _≤_, _<_}
 use mathlib.Core.List.{List, [], _∷_, _++_, append-nil}
-use mathlib.Core.Bool.{Bool, true, false}
+use mathlib.Core.Bool.{Bool, true, false, not, _||_}
+use mathlib.Core.Logic.{_⊎_, inl, inr}
 use mathlib.Core.Path.{_≡_, refl, ap, sym, _∙_}
 use native.Mathlib.Nat.{le-refl}
 use native.Mathlib.Omega.{arith}
-use borrow.Author.Tests.{ne-eqb}
-use lib.Dec.{ltb}
+use borrow.Author.Tests.{lt-ltb, le-ltb}
+use lib.Dec.{eqb}
 use lib.ListN.{length, getD, length-append}
 use lib.Seq.{take-all}
 use Rattle.meaning.specs.Basics.{pick}
-use Rattle.meaning.specs.Bytes.{Taken, took, failed, prefixed, Check, passes, dateChecks, takeDate, takeNumber, digitOf}
-use Rattle.meaning.specs.Plain.{decoded, undecoded, exactly, Reached, noReach, reachOf, numberValue, decodeNumber, numberDecoded, numberPlain, dateOf, dated, decodeDate, dateDecoded, datePlain}
+use Rattle.meaning.specs.Bytes.{Taken, took, failed, prefixed, Check, passes, absolute, relative, dateChecks, takeDate, takeNumber, digitOf}
+use Rattle.meaning.specs.Plain.{decoded, undecoded, exactly, Reached, noReach, reachOf, numberValue, decodeNumber, numberDecoded, numberPlain, Date as PlainDate, dateOf, dated, decodeDate, dateDecoded, datePlain}
 use Rattle.meaning.specs.Kinds.{dateAbsolute, dateForward, dateBackward}
 use Rattle.laws.specs.From.{from, from-length, from-end, from-cons}
 use Rattle.values.specs.declared.Value.{Value}
@@ -22,9 +23,11 @@ use Rattle.coders.specs.declared.Date.{Date}
 use Rattle.values.specs.Stages.{span, spans, misses, Valued}
 use Rattle.values.specs.Answers.{valued-at, valued-refused}
 use Rattle.values.specs.Numbers.{counts, tally, tallied, Counted}
-use Rattle.values.specs.Dates.{reaching, PairAt}
+use Rattle.values.specs.Dates.{reaching, dateLength, checkAt, earlier}
+use Rattle.values.specs.DateSteps.{date-begins, date-over, date-ends, date-wrong, date-goes}
 use Rattle.coders.specs.declared.decode.DecodedDate.{DecodedDate}
-use Rattle.coders.specs.Plain.{NumberDecodes, DateDecodes, DecodesReach, plainOf, undecodedAt}
+use Rattle.coders.specs.Stepped.{FailsAt, hasDesignator, Behind, TimeRead}
+use Rattle.coders.specs.Plain.{NumberDecodes, DateDecodes, DecodesReach, isDate, plainOf, undecodedAt}
 use Rattle.values.specs.Counting.{counted-is, counted-refused}
 
 pub from-all : (s : List ℕ) → from s 0 (length s) ≡ s
@@ -120,16 +123,28 @@ front-fills cs s (took v rest) {many} {after} f q h =
     omega (arith, ap length e, from-length s after (length s) h (le-refl (length s)), ap length (f .0), length-append v rest)
 front-fills cs s (failed refusal left) f q h = let z : _≡_ {A = ℕ} 0 1 = cc in absurd (omega arith)
 
-pub nine-checks : (isAbsolute designated : Bool) → 9 ≤ length (dateChecks (reaching isAbsolute) designated)
-nine-checks true true = omega arith
-nine-checks true false = omega arith
-nine-checks false true = omega arith
-nine-checks false false = omega arith
+-- A date byte by byte
 
-module _ (s : List ℕ) (isAbsolute : Bool) {kind : ℕ} {r : Value}
-    (a : Valued s (length s) 0 kind 0 (takeDate (dateChecks (reaching isAbsolute) (ltb 9 (length s))) [] (from s 0 (length s))) r) where
+pub fails-missing : (s : List ℕ) (isAbsolute : Bool) (j : ℕ) → length s ≤ j → FailsAt s isAbsolute j true
+fails-missing s isAbsolute j h = record { fails = λ q. inl h; passed = λ q. let z : _≡_ {A = ℕ} 0 1 = cc q in absurd (omega arith) }
+
+pub fails-there : (s : List ℕ) (isAbsolute : Bool) (j : ℕ) → j < length s → (r : Bool) → r ≡ passes (checkAt isAbsolute j) (earlier s 0 j) (getD s (0 + j) 0) → FailsAt s isAbsolute j (not r)
+fails-there s isAbsolute j h true p = record { fails = λ q. let z : _≡_ {A = ℕ} 0 1 = cc q in absurd (omega arith); passed = λ q. (h, sym p) }
+fails-there s isAbsolute j h false p = record { fails = λ q. inr (h, sym p); passed = λ q. let z : _≡_ {A = ℕ} 0 1 = cc q in absurd (omega arith) }
+
+nine-bytes : (designated : Bool) → 9 ≤ dateLength designated
+nine-bytes true = omega arith
+nine-bytes false = omega arith
+
+module _ (s : List ℕ) (isAbsolute : Bool) where
+  abbrev designated : Bool
+  designated = hasDesignator s
+
+  abbrev many : ℕ
+  many = dateLength designated
+
   abbrev checks : List Check
-  checks = dateChecks (reaching isAbsolute) (ltb 9 (length s))
+  checks = dateChecks (reaching isAbsolute) designated
 
   abbrev date : Taken
   date = takeDate checks [] s
@@ -140,46 +155,80 @@ module _ (s : List ℕ) (isAbsolute : Bool) {kind : ℕ} {r : Value}
   undated-at : (place : ℕ) → exactly s date ≡ undecoded place → DecodesReach (dated (reaching isAbsolute)) s (undecodedAt place)
   undated-at place q = record { is = rw q refl; worth = rw q refl }
 
-  pub date-refused : {refusal place : ℕ} → r ≡ Refused refusal place → DecodesReach (dated (reaching isAbsolute)) s (undecodedAt place)
-  date-refused {place = place} h =
-      let (q, k) = valued-refused a h in
-      undated-at place (exactly-refused s date (ap (span 0) (sym there) ∙ q) k)
+  pub behind-none : Behind s isAbsolute 0
+  behind-none = record { inside = omega arith; is = date-begins s (length s) 0 isAbsolute many designated refl }
 
-  module _ {k start many after : ℕ} (h : r ≡ Is k start many after) where
-    span-here : span 0 date ≡ spans many (from s after (length s))
-    span-here = let p = valued-at a h in ap (span 0) (sym there) ∙ p .0
+  module _ {j : ℕ} (b : Behind s isAbsolute j) (h : j < many) {r : Bool} (f : FailsAt s isAbsolute j r) where
+    pub next-there : r ≡ false → j < length s
+    next-there q = f .passed q .0
 
-    fills : many ≡ after
-    fills = let p = valued-at a h in front-fills checks s date (date-fronts checks [] s) span-here (p .5)
+    pub behind-next : r ≡ false → Behind s isAbsolute (j + 1)
+    behind-next q =
+        let (l, p) = f .passed q in
+        record { inside = omega arith; is = b .is ∙ date-goes s (length s) 0 isAbsolute many j h (le-refl (length s)) (omega arith) refl p }
 
-    pub date-left : after < length s → DecodesReach (dated (reaching isAbsolute)) s (undecodedAt after)
-    date-left l = undated-at after (exactly-left s date span-here fills l)
+    -- a byte that is missing or wrong
+    pub undated : r ≡ true → DecodesReach (dated (reaching isAbsolute)) s (undecodedAt j)
+    undated q = undated-at j (at (f .fails q))
+      where
+        at : (length s ≤ j) ⊎ ((j < length s) × (passes (checkAt isAbsolute j) (earlier s 0 j) (getD s (0 + j) 0) ≡ false)) → exactly s date ≡ undecoded j
+        at (inl e) =
+            let z : length s - length s ≡ length s - j = omega (arith, b .inside) in
+            exactly-refused s date (ap (span 0) (sym there) ∙ b .is ∙ date-ends s (length s) 0 isAbsolute many j h (omega arith) ∙ ap (misses 6) z) (b .inside)
+        at (inr (l, p)) =
+            let z : length s - (0 + j) ≡ length s - j = omega arith in
+            exactly-refused s date (ap (span 0) (sym there) ∙ b .is ∙ date-wrong s (length s) 0 isAbsolute many j h (le-refl (length s)) (omega arith) refl p ∙ ap (misses 9) z) (b .inside)
 
-    whole : length s ≤ after → (exactly s date ≡ decoded (front date)) × (length (front date) ≡ after) × (date ≡ took (front date) [])
-    whole l = exactly-all s date span-here fills l
+  pub within-nine : {j : ℕ} → j < 9 → j < many
+  within-nine h = omega (arith, nine-bytes designated)
 
-    pub date-long : length s ≤ after → 9 ≤ length s
-    date-long l =
-        let f = front-whole checks s date (date-fronts checks [] s) (whole l .2) in
-        omega (arith, nine-checks isAbsolute (ltb 9 (length s)))
+  module _ (n : ℕ) (is-many : n ≡ many) (b : Behind s isAbsolute n) where
+    span-here : span 0 date ≡ spans n (from s n (length s))
+    span-here =
+        let z : 0 + n ≡ n = omega arith in
+        ap (span 0) (sym there) ∙ b .is ∙ date-over s (length s) 0 isAbsolute many n (omega arith) ∙ ap (λ (x : ℕ). spans n (from s x (length s))) z
 
-    pub date-whole : length s ≤ after → {d : Date} → plainOf d ≡ dateOf s → DecodesReach (dated (reaching isAbsolute)) s (record { answer = 0; place = after; date = d })
+    -- a byte left over
+    pub date-left : n < length s → DecodesReach (dated (reaching isAbsolute)) s (undecodedAt n)
+    date-left l = undated-at n (exactly-left s date span-here refl l)
+
+    pub date-whole : length s ≤ n → {d : Date} → plainOf d ≡ dateOf s → DecodesReach (dated (reaching isAbsolute)) s (record { answer = 0; place = n; date = d })
     date-whole l g =
-        let w = whole l in
+        let w = exactly-all s date span-here refl l in
         let f = front-whole checks s date (date-fronts checks [] s) (w .2) in
         record { is = rw (w .0, w .1) refl; worth = g ∙ rw (w .0, f .0) refl }
+
+-- how many bytes the slice's length asks for
+pub nine-long : (s : List ℕ) → length s ≡ 9 → 9 ≡ dateLength (hasDesignator s)
+nine-long s h = sym (ap dateLength (le-ltb 9 (length s) (omega arith)))
+
+pub ten-there : {n : ℕ} → 9 ≤ n → (n ≡ 9 → ⊥) → 10 ≤ n
+ten-there h k = omega (arith, h, k)
+
+pub ten-long : (s : List ℕ) → 10 ≤ length s → 10 ≡ dateLength (hasDesignator s)
+ten-long s h = sym (ap dateLength (lt-ltb 9 (length s) (omega arith)))
+
+-- the components, with or without a tenth byte
+pub date-components : (s : List ℕ) {isAbsolute : Bool} {d : PlainDate} {z : ℕ} → TimeRead s isAbsolute d → z ≡ getD s 9 0
+    → record { year = d .year; month = d .month; day = d .day; hour = d .hour; minute = d .minute; second = d .second; millisecond = d .millisecond; designator = z } ≡ dateOf s
+date-components s t q = rw (t .year-is, t .month-is, t .day-is, t .hour-is, t .minute-is, t .second-is, t .millisecond-is, q) refl
 
 -- the kind's reach
 pub kind-decodes : (kind : ℕ) (s : List ℕ) {reach : Reached} {r : DecodedDate} → reachOf kind ≡ reach → DecodesReach reach s r → DateDecodes kind s r
 unfolding dateDecoded datePlain decodeDate
 kind-decodes kind s h a = record { is = a .is ∙ rw h refl; worth = a .worth ∙ rw h refl }
 
-pub another-kind : (kind : ℕ) → (kind ≡ dateAbsolute → ⊥) → (kind ≡ dateForward → ⊥) → (kind ≡ dateBackward → ⊥) → reachOf kind ≡ noReach
-another-kind kind h i j = rw (ne-eqb kind 5 h, ne-eqb kind 6 i, ne-eqb kind 7 j) refl
+-- whether a kind is a date's, by one test
+pub a-date : (kind : ℕ) → isDate kind ≡ true → reachOf kind ≡ dated (reaching (eqb kind dateAbsolute))
+a-date kind q = at (eqb kind dateAbsolute) (eqb kind dateForward || eqb kind dateBackward) q
+  where
+    at : (a r : Bool) → (a || r) ≡ true → pick a (dated absolute) (pick r (dated relative) noReach) ≡ dated (reaching a)
+    at true r h = refl
+    at false r h = rw h refl
 
--- the components of a slice
-pub date-components : (s : List ℕ) {century yearIn month day hour minute second hundredths thousandth letter : ℕ}
-    → PairAt s 0 century → PairAt s 1 yearIn → PairAt s 2 month → PairAt s 3 day → PairAt s 4 hour → PairAt s 5 minute → PairAt s 6 second → PairAt s 7 hundredths
-    → thousandth ≡ digitOf (getD s 8 0 / 16) → letter ≡ getD s 9 0
-    → plainOf (record { year = 100 * century + yearIn; month = month; day = day; hour = hour; minute = minute; second = second; millisecond = 10 * hundredths + thousandth; designator = letter }) ≡ dateOf s
-date-components s a b c d e f g h i j = rw (a .is, b .is, c .is, d .is, e .is, f .is, g .is, h .is, i, j) refl
+pub no-date : (kind : ℕ) → isDate kind ≡ false → reachOf kind ≡ noReach
+no-date kind q = at (eqb kind dateAbsolute) (eqb kind dateForward || eqb kind dateBackward) q
+  where
+    at : (a r : Bool) → (a || r) ≡ false → pick a (dated absolute) (pick r (dated relative) noReach) ≡ noReach
+    at true r h = let z : _≡_ {A = ℕ} 0 1 = cc in absurd (omega arith)
+    at false r h = rw h refl

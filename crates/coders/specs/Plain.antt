@@ -1,10 +1,11 @@
 -- What the coding of numbers and dates to and from plain values promises: document 01's outcome and value, for any input at all.
 use Prim.Native.Nat.{ℕ, _+_, _*_, _/_, _%_, _≤_}
 use mathlib.Core.List.{List, [], _∷_}
-use mathlib.Core.Bool.{Bool, _&&_}
+use mathlib.Core.Bool.{Bool, _&&_, _||_}
 use mathlib.Core.Path.{_≡_}
-use lib.Dec.{leb}
+use lib.Dec.{leb, eqb}
 use lib.ListN.{length, getD}
+use Rattle.meaning.specs.Kinds.{dateAbsolute, dateForward, dateBackward}
 use Rattle.meaning.specs.Bytes.{twoDigits}
 use Rattle.meaning.specs.Plain.{outcome, decodeOutcome, numberDecoded, numberPlain, numberEncoded, numberOutput, Date as PlainDate, Reached, decodeReach, componentsOf, dateDecoded, datePlain, encodeOutcome, encodeMemory, dateBytes, pairByte, fitsDigits, reachAllows, dateEncoded, dateOutput}
 use Rattle.coders.specs.declared.decode.DecodedNumber.{DecodedNumber}
@@ -35,6 +36,10 @@ plainOf d =
       millisecond = d .millisecond;
       designator = d .designator;
     }
+
+-- "kind 5, 6 or 7"
+abbrev pub isDate : ℕ → Bool
+isDate kind = eqb kind dateAbsolute || (eqb kind dateForward || eqb kind dateBackward)
 
 -- the decoder of dates
 pub record DateDecodes (kind : ℕ) (bytes : List ℕ) (result : DecodedDate) : Type 0 where

@@ -2,9 +2,8 @@
 use crate::Date;
 use crate::decimal::coded_byte;
 use crate::decimal::digit_count;
+use crate::is_date;
 use table::kinds::DATE_ABSOLUTE;
-use table::kinds::DATE_BACKWARD;
-use table::kinds::DATE_FORWARD;
 use table::refusals::DATE_WRONG;
 use table::refusals::NUMBER_WRONG;
 use table::refusals::OUTPUT_SHORT;
@@ -65,14 +64,12 @@ pub fn number(value: u64, output: &mut [u8]) -> Encoded
 pub fn date(kind: u32, date: Date, output: &mut [u8]) -> Encoded
     ensures { λ r. ⌜ DateEncodes kind (plainOf date) (now (output .entry)) (now (output .exit)) r ⌝ }
 {
-    match kind {
-        DATE_ABSOLUTE => reached(date, true, output),
-        DATE_FORWARD => reached(date, false, output),
-        DATE_BACKWARD => reached(date, false, output),
-        _ => Encoded {
-            answer: DATE_WRONG,
-            place: 0,
-        },
+    if is_date(kind) {
+        return reached(date, kind == DATE_ABSOLUTE, output);
+    }
+    Encoded {
+        answer: DATE_WRONG,
+        place: 0,
     }
 }
 

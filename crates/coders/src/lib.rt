@@ -4,6 +4,12 @@ mod decimal;
 pub mod decode;
 pub mod encode;
 
+use table::kinds::DATE_ABSOLUTE;
+use table::kinds::DATE_BACKWARD;
+use table::kinds::DATE_FORWARD;
+ghost use mathlib.Core.Path.{_≡_};
+ghost use Rattle.coders.specs.Plain.{isDate};
+
 // A plain date: "the seven components and a designator, 0 for none".
 #[repr(C)]
 pub struct Date {
@@ -15,4 +21,11 @@ pub struct Date {
     pub second: u32,
     pub millisecond: u32,
     pub designator: u32,
+}
+
+// "kind 5, 6 or 7"
+fn is_date(kind: u32) -> bool
+    ensures { λ r. ⌜ r ≡ isDate kind ⌝ }
+{
+    (kind == DATE_ABSOLUTE) | ((kind == DATE_FORWARD) | (kind == DATE_BACKWARD))
 }

@@ -121,7 +121,7 @@ fn nine_pass(s: &[u8], at: usize, absolute: bool) -> bool
 }
 
 // Whether byte j of the date that begins at `at` passes its check.
-fn byte_passes(s: &[u8], at: usize, j: usize, absolute: bool) -> bool
+pub fn byte_passes(s: &[u8], at: usize, j: usize, absolute: bool) -> bool
     requires { ⌜ at + j < length (now s) ⌝ }
     ensures { λ r. ⌜ r ≡ passes (checkAt absolute j) (earlier (now (s .entry)) at j) (getD (now (s .entry)) (at + j) 0) ⌝ }
 {

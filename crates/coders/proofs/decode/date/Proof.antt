@@ -1,46 +1,30 @@
 -- `decode::date`: the reach of each kind.
-use mathlib.Core.Path.{refl}
+use mathlib.Core.Path.{refl, sym, _∙_}
 use borrow.Author.Needs.{needs}
-use Rattle.coders.proofs.Decoding.{kind-decodes, another-kind}
+use Rattle.coders.proofs.Decoding.{kind-decodes, a-date, no-date}
 use Rattle.coders.proofs.decode.date.Statement.{statement}
 use Rattle.coders.proofs.decode.date.Tie as tie
 
-reached-requires : tie.Need-reached-requires
-reached-requires c κs = search needs
+is-date-requires : tie.Need-is-date-requires
+is-date-requires c κs = search needs
 
-reached-requires-2 : tie.Need-reached-requires-2
-reached-requires-2 c κs = search needs
+day-requires : tie.Need-day-requires
+day-requires c κs = search needs
 
-reached-requires-3 : tie.Need-reached-requires-3
-reached-requires-3 c κs = search needs
+returns : tie.Need-returns
+returns c =
+    let at-is-date = c .before .before in
+    let a = at-is-date .before .before .args in
+    kind-decodes (a .kind) (a .bytes .now) (a-date (a .kind) (sym (at-is-date .is-date .ensures) ∙ c .before .if1 .taken)) (c .day .ensures)
 
 undecoded-requires : tie.Need-undecoded-requires
 undecoded-requires c κs = search needs
 
-returns : tie.Need-returns
-returns c = kind-decodes (c .before .before .before .args .kind) (c .before .before .before .args .bytes .now) (rw (c .before .match .keys1) refl) (c .reached .ensures)
-
 returns-2 : tie.Need-returns-2
-returns-2 c = kind-decodes (c .before .before .before .args .kind) (c .before .before .before .args .bytes .now) (rw (c .before .match .keys2) refl) (c .reached2 .ensures)
-
-returns-3 : tie.Need-returns-3
-returns-3 c = kind-decodes (c .before .before .before .args .kind) (c .before .before .before .args .bytes .now) (rw (c .before .match .keys3) refl) (c .reached3 .ensures)
-
-returns-4 : tie.Need-returns-4
-returns-4 c =
-    let start = c .before .before .before in
-    let r = c .before .match .rest in
-    kind-decodes (start .args .kind) (start .args .bytes .now) (another-kind (start .args .kind) (r .0 .0 .1) (r .0 .1) (r .1)) (rw (c .undecoded .ensures) (record { is = refl; worth = refl }))
+returns-2 c =
+    let at-is-date = c .before .before in
+    let a = at-is-date .before .before .args in
+    kind-decodes (a .kind) (a .bytes .now) (no-date (a .kind) (sym (at-is-date .is-date .ensures) ∙ c .before .if1 .left)) (rw (c .undecoded .ensures) (record { is = refl; worth = refl }))
 
 pub date-spec : {M : Type 1} → statement M
-date-spec =
-    tie.close
-    (tie.spec
-    reached-requires
-    reached-requires-2
-    reached-requires-3
-    undecoded-requires
-    returns
-    returns-2
-    returns-3
-    returns-4)
+date-spec = tie.close (tie.spec is-date-requires day-requires returns undecoded-requires returns-2)

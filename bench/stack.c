@@ -1,0 +1,155 @@
+/* Prints for each entry of the archive the deepest stack that its worst call here reaches: bytes from the caller's frame on, the
+   return address counted. Each call runs on a stack of this program's own that is painted before; the deepest byte that is paint no
+   more tells. What the caller itself takes is found by a call of a function that does nothing and taken off. So the figure is exact,
+   and the same at every run. Lines: entry, input, bytes. */
+#define _XOPEN_SOURCE 700
+
+#include "gamulisyan.h"
+#include "inputs.h"
+
+#include <stdio.h>
+#include <stdlib.h>
+#include <string.h>
+#include <ucontext.h>
+
+enum { STACK = 1 << 20, PAINT = 0xA5, RETURN_ADDRESS = 8, EDITION = GAMULISYAN_EDITION_D, DEEP_INPUT = 2, MOST_NUMBERS = 1 << 20 };
+
+static unsigned char stack[STACK];
+static ucontext_t here;
+static ucontext_t there;
+
+static struct headers headers;
+static uint32_t rows[MOST_NUMBERS];
+static size_t numbers;
+static uint8_t output[MOST_BYTES];
+
+static const uint8_t designated_date[10] = {0x31, 0x11, 0x13, 0x3A, 0x15, 0x37, 0x62, 0x59, 0x20, 0x5A}; /* 29 February 2000 */
+static const struct gamulisyan_date plain_date = {2000, 2, 29, 4, 26, 51, 481, 'Z'};
+static const uint8_t most_number[6] = {0x53, 0xA5, 0xA7, 0x83, 0xA6, 0x00};
+
+/* The entries, and functions of the same types that do nothing. */
+static struct gamulisyan_answer no_read(uint32_t e, const uint8_t *i, size_t l, uint32_t *r, size_t n)
+{
+    (void)e, (void)i, (void)l, (void)r, (void)n;
+    return (struct gamulisyan_answer){0, 0, 0};
+}
+
+static struct gamulisyan_answer no_write(uint32_t e, const uint32_t *r, size_t n, const uint8_t *p, size_t m, uint8_t *o, size_t l)
+{
+    (void)e, (void)r, (void)n, (void)p, (void)m, (void)o, (void)l;
+    return (struct gamulisyan_answer){0, 0, 0};
+}
+
+static struct gamulisyan_part no_payload(uint32_t e, const uint8_t *i, size_t l)
+{
+    (void)e, (void)i, (void)l;
+    return (struct gamulisyan_part){0, 0};
+}
+
+static struct gamulisyan_number no_number_decode(const uint8_t *b, size_t l)
+{
+    (void)b, (void)l;
+    return (struct gamulisyan_number){0, 0, 0};
+}
+
+static struct gamulisyan_coded no_number_encode(uint64_t v, uint8_t *o, size_t l)
+{
+    (void)v, (void)o, (void)l;
+    return (struct gamulisyan_coded){0, 0};
+}
+
+static struct gamulisyan_dated no_date_decode(uint32_t k, const uint8_t *b, size_t l)
+{
+    (void)k, (void)b, (void)l;
+    return (struct gamulisyan_dated){0, 0, {0, 0, 0, 0, 0, 0, 0, 0}};
+}
+
+static struct gamulisyan_coded no_date_encode(uint32_t k, struct gamulisyan_date d, uint8_t *o, size_t l)
+{
+    (void)k, (void)d, (void)o, (void)l;
+    return (struct gamulisyan_coded){0, 0};
+}
+
+/* What is called next; volatile, so that the compiler sees through none of them. */
+static struct gamulisyan_answer (*volatile read_entry)(uint32_t, const uint8_t *, size_t, uint32_t *, size_t);
+static struct gamulisyan_answer (*volatile write_entry)(uint32_t, const uint32_t *, size_t, const uint8_t *, size_t, uint8_t *, size_t);
+static struct gamulisyan_part (*volatile payload_entry)(uint32_t, const uint8_t *, size_t);
+static struct gamulisyan_number (*volatile number_decode_entry)(const uint8_t *, size_t);
+static struct gamulisyan_coded (*volatile number_encode_entry)(uint64_t, uint8_t *, size_t);
+static struct gamulisyan_dated (*volatile date_decode_entry)(uint32_t, const uint8_t *, size_t);
+static struct gamulisyan_coded (*volatile date_encode_entry)(uint32_t, struct gamulisyan_date, uint8_t *, size_t);
+
+/* Answers go to memory of their own and not to the painted stack. */
+static struct gamulisyan_answer answer;
+static struct gamulisyan_part part;
+static struct gamulisyan_number number;
+static struct gamulisyan_coded coded;
+static struct gamulisyan_dated dated;
+
+static void read_call(void) { answer = read_entry(EDITION, headers.bytes, headers.places[1], rows, MOST_NUMBERS); }
+static void write_call(void) { answer = write_entry(EDITION, rows, numbers, headers.bytes, headers.places[1], output, sizeof output); }
+static void payload_call(void) { part = payload_entry(EDITION, headers.bytes, headers.places[1]); }
+static void number_decode_call(void) { number = number_decode_entry(most_number, sizeof most_number); }
+static void number_encode_call(void) { coded = number_encode_entry(UINT32_MAX, output, sizeof output); }
+static void date_decode_call(void) { dated = date_decode_entry(GAMULISYAN_DATE_ABSOLUTE, designated_date, sizeof designated_date); }
+static void date_encode_call(void) { coded = date_encode_entry(GAMULISYAN_DATE_ABSOLUTE, plain_date, output, sizeof output); }
+
+/* How far down from its top the painted stack is used by a call. */
+static size_t depth_of(void (*call)(void))
+{
+    memset(stack, PAINT, sizeof stack);
+    if (getcontext(&there) != 0)
+        exit(2);
+    there.uc_stack.ss_sp = stack;
+    there.uc_stack.ss_size = sizeof stack;
+    there.uc_link = &here;
+    makecontext(&there, call, 0);
+    if (swapcontext(&here, &there) != 0)
+        exit(2);
+    size_t place = 0;
+    while (place < sizeof stack && stack[place] == PAINT)
+        place++;
+    return sizeof stack - place;
+}
+
+static void print(const char *entry, const char *input, size_t with, size_t without)
+{
+    printf("%s\t%s\t%zu\n", entry, input, with - without + RETURN_ADDRESS);
+}
+
+#define MEASURE(entry, input)                                       \
+    do {                                                            \
+        entry##_entry = no_##entry;                                 \
+        size_t without = depth_of(entry##_call);                    \
+        entry##_entry = gamulisyan_##entry;                         \
+        print("gamulisyan_" #entry, input, depth_of(entry##_call), without); \
+    } while (0)
+
+static void must(int accepted, const char *entry)
+{
+    if (!accepted) {
+        fprintf(stderr, "stack: %s refused its input\n", entry);
+        exit(1);
+    }
+}
+
+int main(void)
+{
+    const char *deep = build_input(DEEP_INPUT, &headers);
+    MEASURE(read, deep);
+    must(answer.answer == GAMULISYAN_ACCEPTED, "read");
+    numbers = answer.rows * GAMULISYAN_ROW_NUMBERS;
+    MEASURE(payload, deep);
+    must(part.end == headers.places[1], "payload");
+    MEASURE(write, deep);
+    must(answer.answer == GAMULISYAN_ACCEPTED, "write");
+    MEASURE(number_decode, "4,294,967,295");
+    must(number.answer == GAMULISYAN_ACCEPTED, "number_decode");
+    MEASURE(number_encode, "4,294,967,295");
+    must(coded.answer == GAMULISYAN_ACCEPTED, "number_encode");
+    MEASURE(date_decode, "29 February 2000 with a designator");
+    must(dated.answer == GAMULISYAN_ACCEPTED, "date_decode");
+    MEASURE(date_encode, "29 February 2000 with a designator");
+    must(coded.answer == GAMULISYAN_ACCEPTED, "date_encode");
+    return 0;
+}
