@@ -1,23 +1,29 @@
-// "Text: bytes 20 to FF (hex), possibly none, then 00."
+// "Text: bytes 20 to FF (hex), possibly none, then 00", and in notes line breaks.
 use crate::Value;
 use table::refusals::ENVELOPE_ENDS;
 use table::refusals::TEXT_WRONG;
 ghost use mathlib.Core.Path.{_≡_};
 ghost use Prim.Native.Nat.{_+_, _-_, _≤_, _<_};
 ghost use lib.ListN.{length};
-ghost use Rattle.meaning.specs.Bytes.{takeText};
+ghost use Rattle.meaning.specs.Bytes.{note, isBreak, takeText};
 ghost use Rattle.laws.specs.From.{from};
-ghost use Rattle.values.specs.Stages.{Inside, Valued, Skipped, Run, textRun};
+ghost use Rattle.values.specs.Stages.{Inside, Valued, ruleOf, Skipped, Run, LineRun, textRun};
 
-// The least byte that is text.
+// What a text is for: a line, or a note, which may have line breaks.
+pub enum Rule {
+    Line,
+    Note,
+}
+
+// The least byte of a line.
 const FIRST_TEXT: u8 = 0x20;
 
-// A text from its first byte on.
-pub fn take(s: &[u8], end: usize, at: usize, kind: u32) -> Value
+// A text by its rule, from its first byte on: its row and the place behind its 00, or the refusal.
+pub fn take(s: &[u8], end: usize, at: usize, kind: u32, rule: Rule) -> Value
     requires { ⌜ Inside (now s) end at ⌝ }
-    ensures { λ r. ⌜ Valued (now (s .entry)) end at kind 1 (takeText (from (now (s .entry)) at end)) r ⌝ }
+    ensures { λ r. ⌜ Valued (now (s .entry)) end at kind 1 (takeText (ruleOf rule) (from (now (s .entry)) at end)) r ⌝ }
 {
-    let i = run(s, end, at);
+    let i = run(s, end, at, rule);
     if end <= i {
         return Value::Refused {
             refusal: ENVELOPE_ENDS,
@@ -25,11 +31,13 @@ pub fn take(s: &[u8], end: usize, at: usize, kind: u32) -> Value
         };
     }
     if s[i] == 0 {
+        let length = i - at;
+        let after = i + 1;
         return Value::Is {
             kind: kind,
             start: at,
-            length: i - at,
-            after: i + 1,
+            length: length,
+            after: after,
         };
     }
     Value::Refused {
@@ -38,10 +46,45 @@ pub fn take(s: &[u8], end: usize, at: usize, kind: u32) -> Value
     }
 }
 
-// The first place whose byte is no text, or the end.
-pub fn run(s: &[u8], end: usize, at: usize) -> usize
+// The first place whose byte the rule does not allow, or the end.
+pub fn run(s: &[u8], end: usize, at: usize, rule: Rule) -> usize
     requires { ⌜ Inside (now s) end at ⌝ }
-    ensures { λ r. ⌜ Run (now (s .entry)) end at r ⌝ }
+    ensures { λ r. ⌜ Run (ruleOf rule) (now (s .entry)) end at r ⌝ }
+{
+    match rule {
+        Rule::Line => line_run(s, end, at),
+        Rule::Note => note_run(s, end, at),
+    }
+}
+
+// Line by line: past a break, and on by stretches.
+fn note_run(s: &[u8], end: usize, at: usize) -> usize
+    requires { ⌜ Inside (now s) end at ⌝ }
+    ensures { λ r. ⌜ Run note (now (s .entry)) end at r ⌝ }
+{
+    let mut i = line_run(s, end, at);
+    while i < end {
+        if is_break(s[i]) {
+            let next = i + 1;
+            i = line_run(s, end, next);
+        } else {
+            return i;
+        }
+    }
+    i
+}
+
+// "Bytes 09, 0A and 0D".
+fn is_break(b: u8) -> bool
+    ensures { λ r. ⌜ r ≡ isBreak b ⌝ }
+{
+    (b == 0x09) | (b == 0x0a) | (b == 0x0d)
+}
+
+// The first place whose byte is below 20, or the end.
+fn line_run(s: &[u8], end: usize, at: usize) -> usize
+    requires { ⌜ Inside (now s) end at ⌝ }
+    ensures { λ r. ⌜ LineRun (now (s .entry)) end at r ⌝ }
 {
     let i = sixteens(s, end, at);
     let j = past_eight(s, end, i);
@@ -58,7 +101,7 @@ pub fn run(s: &[u8], end: usize, at: usize) -> usize
 // Past sixteen bytes at a time while all of them are text.
 fn sixteens(s: &[u8], end: usize, at: usize) -> usize
     requires { ⌜ Inside (now s) end at ⌝ }
-    ensures { λ r. ⌜ Skipped (now (s .entry)) end at r ⌝ }
+    ensures { λ r. ⌜ ((rule : Rattle.meaning.specs.Bytes.Rule) → Skipped rule (now (s .entry)) end at r) ⌝ }
 {
     let mut i = at;
     while 16 <= end - i {
@@ -73,7 +116,7 @@ fn sixteens(s: &[u8], end: usize, at: usize) -> usize
 
 fn past_eight(s: &[u8], end: usize, at: usize) -> usize
     requires { ⌜ Inside (now s) end at ⌝ }
-    ensures { λ r. ⌜ Skipped (now (s .entry)) end at r ⌝ }
+    ensures { λ r. ⌜ ((rule : Rattle.meaning.specs.Bytes.Rule) → Skipped rule (now (s .entry)) end at r) ⌝ }
 {
     if 8 <= end - at {
         if eight(s, at) {
@@ -85,7 +128,7 @@ fn past_eight(s: &[u8], end: usize, at: usize) -> usize
 
 fn past_four(s: &[u8], end: usize, at: usize) -> usize
     requires { ⌜ Inside (now s) end at ⌝ }
-    ensures { λ r. ⌜ Skipped (now (s .entry)) end at r ⌝ }
+    ensures { λ r. ⌜ ((rule : Rattle.meaning.specs.Bytes.Rule) → Skipped rule (now (s .entry)) end at r) ⌝ }
 {
     if 4 <= end - at {
         if four(s, at) {
