@@ -58,25 +58,31 @@ module _ (rule : Rule) (s : List ℕ) (end : ℕ) (l : end ≤ length s) (at i :
   unfolding takeText
   text-ends h = rw (from-end s i end (omega arith)) (ap (misses 6) (omega arith))
 
--- one byte and n more: the text goes on behind them all
-pub text-runs : (rule : Rule) (s : List ℕ) (end : ℕ) → end ≤ length s → (at i n : ℕ) → at ≤ i → i + n < end → textRun s i n ≡ true
-    → span (i - at) (takeText rule (from s i end)) ≡ span (i + suc n - at) (takeText rule (from s (i + suc n) end))
-unfolding textRun
-text-runs rule s end l at i zero g h b = text-goes rule s end l at i g (omega arith) (line-in rule (getD s i 0) b)
-text-runs rule s end l at i (suc n) g h b =
-    let (before, last) = both-hold (textRun s i n) (textByte line (getD s (i + suc n) 0)) b in
-    let q : i + suc n + 1 ≡ i + suc (suc n) = omega arith in
-    text-runs rule s end l at i n g (omega arith) before ∙ text-goes rule s end l at (i + suc n) (omega arith) (omega arith) (line-in rule (getD s (i + suc n) 0) last) ∙ rw q refl
+-- one byte and n more that one rule allows, and the text's rule too: the text goes on behind them all
+module _ (least rule : Rule) (wider : (b : ℕ) → textByte least b ≡ true → textByte rule b ≡ true) (s : List ℕ) (end : ℕ) (l : end ≤ length s) where
+  pub text-runs : (at i n : ℕ) → at ≤ i → i + n < end → textRun least s i n ≡ true → span (i - at) (takeText rule (from s i end)) ≡ span (i + suc n - at) (takeText rule (from s (i + suc n) end))
+  unfolding textRun
+  text-runs at i zero g h b = text-goes rule s end l at i g (omega arith) (wider (getD s i 0) b)
+  text-runs at i (suc n) g h b =
+      let (before, last) = both-hold (textRun least s i n) (textByte least (getD s (i + suc n) 0)) b in
+      let q : i + suc n + 1 ≡ i + suc (suc n) = omega arith in
+      text-runs at i n g (omega arith) before ∙ text-goes rule s end l at (i + suc n) (omega arith) (omega arith) (wider (getD s (i + suc n) 0) last) ∙ rw q refl
 
--- the place behind a run
-pub run-skipped : (s : List ℕ) (end : ℕ) → end ≤ length s → (at n : ℕ) → at + n < end → textRun s at n ≡ true → (rule : Rule) → Skipped rule s end at (at + suc n)
-run-skipped s end l at n h b rule =
-    let q : 0 ≡ at - at = omega arith in
-    record {
-      inside = omega arith;
-      before = omega arith;
-      is = ap (λ (x : ℕ). span x (takeText rule (from s at end))) q ∙ text-runs rule s end l at at n (omega arith) h b;
-    }
+  -- the place behind a run
+  run-skipped : (at n : ℕ) → at + n < end → textRun least s at n ≡ true → Skipped rule s end at (at + suc n)
+  run-skipped at n h b =
+      let q : 0 ≡ at - at = omega arith in
+      record {
+        inside = omega arith;
+        before = omega arith;
+        is = ap (λ (x : ℕ). span x (takeText rule (from s at end))) q ∙ text-runs at at n (omega arith) h b;
+      }
+
+pub line-skipped : (s : List ℕ) (end : ℕ) → end ≤ length s → (at n : ℕ) → at + n < end → textRun line s at n ≡ true → (rule : Rule) → Skipped rule s end at (at + suc n)
+line-skipped s end l at n h b rule = run-skipped line rule (line-in rule) s end l at n h b
+
+pub note-skipped : (s : List ℕ) (end : ℕ) → end ≤ length s → (at n : ℕ) → at + n < end → textRun note s at n ≡ true → Skipped note s end at (at + suc n)
+note-skipped s end l at n h b = run-skipped note note (λ b h. h) s end l at n h b
 
 pub skipped-none : (s : List ℕ) (end at : ℕ) → at ≤ end → (rule : Rule) → Skipped rule s end at at
 skipped-none s end at h rule = let q : 0 ≡ at - at = omega arith in record { inside = omega arith; before = h; is = ap (λ (x : ℕ). span x (takeText rule (from s at end))) q }
@@ -99,6 +105,9 @@ skipped-on {rule} {s} {end} {at} {i} {k} a b =
       is = a .is ∙ span-behind (k - i) (i - at) (takeText rule (from s i end)) (takeText rule (from s k end)) (b .is) ∙ ap (λ (x : ℕ). span x (takeText rule (from s k end))) e;
     }
 
+pub run-on : {rule : Rule} {s : List ℕ} {end at i k : ℕ} → Skipped rule s end at i → Run rule s end i k → Run rule s end at k
+run-on a b = record { skipped = skipped-on a (b .skipped); stops = b .stops }
+
 -- one byte that the rule allows
 pub byte-skipped : (rule : Rule) (s : List ℕ) (end : ℕ) → end ≤ length s → (i : ℕ) → i < end → textByte rule (getD s i 0) ≡ true → Skipped rule s end i (i + 1)
 byte-skipped rule s end l i h b =
@@ -110,19 +119,20 @@ byte-skipped rule s end l i h b =
     }
 
 -- two runs, one behind the other
-pub runs-join : (s : List ℕ) (i n m : ℕ) → (textRun s i n && textRun s (i + suc n) m) ≡ textRun s i (suc n + m)
-unfolding textRun
-runs-join s i n zero = let q : n ≡ n + 0 = omega arith in let p : suc n + 0 ≡ suc n = omega arith in sym (ap (textRun s i) p)
-runs-join s i n (suc m) =
-    let q : i + suc n + suc m ≡ i + suc (suc n + m) = omega arith in
-    let p : suc n + suc m ≡ suc (suc n + m) = omega arith in
-    sym (and-assoc (textRun s i n) (textRun s (i + suc n) m) (textByte line (getD s (i + suc n + suc m) 0)))
-    ∙ ap (λ (b : Bool). b && textByte line (getD s (i + suc n + suc m) 0)) (runs-join s i n m) ∙ ap (λ (k : ℕ). textRun s i (suc n + m) && textByte line (getD s k 0)) q ∙ sym (ap (textRun s i) p)
+module _ (rule : Rule) (s : List ℕ) (i : ℕ) where
+  runs-join : (n m : ℕ) → (textRun rule s i n && textRun rule s (i + suc n) m) ≡ textRun rule s i (suc n + m)
+  unfolding textRun
+  runs-join n zero = let p : suc n + 0 ≡ suc n = omega arith in sym (ap (textRun rule s i) p)
+  runs-join n (suc m) =
+      let q : i + suc n + suc m ≡ i + suc (suc n + m) = omega arith in
+      let p : suc n + suc m ≡ suc (suc n + m) = omega arith in
+      sym (and-assoc (textRun rule s i n) (textRun rule s (i + suc n) m) (textByte rule (getD s (i + suc n + suc m) 0)))
+      ∙ ap (λ (b : Bool). b && textByte rule (getD s (i + suc n + suc m) 0)) (runs-join n m) ∙ ap (λ (k : ℕ). textRun rule s i (suc n + m) && textByte rule (getD s k 0)) q ∙ sym (ap (textRun rule s i) p)
 
-pub two-runs : (s : List ℕ) (i n : ℕ) {a b : Bool} → a ≡ textRun s i n → b ≡ textRun s (i + suc n) n → (a && b) ≡ textRun s i (suc n + n)
-two-runs s i n {a} {b} p q = ap (λ (x : Bool). x && b) p ∙ ap (λ (x : Bool). textRun s i n && x) q ∙ runs-join s i n n
+  pub two-runs : (n : ℕ) {a b : Bool} → a ≡ textRun rule s i n → b ≡ textRun rule s (i + suc n) n → (a && b) ≡ textRun rule s i (suc n + n)
+  two-runs n {a} {b} p q = ap (λ (x : Bool). x && b) p ∙ ap (λ (x : Bool). textRun rule s i n && x) q ∙ runs-join n n
 
-pub one-text : (s : List ℕ) (i : ℕ) → 32 ≤ getD s i 0 → textRun s i 0 ≡ true
+pub one-text : (s : List ℕ) (i : ℕ) → 32 ≤ getD s i 0 → textRun line s i 0 ≡ true
 unfolding textRun
 one-text s i h = is-text (getD s i 0) h
 

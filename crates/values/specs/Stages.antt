@@ -83,7 +83,7 @@ pub record LineRun (s : List ℕ) (end at place : ℕ) : Type 0 where
   pub skipped : (rule : Rule) → Skipped rule s end at place
   pub stops : place < end → textByte line (getD s place 0) ≡ false
 
--- whether a byte, and so many behind it, are those of a line
-unfoldable pub textRun : List ℕ → ℕ → ℕ → Bool
-textRun s at zero = textByte line (getD s at 0)
-textRun s at (suc n) = textRun s at n && textByte line (getD s (at + suc n) 0)
+-- whether the rule allows a byte, and so many behind it
+unfoldable pub textRun : Rule → List ℕ → ℕ → ℕ → Bool
+textRun rule s at zero = textByte rule (getD s at 0)
+textRun rule s at (suc n) = textRun rule s at n && textByte rule (getD s (at + suc n) 0)

@@ -5,7 +5,7 @@ use table::refusals::TEXT_WRONG;
 ghost use mathlib.Core.Path.{_≡_};
 ghost use Prim.Native.Nat.{_+_, _-_, _≤_, _<_};
 ghost use lib.ListN.{length};
-ghost use Rattle.meaning.specs.Bytes.{note, isBreak, takeText};
+ghost use Rattle.meaning.specs.Bytes.{line, note, isBreak, textByte, takeText};
 ghost use Rattle.laws.specs.From.{from};
 ghost use Rattle.values.specs.Stages.{Inside, Valued, ruleOf, Skipped, Run, LineRun, textRun};
 
@@ -57,8 +57,25 @@ pub fn run(s: &[u8], end: usize, at: usize, rule: Rule) -> usize
     }
 }
 
-// Line by line: past a break, and on by stretches.
+// Past sixteen bytes at a time, with breaks among them where a line's stretch stops; what is left line by line.
 fn note_run(s: &[u8], end: usize, at: usize) -> usize
+    requires { ⌜ Inside (now s) end at ⌝ }
+    ensures { λ r. ⌜ Run note (now (s .entry)) end at r ⌝ }
+{
+    let mut i = sixteens(s, end, at);
+    while 16 <= end - i {
+        if sixteen_in_note(s, i) {
+            let next = i + 16;
+            i = sixteens(s, end, next);
+        } else {
+            return line_by_line(s, end, i);
+        }
+    }
+    line_by_line(s, end, i)
+}
+
+// Past a line and its break, and on with the next.
+fn line_by_line(s: &[u8], end: usize, at: usize) -> usize
     requires { ⌜ Inside (now s) end at ⌝ }
     ensures { λ r. ⌜ Run note (now (s .entry)) end at r ⌝ }
 {
@@ -138,24 +155,52 @@ fn past_four(s: &[u8], end: usize, at: usize) -> usize
     at
 }
 
-// Whether the next bytes are all text: `&` and not `&&`, so that it is one comparison of vectors.
+// Whether a note allows the next bytes, all of them.
+fn sixteen_in_note(s: &[u8], i: usize) -> bool
+    requires { ⌜ i + 16 ≤ length (now s) ⌝ }
+    ensures { λ r. ⌜ r ≡ textRun note (now (s .entry)) i 15 ⌝ }
+{
+    eight_in_note(s, i) & eight_in_note(s, i + 8)
+}
+
+fn eight_in_note(s: &[u8], i: usize) -> bool
+    requires { ⌜ i + 8 ≤ length (now s) ⌝ }
+    ensures { λ r. ⌜ r ≡ textRun note (now (s .entry)) i 7 ⌝ }
+{
+    four_in_note(s, i) & four_in_note(s, i + 4)
+}
+
+fn four_in_note(s: &[u8], i: usize) -> bool
+    requires { ⌜ i + 4 ≤ length (now s) ⌝ }
+    ensures { λ r. ⌜ r ≡ textRun note (now (s .entry)) i 3 ⌝ }
+{
+    in_note(s[i]) & in_note(s[i + 1]) & in_note(s[i + 2]) & in_note(s[i + 3])
+}
+
+fn in_note(b: u8) -> bool
+    ensures { λ r. ⌜ r ≡ textByte note b ⌝ }
+{
+    (b >= FIRST_TEXT) | is_break(b)
+}
+
+// Whether the next bytes are all of a line: `&` and not `&&`, so that it is one comparison of vectors.
 fn sixteen(s: &[u8], i: usize) -> bool
     requires { ⌜ i + 16 ≤ length (now s) ⌝ }
-    ensures { λ r. ⌜ r ≡ textRun (now (s .entry)) i 15 ⌝ }
+    ensures { λ r. ⌜ r ≡ textRun line (now (s .entry)) i 15 ⌝ }
 {
     eight(s, i) & eight(s, i + 8)
 }
 
 fn eight(s: &[u8], i: usize) -> bool
     requires { ⌜ i + 8 ≤ length (now s) ⌝ }
-    ensures { λ r. ⌜ r ≡ textRun (now (s .entry)) i 7 ⌝ }
+    ensures { λ r. ⌜ r ≡ textRun line (now (s .entry)) i 7 ⌝ }
 {
     four(s, i) & four(s, i + 4)
 }
 
 fn four(s: &[u8], i: usize) -> bool
     requires { ⌜ i + 4 ≤ length (now s) ⌝ }
-    ensures { λ r. ⌜ r ≡ textRun (now (s .entry)) i 3 ⌝ }
+    ensures { λ r. ⌜ r ≡ textRun line (now (s .entry)) i 3 ⌝ }
 {
     (s[i] >= FIRST_TEXT)
         & (s[i + 1] >= FIRST_TEXT)

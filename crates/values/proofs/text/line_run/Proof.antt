@@ -1,6 +1,6 @@
 -- `text::line_run`: past the stretches, then byte by byte; the invariant is that all before is text.
 use Prim.Native.Nat.{_-_}
-use Rattle.values.proofs.Texts.{no-text, one-text, run-skipped, skipped-on}
+use Rattle.values.proofs.Texts.{no-text, one-text, line-skipped, skipped-on}
 use Rattle.values.specs.Stages.{Skipped}
 use Rattle.meaning.specs.Bytes.{Rule, line}
 use lib.ListN.{getD}
@@ -44,7 +44,7 @@ loop-again c =
     let entry = c .before .before .before .before .before .before .before .before in
     let a = entry .args in
     let l = c .before .before .before .loop in
-    λ rule. skipped-on (l .inv rule) (run-skipped (a .s .now) (a .end) (entry .pre .whole) (l .k) 0 (omega (arith, c .before .before .loop-test .taken)) (one-text (a .s .now) (l .k) (c .if1 .left)) rule)
+    λ rule. skipped-on (l .inv rule) (line-skipped (a .s .now) (a .end) (entry .pre .whole) (l .k) 0 (omega (arith, c .before .before .loop-test .taken)) (one-text (a .s .now) (l .k) (c .if1 .left)) rule)
 
 returns-2 : tie.Need-returns-2 Inv-loop μ-loop
 returns-2 c = let l = c .before .loop in record { skipped = l .inv; stops = λ h. absurd (omega (arith, h, c .loop-test .left)) }

@@ -5,7 +5,7 @@ use native.Mathlib.Omega.{arith}
 use Rattle.meaning.specs.Bytes.{Rule, line, takeText}
 use Rattle.laws.specs.From.{from}
 use Rattle.values.specs.Stages.{span, Skipped}
-use Rattle.values.proofs.Texts.{text-runs}
+use Rattle.values.proofs.Texts.{line-in, text-runs}
 use Rattle.values.proofs.text.sixteens.Statement.{statement}
 use Rattle.values.proofs.text.sixteens.Tie as tie
 
@@ -43,7 +43,7 @@ loop-again c =
     λ rule. record {
       inside = omega arith;
       before = omega arith;
-      is = l .inv rule .is ∙ text-runs rule (a .s .now) (a .end) (start .pre .whole) (a .at) (l .i) 15 (here .inside) (omega arith) (sym (c .before .sixteen .ensures) ∙ c .if1 .taken);
+      is = l .inv rule .is ∙ text-runs line rule (line-in rule) (a .s .now) (a .end) (start .pre .whole) (a .at) (l .i) 15 (here .inside) (omega arith) (sym (c .before .sixteen .ensures) ∙ c .if1 .taken);
     }
 
 returns : tie.Need-returns Inv-loop μ-loop
