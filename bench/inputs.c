@@ -7,7 +7,7 @@
 #include <string.h>
 
 enum { BASE = 0xFE, CLOSING = 0x01, STRING = 0x12, DATE = 0x20, AGENT = 0x02, ADDRESSES = 0x02, RESOLVERS = 0x03 };
-enum { TO = 0x02, FROM = 0x03, COMMENTS = 0x05, PAYLOAD_LENGTH = 0x06, RECEIVED = 0x0A, RECEIVED_ID = 0x03 };
+enum { TO = 0x02, FROM = 0x03, COMMENTS = 0x05, PAYLOAD_LENGTH = 0x06, RECEIVED = 0x0A, RECEIVED_ID = 0x03, LINE_BREAK = 0x0A };
 enum { MOST_LEVEL = 8, MOST_ENVELOPES = 16, ENVELOPE_LIMIT = 1048576, SHORT_FRONT = 3, LONG_FRONT = 7, SEED = 20261115 };
 
 /* Of all the bytes put, those of the header under way too. */
@@ -158,17 +158,34 @@ static const char *build_resolvers(struct headers *headers, struct source *sourc
     return "8 levels of resolvers, 4,000 rows";
 }
 
-/* The longest envelope that is accepted, all but its head one comment. */
-static const char *build_comment(struct headers *headers, struct source *source)
+/* The longest envelope that is accepted, all but its head one comment; with a line break after so many letters, or 0 for none. */
+static void put_comment(struct headers *headers, struct source *source, size_t line)
 {
     size_t start = open_base(headers, source, LONG_FRONT);
     put(headers, COMMENTS);
-    while (length_of(headers) < start + ENVELOPE_LIMIT - 2)
-        put(headers, 'a' + (unsigned)random_below(source, 26));
+    size_t first = length_of(headers);
+    while (length_of(headers) < start + ENVELOPE_LIMIT - 2) {
+        if (line > 0 && (length_of(headers) - first) % (line + 1) == line)
+            put(headers, LINE_BREAK);
+        else
+            put(headers, 'a' + (unsigned)random_below(source, 26));
+    }
     put(headers, 0x00);
     close_envelope(headers, start, LONG_FRONT);
     end_header(headers);
+}
+
+static const char *build_comment(struct headers *headers, struct source *source)
+{
+    put_comment(headers, source, 0);
     return "a comment of 1 MiB";
+}
+
+/* A break every 40 bytes: 39 letters, then it. */
+static const char *build_lines(struct headers *headers, struct source *source)
+{
+    put_comment(headers, source, 39);
+    return "a comment of 1 MiB in lines of 40";
 }
 
 /* The extension envelope of a sample fifteen times, then its base; their lengths are short ones. */
@@ -230,6 +247,8 @@ const char *build_input(unsigned number, struct headers *headers)
     case 3:
         return build_comment(headers, &source);
     case 4:
+        return build_lines(headers, &source);
+    case 5:
         return build_envelopes(headers);
     default:
         return build_small(headers, &source);

@@ -1,11 +1,11 @@
-/* The headers that are measured, all of edition D: five kinds of traffic, each one header or many. */
+/* The headers that are measured, all of edition D: six kinds of traffic, each one header or many. */
 #ifndef BENCH_INPUTS_H
 #define BENCH_INPUTS_H
 
 #include <stddef.h>
 #include <stdint.h>
 
-enum { INPUTS = 5, MOST_HEADERS = 10000, MOST_BYTES = 1 << 22 };
+enum { INPUTS = 6, MOST_HEADERS = 10000, MOST_BYTES = 1 << 22 };
 
 /* Header n lies from places[n] up to places[n + 1], and nothing behind it: there is no payload. */
 struct headers {

@@ -71,7 +71,10 @@ void put_parameter(struct source *source, uint32_t edition, struct header *heade
     switch (code) {
     case 0x00:
         put_text(source, header);
-        put_text(source, header);
+        put_note(source, header);
+        break;
+    case 0x05:
+        put_note(source, header);
         break;
     case 0x02:
     case 0x09:
@@ -120,7 +123,7 @@ void put_flaw(struct source *source, uint32_t edition, struct header *header)
         wide = random_once_in(source, 2);
         put_number(header, random_once_in(source, 2) ? 0x53A5A783A7 : 0x1200, wide ? 5 : 2);
         break;
-    case 3: /* a text byte below 20 */
+    case 3: /* a text byte below 20, of which three are allowed in this one */
         put(header, 0x05);
         put(header, 1 + (unsigned)random_below(source, 0x1F));
         break;

@@ -36,8 +36,28 @@ void put_text_of(struct source *source, struct header *header, size_t length)
     put(header, 0);
 }
 
+static unsigned some_break(struct source *source)
+{
+    static const unsigned breaks[3] = {0x09, 0x0A, 0x0D};
+    return breaks[random_below(source, 3)];
+}
+
+/* A line; now and then with a break, which it may not have. */
 void put_text(struct source *source, struct header *header)
 {
+    if (random_once_in(source, 256))
+        put(header, some_break(source));
+    put_text_of(source, header, text_length(source));
+}
+
+/* A note: lines of any length, parted by breaks. */
+void put_note(struct source *source, struct header *header)
+{
+    size_t lines = random_once_in(source, 2) ? 0 : random_below(source, 4);
+    while (lines-- > 0) {
+        put_text_of(source, header, text_length(source));
+        header->bytes[header->length - 1] = (uint8_t)some_break(source);
+    }
     put_text_of(source, header, text_length(source));
 }
 
@@ -116,7 +136,7 @@ void put_any(struct source *source, struct header *header)
 {
     if (random_once_in(source, 2)) {
         put(header, 0x14);
-        put_text(source, header);
+        put_note(source, header);
         return;
     }
     put_block_of(source, header, random_once_in(source, 12) ? 250 + random_below(source, 12) : text_length(source));

@@ -17,6 +17,7 @@ void put_number(struct header *header, size_t value, unsigned width);
 /* `length` leaves out the closing 00. */
 void put_text_of(struct source *source, struct header *header, size_t length);
 void put_text(struct source *source, struct header *header);
+void put_note(struct source *source, struct header *header);
 
 /* With its code, one that the edition has. */
 void put_date(struct source *source, uint32_t edition, struct header *header);

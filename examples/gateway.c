@@ -6,7 +6,7 @@
        cc -std=c11 -O2 -I include -o gateway examples/gateway.c target/staticlib/libgamulisyan.a
 
    A line for each agent of `to` and of the intended receiver: the list, the name, the addresses. Then the bytes of the
-   header and of the payload. Fields are parted by tabs, which no text of a header holds.
+   header and of the payload. Fields are parted by tabs, which no name and no address holds.
    Status: 0 if all went well; 1 for a header that is refused; 2 for wrong use, a file that cannot be read, no memory. */
 #include "gamulisyan.h"
 

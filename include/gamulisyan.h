@@ -42,7 +42,8 @@ enum { GAMULISYAN_EDITION_B = 1, GAMULISYAN_EDITION_D = 2 };
 /* A row is four numbers: kind, level, start and length of its bytes in the input or pool. */
 enum { GAMULISYAN_ROW_NUMBERS = 4 };
 
-/* Kinds of row. */
+/* Kinds of row. The bytes of kinds 20, 22 and 28 are notes, in which the line breaks 09, 0A and 0D are allowed; all other texts are
+   lines and have none. */
 enum {
     GAMULISYAN_EXTENSION_OPENS = 1,
     GAMULISYAN_BASE_OPENS = 2,

@@ -78,7 +78,7 @@ static size_t count_ahead(const struct reader *reader)
 static bool read_text(struct reader *reader, uint32_t kind, uint32_t level)
 {
     size_t start = reader->place;
-    if (!pass(reader, second_text_front(bytes_ahead(reader), count_ahead(reader))))
+    if (!pass(reader, second_text_front(kind, bytes_ahead(reader), count_ahead(reader))))
         return false;
     add_row(reader, kind, level, start, reader->place - 1 - start);
     return true;

@@ -27,17 +27,26 @@ uint32_t second_high_first(const uint8_t *bytes, size_t width)
 
 /* Texts */
 
-size_t second_text_run(const uint8_t *bytes, size_t length)
+/* Order 5: "Bytes 09, 0A and 0D become allowed in kinds 20, 22 and 28 and nowhere else." */
+static bool is_text(uint32_t kind, uint8_t byte)
+{
+    if (byte >= 0x20)
+        return true;
+    bool breaks = kind == KIND_ANY_TEXT || kind == KIND_COMMENTS || kind == KIND_OWN_VALUE;
+    return breaks && (byte == 0x09 || byte == 0x0A || byte == 0x0D);
+}
+
+size_t second_text_run(uint32_t kind, const uint8_t *bytes, size_t length)
 {
     size_t run = 0;
-    while (run < length && bytes[run] >= 0x20)
+    while (run < length && is_text(kind, bytes[run]))
         run++;
     return run;
 }
 
-struct second_answer second_text_front(const uint8_t *bytes, size_t length)
+struct second_answer second_text_front(uint32_t kind, const uint8_t *bytes, size_t length)
 {
-    size_t run = second_text_run(bytes, length);
+    size_t run = second_text_run(kind, bytes, length);
     if (run == length)
         return answered(BYTE_NEEDED, length);
     if (bytes[run] != 0x00)
@@ -278,7 +287,7 @@ uint8_t second_block_code(uint32_t length, size_t *width)
 
 static struct second_answer any_text_front(const uint8_t *bytes, size_t length, struct any_value *value)
 {
-    struct second_answer end = second_text_front(bytes + 1, length - 1);
+    struct second_answer end = second_text_front(KIND_ANY_TEXT, bytes + 1, length - 1);
     *value = (struct any_value){.kind = KIND_ANY_TEXT, .start = 1, .length = end.place - 1};
     return answered(end.answer, 1 + end.place);
 }

@@ -21,11 +21,11 @@ struct any_value {
     size_t length;
 };
 
-/* Bytes 20 to FF before the first other byte, `length` if there is none. */
-size_t second_text_run(const uint8_t *bytes, size_t length);
+/* Bytes that a text of the kind allows before the first other byte, `length` if there is none. */
+size_t second_text_run(uint32_t kind, const uint8_t *bytes, size_t length);
 
 /* The closing 00 counts as part of the text. */
-struct second_answer second_text_front(const uint8_t *bytes, size_t length);
+struct second_answer second_text_front(uint32_t kind, const uint8_t *bytes, size_t length);
 
 struct second_answer second_number_front(const uint8_t *bytes, size_t length, uint64_t *value);
 

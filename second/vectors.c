@@ -1,4 +1,4 @@
-/* Runs the recorded cases of one folder: read.tsv, write.tsv, number.tsv, date.tsv and days.tsv. Each case is given its own lent
+/* Runs the recorded cases of one folder: read.tsv, write.tsv, number.tsv, date.tsv, days.tsv and breaks.tsv. Each case is given its own lent
    memory between guards, and the whole of it is compared afterwards. */
 #include "second.h"
 
@@ -274,6 +274,7 @@ int main(int count, char **arguments)
     check_file(arguments[1], "number.tsv", check_number, &bench, &tally);
     check_file(arguments[1], "date.tsv", check_date, &bench, &tally);
     check_file(arguments[1], "days.tsv", check_named, &bench, &tally);
+    check_file(arguments[1], "breaks.tsv", check_named, &bench, &tally);
     printf("%u passed, %u failed\n", tally.passed, tally.failed);
     return tally.failed == 0 ? 0 : 1;
 }

@@ -103,7 +103,7 @@ static bool write_opening(struct writer *writer, uint32_t kind, uint32_t level, 
 static bool write_text(struct writer *writer, uint32_t kind, uint32_t level)
 {
     uint32_t length = writer->ahead.length;
-    if (!is_ahead_in_pool(writer, kind, level) || second_text_run(viewed(writer), length) != length)
+    if (!is_ahead_in_pool(writer, kind, level) || second_text_run(kind, viewed(writer), length) != length)
         return false;
     put_bytes(writer, viewed(writer), length);
     put_byte(writer, 0x00);

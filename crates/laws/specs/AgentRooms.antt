@@ -5,6 +5,7 @@ use mathlib.Core.Path.{_≡_, refl, ap, sym}
 use native.Mathlib.Numerals.{add-one}
 use native.Mathlib.Omega.{arith}
 use borrow.Author.Tests.{ne-eqb}
+use Rattle.meaning.specs.Bytes.{line}
 use Rattle.meaning.specs.Kinds.{agentName, addressesOpen, address, resolversOpen, extraKey}
 use Rattle.meaning.specs.Told.{Edition, B, D, Told}
 use Rattle.meaning.specs.Editions.{agentList, oneAgent, afterName, addressTexts, afterAddresses, afterResolvers, agentExtra, state, stay, deeper, listEnds, agentEnds, listEnd, go, text, opens, closing, extraCode, anyValues, on_▸_▸_▸_, pass_▸_, shared, own, moves}
@@ -37,7 +38,7 @@ unfolding look find moves shared own
 agent-no-extra B b h x = rw (ne-eqb 1 b (flip h), ne-eqb 4 b (flip x)) refl
 agent-no-extra D b h x = rw (ne-eqb 1 b (flip h), ne-eqb 5 b (flip x)) refl
 
-agent-extra : (e : Edition) → look (extraCode e) (moves e afterResolvers) ≡ hit (on extraCode e ▸ extraKey ▸ text ▸ stay agentExtra)
+agent-extra : (e : Edition) → look (extraCode e) (moves e afterResolvers) ≡ hit (on extraCode e ▸ extraKey ▸ text line ▸ stay agentExtra)
 unfolding look find moves shared own
 agent-extra B = refl
 agent-extra D = refl
@@ -81,7 +82,7 @@ pub addresses-else : (e : Edition) (b : ℕ) → (b ≡ 0x03 → ⊥) → look b
 unfolding look find moves shared own
 addresses-else e b h = rw (ne-eqb 3 b (flip h)) refl
 
-pub list-name : (e : Edition) → look 0x02 (moves e agentList) ≡ hit (on 0x02 ▸ agentName ▸ text ▸ stay afterName)
+pub list-name : (e : Edition) → look 0x02 (moves e agentList) ≡ hit (on 0x02 ▸ agentName ▸ text line ▸ stay afterName)
 unfolding look find moves shared own
 list-name e = refl
 
@@ -93,7 +94,7 @@ pub list-none : (e : Edition) (b : ℕ) → (b ≡ 1 → ⊥) → (b ≡ 0x02 �
 unfolding look find moves shared own
 list-none e b h x = rw (ne-eqb 1 b (flip h), ne-eqb 2 b (flip x)) refl
 
-pub one-name : (e : Edition) → look 0x02 (moves e oneAgent) ≡ hit (on 0x02 ▸ agentName ▸ text ▸ stay afterName)
+pub one-name : (e : Edition) → look 0x02 (moves e oneAgent) ≡ hit (on 0x02 ▸ agentName ▸ text line ▸ stay afterName)
 unfolding look find moves shared own
 one-name e = refl
 

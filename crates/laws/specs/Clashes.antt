@@ -181,7 +181,7 @@ same-bool false true t = absurd t
 same-bool false false t = refl
 
 date-of : (r : Reach) (d : Bool) (f : Form) → T (isDateOf r d f) → f ≡ date r d
-date-of r d text t = absurd t
+date-of r d (text rule) t = absurd t
 date-of r d (date reach designated) t =
     let p = same-reach r reach (left-of (sameReach r reach) (sameBool d designated) t) in
     let q = same-bool d designated (right-of (sameReach r reach) (sameBool d designated) t) in

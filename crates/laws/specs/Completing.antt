@@ -47,7 +47,7 @@ closesOn e (hit m) = nextCloses e (m .next)
 -- the others: their first move has an easy value and leads nearer to a room that can
 
 abbrev easy : Form → ℕ → List ℕ
-easy text c = []
+easy (text rule) c = []
 easy (date reach designated) c = 0x31 ∷ 0x11 ∷ 0x16 ∷ 0x19 ∷ 0x15 ∷ 0x37 ∷ 0x62 ∷ 0x59 ∷ 0x20 ∷ []
 easy number c = []
 easy (block w) c = []

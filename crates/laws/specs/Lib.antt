@@ -36,4 +36,5 @@ pub mod PlainNumbers
 pub mod PlainDates
 pub mod Ties
 pub mod Demands
+pub mod Notes
 pub mod Days

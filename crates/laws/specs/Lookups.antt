@@ -21,7 +21,7 @@ use Rattle.laws.specs.Tables.{In, every-in, Hits, find-hits, find-in, ap
 -- What tells the moves of one kind apart: forms of one class, by a number that the view has too
 
 abbrev classOf : Form → ℕ
-classOf text = 0
+classOf (text rule) = 0
 classOf (date reach designated) = 1
 classOf number = 0
 classOf (block w) = 2
@@ -30,7 +30,7 @@ classOf opens = 0
 classOf quiet = 0
 
 abbrev variant : Form → ℕ → ℕ
-variant text c = 0
+variant (text rule) c = 0
 variant (date reach designated) c = length (dateChecks reach designated)
 variant number c = 0
 variant (block w) c = bytesOf w
@@ -64,7 +64,7 @@ only-head c (b ∷ (d ∷ v)) t = absurd t
 
 variant-is : (f : Form) (c : ℕ) (v : List ℕ) → T (valid f c v) → variantIn (classOf f) v ≡ variant f c
 unfolding valid blockOk
-variant-is text c v t = refl
+variant-is (text rule) c v t = refl
 variant-is (date reach designated) c v t = date-length (dateChecks reach designated) [] v t
 variant-is number c v t = refl
 variant-is (block w) c v t =
@@ -95,7 +95,7 @@ abbrev sameRow : Move → Move → Bool
 sameRow x y = not (isQuiet (x .form)) && not (isQuiet (y .form)) && eqb (x .kind) (y .kind) && not (excludes x y)
 
 abbrev pub isTextForm : Form → Bool
-isTextForm text = true
+isTextForm (text rule) = true
 isTextForm (date reach designated) = false
 isTextForm number = false
 isTextForm (block w) = false

@@ -39,7 +39,7 @@ allPlain rows = every isPlain rows
 -- The test of the tables
 
 abbrev isDateForm : Form → Bool
-isDateForm text = false
+isDateForm (text rule) = false
 isDateForm (date reach designated) = true
 isDateForm number = false
 isDateForm (block w) = false
@@ -48,7 +48,7 @@ isDateForm opens = false
 isDateForm quiet = false
 
 abbrev dateLength : Form → ℕ
-dateLength text = 0
+dateLength (text rule) = 0
 dateLength (date reach designated) = length (dateChecks reach designated)
 dateLength number = 0
 dateLength (block w) = 0
@@ -78,7 +78,7 @@ sameBool false b = not b
 
 -- the form that an edition has at date code 21
 abbrev pub isDateOf : Reach → Bool → Form → Bool
-isDateOf r d text = false
+isDateOf r d (text rule) = false
 isDateOf r d (date reach designated) = sameReach r reach && sameBool d designated
 isDateOf r d number = false
 isDateOf r d (block w) = false
@@ -161,7 +161,7 @@ alone e r {m} i =
 -- a row is plain as its move is
 form-length : (f : Form) (c : ℕ) (v : List ℕ) → T (isDateForm f) → T (valid f c v) → dateLength f ≡ length v
 unfolding valid
-form-length text c v t ok = absurd t
+form-length (text rule) c v t ok = absurd t
 form-length (date reach designated) c v t ok = sym (date-length (dateChecks reach designated) [] v ok)
 form-length number c v t ok = absurd t
 form-length (block w) c v t ok = absurd t

@@ -7,7 +7,7 @@ use native.Mathlib.Omega.{arith}
 use lib.Dec.{eqb, ltb}
 use lib.ListN.{length, length-append}
 use Rattle.meaning.specs.Basics.{pick}
-use Rattle.meaning.specs.Bytes.{Taken, took, failed, takeText, takeNumber}
+use Rattle.meaning.specs.Bytes.{Taken, took, failed, Rule, takeText, takeNumber}
 use Rattle.meaning.specs.Kinds.{agentName}
 use Rattle.meaning.specs.Told.{Told}
 use Rattle.meaning.specs.Editions.{State, go, Move, isQuiet}
@@ -52,9 +52,9 @@ landed i back kind level q (took v rest) n m =
     pour (i .end) (inside (i .told) q rest) (n + 1) (put m n kind level (i .end - (length rest + length v + back)) (length v))
 landed i back kind level q (failed refusal left) n m = stopped refusal (i .end - left)
 
--- reading where a text begins, or a payload length, whose row has this kind and level
-abbrev pub textAt : Source → ℕ → ℕ → State → ℕ → ℕ → List ℕ → Filling
-textAt i kind level q at n m = landed i 1 kind level q (takeText (from (i .bytes) at (i .end))) n m
+-- reading where a text begins, by its rule, or a payload length, whose row has this kind and level
+abbrev pub textAt : Source → ℕ → Rule → ℕ → State → ℕ → ℕ → List ℕ → Filling
+textAt i kind rule level q at n m = landed i 1 kind level q (takeText rule (from (i .bytes) at (i .end))) n m
 
 abbrev pub numberAt : Source → ℕ → ℕ → State → ℕ → ℕ → List ℕ → Filling
 numberAt i kind level q at n m = landed i 0 kind level q (takeNumber 0 true (from (i .bytes) at (i .end))) n m

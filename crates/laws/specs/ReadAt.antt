@@ -8,7 +8,7 @@ use lib.Dec.{eqb, ltb}
 use lib.ListN.{length}
 use borrow.Author.Tests.{lt-ltb, ltb-true, ne-eqb}
 use Rattle.meaning.specs.Basics.{pick}
-use Rattle.meaning.specs.Bytes.{takeText}
+use Rattle.meaning.specs.Bytes.{Rule, takeText}
 use Rattle.meaning.specs.Editions.{State, Next, go, text, number, opens, isQuiet, Move, noCode, moves, on_▸_▸_▸_, pass_▸_}
 use Rattle.meaning.specs.Reading.{takeValue, reachBack, none, hit, look, isClosed, strange, tooDeep, Step, fails, next, stepTaken, stepMove, step, onward, inside}
 use Rattle.laws.specs.From.{from, from-length}
@@ -22,16 +22,16 @@ module _ (i : Source) (at n : ℕ) (m : List ℕ) where
   alike : (q d : State) → step (i .told) q (from (i .bytes) at (i .end)) ≡ step (i .told) d (from (i .bytes) at (i .end)) → runAt i q at n m ≡ runAt i d at n m
   alike q d h = run-step i q at n m ∙ ap (λ (x : Step). pour (i .end) (onward x (inside (i .told))) n m) h ∙ sym (run-step i d at n m)
 
-  uncoded-all : (q : State) (kind : ℕ) (g : Next) (t : List ℕ) → ((b : ℕ) → look b (moves (i .told .edition) (q .room)) ≡ hit (on noCode ▸ kind ▸ text ▸ g)) → tooDeep (on noCode ▸ kind ▸ text ▸ g) q ≡ false → isClosed (q .room) ≡ false
-      → pour (i .end) (onward (step (i .told) q t) (inside (i .told))) n m ≡ landed i 1 kind (q .level) (go g q) (takeText t) n m
+  uncoded-all : (q : State) (kind : ℕ) (rule : Rule) (g : Next) (t : List ℕ) → ((b : ℕ) → look b (moves (i .told .edition) (q .room)) ≡ hit (on noCode ▸ kind ▸ text rule ▸ g)) → tooDeep (on noCode ▸ kind ▸ text rule ▸ g) q ≡ false → isClosed (q .room) ≡ false
+      → pour (i .end) (onward (step (i .told) q t) (inside (i .told))) n m ≡ landed i 1 kind (q .level) (go g q) (takeText rule t) n m
   unfolding step stepMove takeValue takeText
-  uncoded-all q kind g (b ∷ t) y d c = rw (y b, d) (lands i q (on noCode ▸ kind ▸ text ▸ g) n m refl (takeText (b ∷ t)))
-  uncoded-all q kind g [] y d c = rw c refl
+  uncoded-all q kind rule g (b ∷ t) y d c = rw (y b, d) (lands i q (on noCode ▸ kind ▸ text rule ▸ g) n m refl (takeText rule (b ∷ t)))
+  uncoded-all q kind rule g [] y d c = rw c refl
 
   -- a text with no code in a room that has nothing else
-  pub only-text : (q : State) (kind : ℕ) (g : Next) → ((b : ℕ) → look b (moves (i .told .edition) (q .room)) ≡ hit (on noCode ▸ kind ▸ text ▸ g)) → tooDeep (on noCode ▸ kind ▸ text ▸ g) q ≡ false → isClosed (q .room) ≡ false
-      → runAt i q at n m ≡ textAt i kind (q .level) (go g q) at n m
-  only-text q kind g y d c = run-step i q at n m ∙ uncoded-all q kind g (from (i .bytes) at (i .end)) y d c
+  pub only-text : (q : State) (kind : ℕ) (rule : Rule) (g : Next) → ((b : ℕ) → look b (moves (i .told .edition) (q .room)) ≡ hit (on noCode ▸ kind ▸ text rule ▸ g)) → tooDeep (on noCode ▸ kind ▸ text rule ▸ g) q ≡ false → isClosed (q .room) ≡ false
+      → runAt i q at n m ≡ textAt i kind rule (q .level) (go g q) at n m
+  only-text q kind rule g y d c = run-step i q at n m ∙ uncoded-all q kind rule g (from (i .bytes) at (i .end)) y d c
 
   -- a step from a byte that is there
   module _ (b : ℕ) (inside-of : at < i .end) (whole : i .end ≤ length (i .bytes)) (is : from (i .bytes) at (i .end) ≡ b ∷ from (i .bytes) (at + 1) (i .end)) where
@@ -47,10 +47,10 @@ module _ (i : Source) (at n : ℕ) (m : List ℕ) where
         (rw (y, d, c, left-is) refl)
         ∙ lands i q v n m z (takeValue (i .told) (v .form) (i .end - at) (v .code) (from (i .bytes) (at + 1) (i .end)))
 
-    pub coded-text : (q : State) (code kind : ℕ) (g : Next) → look b (moves (i .told .edition) (q .room)) ≡ hit (on code ▸ kind ▸ text ▸ g) → tooDeep (on code ▸ kind ▸ text ▸ g) q ≡ false → eqb code noCode ≡ false
-        → runAt i q at n m ≡ textAt i kind (q .level) (go g q) (at + 1) n m
+    pub coded-text : (q : State) (code kind : ℕ) (rule : Rule) (g : Next) → look b (moves (i .told .edition) (q .room)) ≡ hit (on code ▸ kind ▸ text rule ▸ g) → tooDeep (on code ▸ kind ▸ text rule ▸ g) q ≡ false → eqb code noCode ≡ false
+        → runAt i q at n m ≡ textAt i kind rule (q .level) (go g q) (at + 1) n m
     unfolding takeValue
-    coded-text q code kind g y d c = coded q (on code ▸ kind ▸ text ▸ g) y d c refl
+    coded-text q code kind rule g y d c = coded q (on code ▸ kind ▸ text rule ▸ g) y d c refl
 
     -- a move without a row
     pub passed : (q : State) (code : ℕ) (g : Next) → look b (moves (i .told .edition) (q .room)) ≡ hit (pass code ▸ g) → eqb code noCode ≡ false → runAt i q at n m ≡ runAt i (go g q) (at + 1) n m
@@ -105,15 +105,15 @@ module _ (i : Source) (at n : ℕ) (m : List ℕ) where
     foreign q y c = foreign-by q y c (ltb b 256) refl
 
     -- a text with no code
-    uncoded-by : (q : State) (kind : ℕ) (g : Next) (t : List ℕ) → look b (moves (i .told .edition) (q .room)) ≡ hit (on noCode ▸ kind ▸ text ▸ g) → tooDeep (on noCode ▸ kind ▸ text ▸ g) q ≡ false → isClosed (q .room) ≡ false → (z : Bool)
-        → pour (i .end) (onward (step (i .told) q (pick z (b ∷ t) [])) (inside (i .told))) n m ≡ landed i 1 kind (q .level) (go g q) (takeText (pick z (b ∷ t) [])) n m
+    uncoded-by : (q : State) (kind : ℕ) (rule : Rule) (g : Next) (t : List ℕ) → look b (moves (i .told .edition) (q .room)) ≡ hit (on noCode ▸ kind ▸ text rule ▸ g) → tooDeep (on noCode ▸ kind ▸ text rule ▸ g) q ≡ false → isClosed (q .room) ≡ false → (z : Bool)
+        → pour (i .end) (onward (step (i .told) q (pick z (b ∷ t) [])) (inside (i .told))) n m ≡ landed i 1 kind (q .level) (go g q) (takeText rule (pick z (b ∷ t) [])) n m
     unfolding step stepMove takeValue takeText
-    uncoded-by q kind g t y d c true = rw (y, d) (lands i q (on noCode ▸ kind ▸ text ▸ g) n m refl (takeText (b ∷ t)))
-    uncoded-by q kind g t y d c false = rw c refl
+    uncoded-by q kind rule g t y d c true = rw (y, d) (lands i q (on noCode ▸ kind ▸ text rule ▸ g) n m refl (takeText rule (b ∷ t)))
+    uncoded-by q kind rule g t y d c false = rw c refl
 
-    pub uncoded : (q : State) (kind : ℕ) (g : Next) → look b (moves (i .told .edition) (q .room)) ≡ hit (on noCode ▸ kind ▸ text ▸ g) → tooDeep (on noCode ▸ kind ▸ text ▸ g) q ≡ false → isClosed (q .room) ≡ false
-        → runAt i q at n m ≡ textAt i kind (q .level) (go g q) at n m
-    uncoded q kind g y d c = run-step i q at n m ∙ rw (a .is) (uncoded-by q kind g (from (i .bytes) (at + 1) (i .end)) y d c (ltb b 256))
+    pub uncoded : (q : State) (kind : ℕ) (rule : Rule) (g : Next) → look b (moves (i .told .edition) (q .room)) ≡ hit (on noCode ▸ kind ▸ text rule ▸ g) → tooDeep (on noCode ▸ kind ▸ text rule ▸ g) q ≡ false → isClosed (q .room) ≡ false
+        → runAt i q at n m ≡ textAt i kind rule (q .level) (go g q) at n m
+    uncoded q kind rule g y d c = run-step i q at n m ∙ rw (a .is) (uncoded-by q kind rule g (from (i .bytes) (at + 1) (i .end)) y d c (ltb b 256))
 
     -- a state whose room has the same moves for this byte
     alike-by : (q d : State) → ((t : List ℕ) → step (i .told) q (b ∷ t) ≡ step (i .told) d (b ∷ t)) → step (i .told) q [] ≡ step (i .told) d []
@@ -132,9 +132,9 @@ module _ (i : Source) (at n : ℕ) (m : List ℕ) where
       code-is : from (i .bytes) at (i .end) ≡ k ∷ from (i .bytes) (at + 1) (i .end)
       code-is = a .is ∙ rw (h, lt-ltb k 256 l)
 
-      pub text-at : (q : State) (kind : ℕ) (g : Next) → look k (moves (i .told .edition) (q .room)) ≡ hit (on k ▸ kind ▸ text ▸ g) → tooDeep (on k ▸ kind ▸ text ▸ g) q ≡ false
-          → runAt i q at n m ≡ textAt i kind (q .level) (go g q) (at + 1) n m
-      text-at q kind g y d = coded-text k here (a .whole) code-is q k kind g y d (ne-eqb k noCode (λ z. omega arith))
+      pub text-at : (q : State) (kind : ℕ) (rule : Rule) (g : Next) → look k (moves (i .told .edition) (q .room)) ≡ hit (on k ▸ kind ▸ text rule ▸ g) → tooDeep (on k ▸ kind ▸ text rule ▸ g) q ≡ false
+          → runAt i q at n m ≡ textAt i kind rule (q .level) (go g q) (at + 1) n m
+      text-at q kind rule g y d = coded-text k here (a .whole) code-is q k kind rule g y d (ne-eqb k noCode (λ z. omega arith))
 
       pub number-at : (q : State) (kind : ℕ) (g : Next) → look k (moves (i .told .edition) (q .room)) ≡ hit (on k ▸ kind ▸ number ▸ g) → tooDeep (on k ▸ kind ▸ number ▸ g) q ≡ false
           → runAt i q at n m ≡ numberAt i kind (q .level) (go g q) (at + 1) n m

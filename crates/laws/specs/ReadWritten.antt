@@ -94,7 +94,7 @@ Back e st s rows rest = (st′ : State) × (bs : List ℕ) × (fitAll e (map row
 
 quiet-writes : (f : Form) (v : List ℕ) → isQuiet f ≡ true → writeValue f v ≡ []
 unfolding writeValue
-quiet-writes text v q = cc
+quiet-writes (text rule) v q = cc
 quiet-writes (date reach designated) v q = cc
 quiet-writes number v q = cc
 quiet-writes (block w) v q = cc

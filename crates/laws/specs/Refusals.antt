@@ -8,7 +8,7 @@ use lib.Dec.{T, eqb, leb, ltb, leb→le}
 use lib.ListN.{length, take, drop, length-drop}
 use borrow.Author.Tests.{ltb-false}
 use Rattle.meaning.specs.Basics.{pick}
-use Rattle.meaning.specs.Bytes.{Taken, took, failed, prefixed, textByte, takeText, Check, passes, takeDate, dateChecks, Turn, stop, more, wrong, turn, afterTurn, takeNumber, Count, counted, short, highFirst, Width, bytesOf, tooWide, takeBytes, blockOf, takeBlock}
+use Rattle.meaning.specs.Bytes.{Taken, took, failed, prefixed, Rule, textByte, takeText, Check, passes, takeDate, dateChecks, Turn, stop, more, wrong, turn, afterTurn, takeNumber, Count, counted, short, highFirst, Width, bytesOf, tooWide, takeBytes, blockOf, takeBlock}
 use Rattle.meaning.specs.Told.{Told}
 use Rattle.meaning.specs.Editions.{State, Form, text, date, number, block, itself, opens, quiet, Move, moves}
 use Rattle.meaning.specs.Reading.{Seen, takeValue, Found, none, hit, look, isClosed, strange, tooDeep, Step, fails, over, next, stepTaken, valueFrom, stepMove, step, Out, dry, fault, done, withRows, onward, run, inside}
@@ -30,12 +30,12 @@ numbered-pick : (b : Bool) (g h : Taken) → Numbered g → Numbered h → Numbe
 numbered-pick true g h i j = i
 numbered-pick false g h i j = j
 
-text-numbered : (s : List ℕ) → Numbered (takeText s)
+text-numbered : (rule : Rule) (s : List ℕ) → Numbered (takeText rule s)
 unfolding takeText
-text-numbered [] = omega arith
-text-numbered (b ∷ s) =
-    numbered-pick (eqb b 0) (took [] s) (pick (textByte b) (prefixed b (takeText s)) (failed 8 (suc (length s)))) tt
-    (numbered-pick (textByte b) (prefixed b (takeText s)) (failed 8 (suc (length s))) (numbered-prefixed b (takeText s) (text-numbered s)) (omega arith))
+text-numbered rule [] = omega arith
+text-numbered rule (b ∷ s) =
+    numbered-pick (eqb b 0) (took [] s) (pick (textByte rule b) (prefixed b (takeText rule s)) (failed 8 (suc (length s)))) tt
+    (numbered-pick (textByte rule b) (prefixed b (takeText rule s)) (failed 8 (suc (length s))) (numbered-prefixed b (takeText rule s) (text-numbered rule s)) (omega arith))
 
 date-numbered : (cs : List Check) (earlier s : List ℕ) → Numbered (takeDate cs earlier s)
 unfolding takeDate
@@ -67,7 +67,7 @@ block-numbered told w left short = omega arith
 
 value-numbered : (told : Told) (f : Form) (left c : ℕ) (s : List ℕ) → Numbered (takeValue told f left c s)
 unfolding takeValue takeBlock
-value-numbered told text left c s = text-numbered s
+value-numbered told (text rule) left c s = text-numbered rule s
 value-numbered told (date reach designated) left c s = date-numbered (dateChecks reach designated) [] s
 value-numbered told number left c s = number-numbered 0 true s
 value-numbered told (block w) left c s = block-numbered told w left (highFirst (bytesOf w) 0 s)

@@ -7,7 +7,7 @@ use lib.Dec.{eqb}
 use lib.ListN.{length}
 use borrow.Author.Tests.{ne-eqb}
 use Rattle.meaning.specs.Basics.{pick}
-use Rattle.meaning.specs.Bytes.{Taken, took, failed}
+use Rattle.meaning.specs.Bytes.{Taken, took, failed, line, note}
 use Rattle.meaning.specs.Kinds.{agentName, receivedBy, receivedFrom, receivedId, receivedVia, encryptedOpens, encryptedItem, ownValue}
 use Rattle.meaning.specs.Told.{Edition, B, D, Told}
 use Rattle.meaning.specs.Editions.{Room, receivedBegins, headRepresentation, headDate, parameterRepresentation, receivedDate, parameters, ownText, behaviourValue, encryptedTexts, afterDate, afterFrom, afterId, afterVia, State, state, Next, outer, inner, innerOne, stay, deeper, listEnds, agentEnds, go, text, opens, Move, noCode, anyValues, representations, sharedDate, ownDates, closing, closed, on_▸_▸_▸_, pass_▸_, shared, own, moves}
@@ -59,12 +59,12 @@ pub date-room : (told : Told) → Shaped told (state receivedDate 1 false) (stat
 unfolding moves shared own
 date-room told = record { out = stay afterDate; has = refl; leads = refl; deep = refl; ajar = refl; odd = refl }
 
-pub by-look : (e : Edition) (b : ℕ) → look b (moves e receivedBegins) ≡ hit (on noCode ▸ receivedBy ▸ text ▸ inner receivedDate)
+pub by-look : (e : Edition) (b : ℕ) → look b (moves e receivedBegins) ≡ hit (on noCode ▸ receivedBy ▸ text line ▸ inner receivedDate)
 unfolding look find moves shared own
-by-look e b = alone (on noCode ▸ receivedBy ▸ text ▸ inner receivedDate) (eqb 256 b)
+by-look e b = alone (on noCode ▸ receivedBy ▸ text line ▸ inner receivedDate) (eqb 256 b)
 
--- a text that may be left out: its room has its move, and else the next room's
-optional-text : (told : Told) (r t : Room) (code kind : ℕ) → look code (moves (told .edition) r) ≡ hit (on code ▸ kind ▸ text ▸ stay t) → eqb kind agentName ≡ false → ((b : ℕ) → (b ≡ code → ⊥) → look b (moves (told .edition) r) ≡ look b (moves (told .edition) t))
+-- a line that may be left out: its room has its move, and else the next room's
+optional-text : (told : Told) (r t : Room) (code kind : ℕ) → look code (moves (told .edition) r) ≡ hit (on code ▸ kind ▸ text line ▸ stay t) → eqb kind agentName ≡ false → ((b : ℕ) → (b ≡ code → ⊥) → look b (moves (told .edition) r) ≡ look b (moves (told .edition) t))
     → isClosed r ≡ isClosed t → strange r ≡ strange t → Optional told (state r 1 false) (state t 1 false) code kind 1
 optional-text told r t code kind has flat else ajar odd = record {
   out = stay t;
@@ -104,9 +104,9 @@ pub parameter-representation : (told : Told) → Shaped told (state parameterRep
 unfolding moves shared own
 parameter-representation told = record { out = outer parameters; has = refl; leads = refl; deep = refl; ajar = refl; odd = refl }
 
-pub value-look : (e : Edition) (b : ℕ) → look b (moves e ownText) ≡ hit (on noCode ▸ ownValue ▸ text ▸ outer parameters)
+pub value-look : (e : Edition) (b : ℕ) → look b (moves e ownText) ≡ hit (on noCode ▸ ownValue ▸ text note ▸ outer parameters)
 unfolding look find moves shared own
-value-look e b = alone (on noCode ▸ ownValue ▸ text ▸ outer parameters) (eqb 256 b)
+value-look e b = alone (on noCode ▸ ownValue ▸ text note ▸ outer parameters) (eqb 256 b)
 
 pub behaviour-any : (told : Told) → Shaped told (state behaviourValue 0 false) (state parameters 0 false) 0 7 anyValues
 unfolding moves shared own

@@ -23,7 +23,7 @@ use Rattle.laws.specs.Envelopes.{Writes, the-base, before}
 
 value-some : (f : Form) (v : List ℕ) → T (isTextForm f) → 1 ≤ length (writeValue f v)
 unfolding writeValue
-value-some text v t = omega (arith, length-append v (0 ∷ []))
+value-some (text rule) v t = omega (arith, length-append v (0 ∷ []))
 value-some (date reach designated) v t = absurd t
 value-some number v t = absurd t
 value-some (block w) v t = absurd t

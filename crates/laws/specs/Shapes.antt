@@ -4,6 +4,7 @@ use mathlib.Core.List.{List, [], _∷_}
 use mathlib.Core.Bool.{Bool, true, false}
 use mathlib.Core.Path.{_≡_}
 use lib.Dec.{eqb}
+use Rattle.meaning.specs.Bytes.{line}
 use Rattle.meaning.specs.Kinds.{agentName, extraKey}
 use Rattle.meaning.specs.Told.{Told}
 use Rattle.meaning.specs.Editions.{State, Next, go, Move, text, noCode, closing, anyValues, moves, on_▸_▸_▸_, pass_▸_}
@@ -18,11 +19,11 @@ pub record Shaped (t : Told) (q d : State) (level refusal : ℕ) (shape : Next �
   pub ajar : isClosed (q .room) ≡ false
   pub odd : strange (q .room) ≡ refusal
 
--- a state whose room has texts of a kind up to a 01, and the state after them
+-- a state whose room has texts of a kind, all of them lines, up to a 01, and the state after them
 pub record Texts (t : Told) (q d : State) (kind level : ℕ) : Type 0 where
   pub again : Next
   pub out : Next
-  pub more : (b : ℕ) → (b ≡ 1 → ⊥) → look b (moves (t .edition) (q .room)) ≡ hit (on noCode ▸ kind ▸ text ▸ again)
+  pub more : (b : ℕ) → (b ≡ 1 → ⊥) → look b (moves (t .edition) (q .room)) ≡ hit (on noCode ▸ kind ▸ text line ▸ again)
   pub stop : look 1 (moves (t .edition) (q .room)) ≡ hit (pass closing ▸ out)
   pub flat : eqb kind agentName ≡ false
   pub stays : go again q ≡ q
@@ -30,10 +31,10 @@ pub record Texts (t : Told) (q d : State) (kind level : ℕ) : Type 0 where
   pub deep : q .level ≡ level
   pub ajar : isClosed (q .room) ≡ false
 
--- a text that may be left out: without its code the state is as the one after it
+-- a line that may be left out: without its code the state is as the one after it
 pub record Optional (t : Told) (q d : State) (code kind level : ℕ) : Type 0 where
   pub out : Next
-  pub has : look code (moves (t .edition) (q .room)) ≡ hit (on code ▸ kind ▸ text ▸ out)
+  pub has : look code (moves (t .edition) (q .room)) ≡ hit (on code ▸ kind ▸ text line ▸ out)
   pub flat : eqb kind agentName ≡ false
   pub leads : go out q ≡ d
   pub deep : q .level ≡ level
@@ -44,7 +45,7 @@ pub record Optional (t : Told) (q d : State) (code kind level : ℕ) : Type 0 wh
 pub record Extras (t : Told) (q any d : State) (code level : ℕ) : Type 0 where
   pub key : Next
   pub out : Next
-  pub more : code < 256 → look code (moves (t .edition) (q .room)) ≡ hit (on code ▸ extraKey ▸ text ▸ key)
+  pub more : code < 256 → look code (moves (t .edition) (q .room)) ≡ hit (on code ▸ extraKey ▸ text line ▸ key)
   pub stop : look 1 (moves (t .edition) (q .room)) ≡ hit (pass closing ▸ out)
   pub none-else : (b : ℕ) → (b ≡ 1 → ⊥) → (b ≡ code → ⊥) → look b (moves (t .edition) (q .room)) ≡ none
   pub any-value : Shaped t any q level 7 anyValues

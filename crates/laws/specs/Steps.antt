@@ -8,7 +8,7 @@ use lib.Dec.{T}
 use lib.ListN.{length, length-append}
 use borrow.Author.Tests.{eqb-true}
 use Rattle.meaning.specs.Basics.{pick}
-use Rattle.meaning.specs.Bytes.{Taken, took, failed, takeText, textOk, takeDate, dateOk, dateChecks, takeNumber, numberOk, Count, counted, short, highFirst, Width, bytesOf, tooWide, takeBytes, blockOf, takeBlock}
+use Rattle.meaning.specs.Bytes.{Taken, took, failed, Rule, takeText, textOk, takeDate, dateOk, dateChecks, takeNumber, numberOk, Count, counted, short, highFirst, Width, bytesOf, tooWide, takeBytes, blockOf, takeBlock}
 use Rattle.meaning.specs.Told.{known, Told}
 use Rattle.meaning.specs.Editions.{Room, State, go, Form, text, date, number, block, itself, opens, quiet, isQuiet, Move, noCode, moves}
 use Rattle.meaning.specs.Reading.{Seen, seen, takeValue, reachBack, seenBy, Found, none, hit, hasCode, look, isClosed, strange, tooDeep, Step, fails, over, next, stepTaken, valueFrom, stepMove, step, Out, dry, fault, done, withRows, onward, run, inside}
@@ -25,9 +25,9 @@ was-leaves : (written : List ℕ → List ℕ) (ok : List ℕ → Bool) (s : Lis
 was-leaves written ok s (failed refusal left) w = tt
 was-leaves written ok s (took v rest) w = let q : length s ≡ length (written v) + length rest = ap length (w .0) ∙ length-append (written v) rest in omega arith
 
-text-leaves : (b : ℕ) (s : List ℕ) (g : Taken) → Was ended textOk (b ∷ s) g → Leaves (length s) g
-text-leaves b s (failed refusal left) w = tt
-text-leaves b s (took v rest) w =
+text-leaves : (rule : Rule) (b : ℕ) (s : List ℕ) (g : Taken) → Was ended (textOk rule) (b ∷ s) g → Leaves (length s) g
+text-leaves rule b s (failed refusal left) w = tt
+text-leaves rule b s (took v rest) w =
     let q : suc (length s) ≡ length (ended v) + length rest = ap length (w .0) ∙ length-append (ended v) rest in
     omega (arith, length-append v (0 ∷ []))
 
@@ -60,7 +60,7 @@ count-leaves told w n left short i = tt
 
 value-leaves : (told : Told) (f : Form) (left c : ℕ) (s : List ℕ) → Leaves (length s) (takeValue told f left c s)
 unfolding takeValue takeBlock
-value-leaves told text left c s = was-leaves ended textOk s (takeText s) (text-out s)
+value-leaves told (text rule) left c s = was-leaves ended (textOk rule) s (takeText rule s) (text-out rule s)
 value-leaves told (date reach designated) left c s = was-leaves (λ v. v) (dateOk (dateChecks reach designated) []) s (takeDate (dateChecks reach designated) [] s) (date-out (dateChecks reach designated) [] s)
 value-leaves told number left c s = was-leaves (λ v. v) (numberOk 0 true) s (takeNumber 0 true s) (number-out 0 true s)
 value-leaves told (block w) left c s = count-leaves told w (length s) left (highFirst (bytesOf w) 0 s) (high-counts (bytesOf w) 0 s)
@@ -70,7 +70,7 @@ value-leaves told quiet left c s = omega arith
 
 text-form-leaves : (told : Told) (f : Form) (left c b : ℕ) (s : List ℕ) → T (isTextForm f) → Leaves (length s) (takeValue told f left c (b ∷ s))
 unfolding takeValue
-text-form-leaves told text left c b s t = text-leaves b s (takeText (b ∷ s)) (text-out (b ∷ s))
+text-form-leaves told (text rule) left c b s t = text-leaves rule b s (takeText rule (b ∷ s)) (text-out rule (b ∷ s))
 text-form-leaves told (date reach designated) left c b s t = absurd t
 text-form-leaves told number left c b s t = absurd t
 text-form-leaves told (block w) left c b s t = absurd t

@@ -9,25 +9,30 @@ use lib.ListN.{length}
 use borrow.Author.Tests.{ne-eqb, le-ltb, eqb-true, ltb-false}
 use Rattle.meaning.specs.Told.{known, Told}
 use Rattle.meaning.specs.Basics.{pick, isEmpty}
-use Rattle.meaning.specs.Bytes.{Taken, took, failed, prefixed, textByte, takeText, textOk, Check, passes, takeDate, dateOk, dateChecks, Turn, stop, more, wrong, turn, afterTurn, okTurn, takeNumber, numberOk, takeBytes, highFirst, counted, Width, oneByte, twoBytes, fourBytes, bytesOf, fewest, past, tooWide, lengthBytes, blockOf, takeBlock, blockOk}
+use Rattle.meaning.specs.Bytes.{Taken, took, failed, prefixed, Rule, line, note, textByte, takeText, textOk, Check, passes, takeDate, dateOk, dateChecks, Turn, stop, more, wrong, turn, afterTurn, okTurn, takeNumber, numberOk, takeBytes, highFirst, counted, Width, oneByte, twoBytes, fourBytes, bytesOf, fewest, past, tooWide, lengthBytes, blockOf, takeBlock, blockOk}
 use Rattle.meaning.specs.Editions.{Form, text, date, number, block, itself, opens, quiet}
 use Rattle.meaning.specs.Reading.{takeValue}
 use Rattle.meaning.specs.Writing.{isOnly, valid, writeValue}
 use Rattle.laws.specs.Logic.{left-of, right-of, both, is-true, areBytes, first-byte, other-bytes}
 
 -- which bytes a text allows: neither its end nor a closing 01
-pub text-byte-above : (b : ℕ) → T (textByte b) → 1 < b
+pub text-byte-above : (rule : Rule) (b : ℕ) → T (textByte rule b) → 1 < b
 unfolding textByte
-text-byte-above b t = let h : 32 ≤ b = leb→le 32 b t in omega arith
+text-byte-above line zero t = absurd t
+text-byte-above line (suc zero) t = absurd t
+text-byte-above line (suc (suc b)) t = omega arith
+text-byte-above note zero t = absurd t
+text-byte-above note (suc zero) t = absurd t
+text-byte-above note (suc (suc b)) t = omega arith
 
 -- Written, then taken
 
-pub text-in : (v rest : List ℕ) → T (textOk v) → takeText (v ++ (0 ∷ rest)) ≡ took v rest
+pub text-in : (rule : Rule) (v rest : List ℕ) → T (textOk rule v) → takeText rule (v ++ (0 ∷ rest)) ≡ took v rest
 unfolding takeText textOk
-text-in [] rest t = refl
-text-in (b ∷ v) rest t =
-    let h = text-byte-above b (left-of (textByte b) (textOk v) t) in
-    rw (ne-eqb b 0 (λ q. omega arith), is-true (textByte b) (left-of (textByte b) (textOk v) t)) (ap (prefixed b) (text-in v rest (right-of (textByte b) (textOk v) t)))
+text-in rule [] rest t = refl
+text-in rule (b ∷ v) rest t =
+    let h = text-byte-above rule b (left-of (textByte rule b) (textOk rule v) t) in
+    rw (ne-eqb b 0 (λ q. omega arith), is-true (textByte rule b) (left-of (textByte rule b) (textOk rule v) t)) (ap (prefixed b) (text-in rule v rest (right-of (textByte rule b) (textOk rule v) t)))
 
 pub date-in : (cs : List Check) (earlier v rest : List ℕ) → T (dateOk cs earlier v) → takeDate cs earlier (v ++ rest) ≡ took v rest
 unfolding takeDate dateOk
@@ -87,7 +92,7 @@ empty-in (b ∷ v) rest t = absurd t
 
 pub value-in : (told : Told) (f : Form) (left c : ℕ) (v rest : List ℕ) → T (valid f c v) → takeValue told f left c (writeValue f v ++ rest) ≡ took v rest
 unfolding takeValue writeValue valid
-value-in told text left c v rest t = rw (append-assoc v (0 ∷ []) rest) (text-in v rest t)
+value-in told (text rule) left c v rest t = rw (append-assoc v (0 ∷ []) rest) (text-in rule v rest t)
 value-in told (date reach designated) left c v rest t = date-in (dateChecks reach designated) [] v rest t
 value-in told number left c v rest t = number-in 0 true v rest t
 value-in told (block w) left c v rest t = block-in told w left v rest t
@@ -105,22 +110,22 @@ module _ (written : List ℕ → List ℕ) (ok : List ℕ → Bool) where
 abbrev pub ended : List ℕ → List ℕ
 ended v = v ++ (0 ∷ [])
 
-text-more : (b : ℕ) (s : List ℕ) (g : Taken) → T (textByte b) → Was ended textOk s g → Was ended textOk (b ∷ s) (prefixed b g)
+text-more : (rule : Rule) (b : ℕ) (s : List ℕ) (g : Taken) → T (textByte rule b) → Was ended (textOk rule) s g → Was ended (textOk rule) (b ∷ s) (prefixed b g)
 unfolding textOk
-text-more b s (failed refusal left) h i = tt
-text-more b s (took v rest) h i = (ap (λ (r : List ℕ). b ∷ r) (i .0), both (textByte b) (textOk v) h (i .1))
+text-more rule b s (failed refusal left) h i = tt
+text-more rule b s (took v rest) h i = (ap (λ (r : List ℕ). b ∷ r) (i .0), both (textByte rule b) (textOk rule v) h (i .1))
 
-text-byte : (b : ℕ) (s : List ℕ) (z l : Bool) → eqb b 0 ≡ z → textByte b ≡ l → Was ended textOk s (takeText s)
-    → Was ended textOk (b ∷ s) (pick z (took [] s) (pick l (prefixed b (takeText s)) (failed 8 (suc (length s)))))
+text-byte : (rule : Rule) (b : ℕ) (s : List ℕ) (z l : Bool) → eqb b 0 ≡ z → textByte rule b ≡ l → Was ended (textOk rule) s (takeText rule s)
+    → Was ended (textOk rule) (b ∷ s) (pick z (took [] s) (pick l (prefixed b (takeText rule s)) (failed 8 (suc (length s)))))
 unfolding textOk
-text-byte b s true l ez el i = (ap (λ (k : ℕ). k ∷ s) (eqb-true b 0 ez), tt)
-text-byte b s false true ez el i = text-more b s (takeText s) (subst T (sym el) tt) i
-text-byte b s false false ez el i = tt
+text-byte rule b s true l ez el i = (ap (λ (k : ℕ). k ∷ s) (eqb-true b 0 ez), tt)
+text-byte rule b s false true ez el i = text-more rule b s (takeText rule s) (subst T (sym el) tt) i
+text-byte rule b s false false ez el i = tt
 
-pub text-out : (s : List ℕ) → Was ended textOk s (takeText s)
+pub text-out : (rule : Rule) (s : List ℕ) → Was ended (textOk rule) s (takeText rule s)
 unfolding takeText
-text-out [] = tt
-text-out (b ∷ s) = text-byte b s (eqb b 0) (textByte b) refl refl (text-out s)
+text-out rule [] = tt
+text-out rule (b ∷ s) = text-byte rule b s (eqb b 0) (textByte rule b) refl refl (text-out rule s)
 
 abbrev plainly : List ℕ → List ℕ
 plainly v = v
@@ -229,7 +234,7 @@ block-out told fourBytes left (a ∷ (b ∷ (c ∷ (d ∷ s)))) t =
 
 pub value-out : (told : Told) (f : Form) (left c : ℕ) (s : List ℕ) → T (areBytes s) → Was (writeValue f) (valid f c) s (takeValue told f left c s)
 unfolding takeValue writeValue valid
-value-out told text left c s t = text-out s
+value-out told (text rule) left c s t = text-out rule s
 value-out told (date reach designated) left c s t = date-out (dateChecks reach designated) [] s
 value-out told number left c s t = number-out 0 true s
 value-out told (block w) left c s t = block-out told w left s t

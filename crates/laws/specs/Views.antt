@@ -52,7 +52,7 @@ module _ (k n c : ℕ) (v rest : List ℕ) where
 
   shown-as : (f : Form) (b : Bool) → (b ≡ true → T (isTextForm f)) → T (valid f c v) → isQuiet f ≡ false → Shown f b
   unfolding writeValue valid
-  shown-as text b h ok q =
+  shown-as (text rule) b h ok q =
       let front = pick b [] (c ∷ []) in
       (front, 0 ∷ rest, append-assoc front (v ++ (0 ∷ [])) rest ∙ ap (λ (x : List ℕ). front ++ x) (append-assoc v (0 ∷ []) rest), omega arith)
   shown-as (date reach designated) b h ok q = plainly-shown (pick b [] (c ∷ []))

@@ -39,7 +39,7 @@ length-are-bytes fourBytes n h =
 
 value-bytes : (f : Form) (c : ℕ) (v : List ℕ) → T (valid f c v) → T (areBytes v) → T (areBytes (writeValue f v))
 unfolding valid writeValue blockOk
-value-bytes text c v ok t = bytes-append v (0 ∷ []) t tt
+value-bytes (text rule) c v ok t = bytes-append v (0 ∷ []) t tt
 value-bytes (date reach designated) c v ok t = t
 value-bytes number c v ok t = t
 value-bytes (block w) c v ok t = bytes-append (lengthBytes w (length v)) v (length-are-bytes w (length v) (ltb→lt (length v) (past w) (right-of (leb (fewest w) (length v)) (ltb (length v) (past w)) ok))) t

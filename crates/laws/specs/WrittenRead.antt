@@ -27,9 +27,9 @@ Reads told st s row st′ rest = (left : ℕ) × Path told st s (seen (row .kind
 -- a written text does not begin with 01
 pub text-first : (f : Form) (c : ℕ) (v rest : List ℕ) → T (isTextForm f) → T (valid f c v) → (b : ℕ) × (s : List ℕ) × (writeValue f v ++ rest ≡ b ∷ s) × (b ≡ closing → ⊥)
 unfolding valid writeValue textOk
-text-first text c [] rest t ok = (0, rest, refl, λ q. omega arith)
-text-first text c (b ∷ v) rest t ok =
-    let h = text-byte-above b (left-of (textByte b) (textOk v) ok) in
+text-first (text rule) c [] rest t ok = (0, rest, refl, λ q. omega arith)
+text-first (text rule) c (b ∷ v) rest t ok =
+    let h = text-byte-above rule b (left-of (textByte rule b) (textOk rule v) ok) in
     (b, (v ++ (0 ∷ [])) ++ rest, refl, λ q. omega arith)
 text-first (date reach designated) c v rest t ok = absurd t
 text-first number c v rest t ok = absurd t
@@ -63,7 +63,7 @@ reads-own told row st st′ m bs i p rest =
 
 pub quiet-takes : (told : Told) (f : Form) (left c : ℕ) (s : List ℕ) → isQuiet f ≡ true → takeValue told f left c s ≡ took [] s
 unfolding takeValue
-quiet-takes told text left c s q = cc
+quiet-takes told (text rule) left c s q = cc
 quiet-takes told (date reach designated) left c s q = cc
 quiet-takes told number left c s q = cc
 quiet-takes told (block w) left c s q = cc

@@ -16,6 +16,7 @@ use Rattle.meaning.specs.Accepting as accepting
 use Rattle.meaning.specs.Refusing as refusing
 use Rattle.meaning.specs.Coding as coding
 use Rattle.meaning.specs.Days.{days}
+use Rattle.meaning.specs.Breaks.{breaks}
 
 abbrev pub readings : Bool
 readings =
@@ -31,6 +32,6 @@ abbrev pub values : Bool
 values =
     every decodes coding.numbersRead && coding.numbersWritten && every datesRead coding.datesRead && every datesWritten coding.datesWritten && coding.dateOutputs && coding.listings
 
-pub bounds : T (readings && writings && values && days)
+pub bounds : T (readings && writings && values && days && breaks)
 unfolding textByte takeText textOk turn takeNumber numberOk lastDay passes takeDate dateOk highFirst tooWide takeBytes blockOf takeBlock blockOk shared own moves takeValue find look stepMove step run inside envelope header read valid writeValue wayOf fit fitRow closeWithin close planOf writeRows cellsOf laidOver write readAnswer readRows writeAnswer writeOutput payloadStart payloadEnd payloadBytes numberValue digitsWithin digitsOf packed decodeNumber numberDecoded numberPlain numberBytes numberEncoded numberOutput decodeDate dateDecoded datePlain dateInRange dateEncoded dateOutput decimal viewed lineOf listingOf listing
 bounds = tt

@@ -17,20 +17,29 @@ abbrev pub prefixed : ℕ → Taken → Taken
 prefixed b (took v rest) = took (b ∷ v) rest
 prefixed b (failed refusal left) = failed refusal left
 
+-- what a text is for, and so which bytes it allows: a line, or a note, which may have line breaks
+pub data Rule : Type 0 where
+  line note : Rule
+
+-- order 5: "Bytes 09, 0A and 0D become allowed in kinds 20, 22 and 28 and nowhere else"
+abbrev pub isBreak : ℕ → Bool
+isBreak b = eqb b 0x09 || eqb b 0x0a || eqb b 0x0d
+
 -- "Text: bytes 20 to FF": the one name for which bytes a text allows
-unfoldable pub textByte : ℕ → Bool
-textByte b = leb 0x20 b
+unfoldable pub textByte : Rule → ℕ → Bool
+textByte line b = leb 0x20 b
+textByte note b = leb 0x20 b || isBreak b
 
 -- ".. possibly none, then 00"; "8: text byte 01 to 1F, that byte"
-unfoldable pub takeText : List ℕ → Taken
-takeText [] = failed 6 0
-takeText (b ∷ s) =
-    let more : Taken = prefixed b (takeText s) in
-    pick (eqb b 0) (took [] s) (pick (textByte b) more (failed 8 (suc (length s))))
+unfoldable pub takeText : Rule → List ℕ → Taken
+takeText rule [] = failed 6 0
+takeText rule (b ∷ s) =
+    let more : Taken = prefixed b (takeText rule s) in
+    pick (eqb b 0) (took [] s) (pick (textByte rule b) more (failed 8 (suc (length s))))
 
-unfoldable pub textOk : List ℕ → Bool
-textOk [] = true
-textOk (b ∷ v) = textByte b && textOk v
+unfoldable pub textOk : Rule → List ℕ → Bool
+textOk rule [] = true
+textOk rule (b ∷ v) = textByte rule b && textOk rule v
 
 -- "Coded digits: digit n is the four bits n+1; the high four bits are the earlier digit"
 abbrev pub isDigit : ℕ → Bool

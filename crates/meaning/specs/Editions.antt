@@ -6,7 +6,7 @@ use mathlib.Core.Bool.{Bool, true, false, _&&_}
 use lib.Dec.{eqb}
 use Rattle.meaning.specs.Basics.{pick}
 use Rattle.meaning.specs.Told.{Edition, B, D}
-use Rattle.meaning.specs.Bytes.{Reach, absolute, relative, Width, oneByte, twoBytes, fourBytes}
+use Rattle.meaning.specs.Bytes.{Rule, line, note, Reach, absolute, relative, Width, oneByte, twoBytes, fourBytes}
 use Rattle.meaning.specs.Kinds.{standardRepresentation, ownRepresentation, dateAbsolute, dateForward, dateBackward, receivedBy, receivedFrom, receivedId, receivedVia, toOpens, fromOpens, receiverOpens, agentName, addressesOpen, address, resolversOpen, extraKey, anyText, anyBytes, comments, payloadLength, payloadEncoding, encryptedOpens, encryptedItem, ownKey, ownValue, behaviourOpens}
 
 pub data Room : Type 0 where
@@ -49,16 +49,16 @@ go (deeper r) st = state r (suc (st .level)) (st .single)
 go listEnds st = listEnd (st .level) (st .single)
 go agentEnds st = pick (st .single && eqb (st .level) 1) (state parameters 0 false) (state agentList (st .level) (st .single))
 
--- how a move's value stands behind its code; `itself` is the code, `opens` has none, `quiet` has no row either
+-- how a move's value stands behind its code: a text by its rule; `itself` is the code, `opens` has none, `quiet` has no row either
 pub data Form : Type 0 where
-  text : Form
+  text : Rule → Form
   date : Reach → Bool → Form
   number : Form
   block : Width → Form
   itself opens quiet : Form
 
 abbrev pub isQuiet : Form → Bool
-isQuiet text = false
+isQuiet (text rule) = false
 isQuiet (date reach designated) = false
 isQuiet number = false
 isQuiet (block w) = false
@@ -97,12 +97,12 @@ representations n =
     on 0x10 ▸ standardRepresentation ▸ itself ▸ n ∷
     on 0x11 ▸ standardRepresentation ▸ itself ▸ n ∷
     on 0x12 ▸ standardRepresentation ▸ itself ▸ n ∷
-    on 0x00 ▸ ownRepresentation ▸ text ▸ n ∷ []
+    on 0x00 ▸ ownRepresentation ▸ text line ▸ n ∷ []
 
 -- "Any-value: 14 and a text, or 16, 17, 19 with a length of 1, 2, 4 bytes .. and that many bytes"
 abbrev pub anyValues : Next → List Move
 anyValues n =
-    on 0x14 ▸ anyText ▸ text ▸ n ∷
+    on 0x14 ▸ anyText ▸ text note ▸ n ∷
     on 0x16 ▸ anyBytes ▸ block oneByte ▸ n ∷
     on 0x17 ▸ anyBytes ▸ block twoBytes ▸ n ∷
     on 0x19 ▸ anyBytes ▸ block fourBytes ▸ n ∷ []
@@ -123,10 +123,10 @@ ownDates D n =
 
 -- "Received object: by (text), date, then optionally and in this order 02 from, 03 id, 04 via (texts) .. then 01"
 abbrev pub viaOn : List Move
-viaOn = on 0x04 ▸ receivedVia ▸ text ▸ stay afterVia ∷ pass closing ▸ outer parameters ∷ []
+viaOn = on 0x04 ▸ receivedVia ▸ text line ▸ stay afterVia ∷ pass closing ▸ outer parameters ∷ []
 
 abbrev pub idOn : List Move
-idOn = on 0x03 ▸ receivedId ▸ text ▸ stay afterId ∷ viaOn
+idOn = on 0x03 ▸ receivedId ▸ text line ▸ stay afterId ∷ viaOn
 
 -- "optionally 03 and resolvers (an agent list), extras, 01"
 abbrev pub resolversOn : List Move
@@ -134,9 +134,9 @@ resolversOn = on 0x03 ▸ resolversOpen ▸ opens ▸ deeper agentList ∷ pass 
 
 -- what both editions have
 unfoldable pub shared : Room → List Move
-shared receivedBegins = on noCode ▸ receivedBy ▸ text ▸ inner receivedDate ∷ []
+shared receivedBegins = on noCode ▸ receivedBy ▸ text line ▸ inner receivedDate ∷ []
 shared receivedDate = sharedDate (stay afterDate)
-shared afterDate = on 0x02 ▸ receivedFrom ▸ text ▸ stay afterFrom ∷ idOn
+shared afterDate = on 0x02 ▸ receivedFrom ▸ text line ▸ stay afterFrom ∷ idOn
 shared afterFrom = idOn
 shared afterId = viaOn
 shared afterVia = pass closing ▸ outer parameters ∷ []
@@ -146,27 +146,27 @@ shared headRepresentation = representations (outer headDate)
 shared headDate = sharedDate (outer parameters)
 -- "Parameters, any order, repeats allowed"
 shared parameters =
-    on 0x00 ▸ ownKey ▸ text ▸ outer ownText ∷
+    on 0x00 ▸ ownKey ▸ text line ▸ outer ownText ∷
     on 0x02 ▸ toOpens ▸ opens ▸ inner agentList ∷
     on 0x03 ▸ fromOpens ▸ opens ▸ innerOne oneAgent ∷
     pass 0x04 ▸ outer parameterRepresentation ∷
-    on 0x05 ▸ comments ▸ text ▸ outer parameters ∷
+    on 0x05 ▸ comments ▸ text note ▸ outer parameters ∷
     on 0x06 ▸ payloadLength ▸ number ▸ outer parameters ∷
-    on 0x07 ▸ payloadEncoding ▸ text ▸ outer parameters ∷
+    on 0x07 ▸ payloadEncoding ▸ text line ▸ outer parameters ∷
     on 0x09 ▸ receiverOpens ▸ opens ▸ inner agentList ∷
     pass 0x0a ▸ outer receivedBegins ∷
     on 0x0b ▸ behaviourOpens ▸ opens ▸ outer behaviourValue ∷
     pass closing ▸ outer closed ∷ []
-shared ownText = on noCode ▸ ownValue ▸ text ▸ outer parameters ∷ []
+shared ownText = on noCode ▸ ownValue ▸ text note ▸ outer parameters ∷ []
 shared parameterRepresentation = representations (outer parameters)
 shared behaviourValue = anyValues (outer parameters)
 -- "In a list of texts, 01 where an item would begin ends the list"
-shared encryptedTexts = pass closing ▸ outer parameters ∷ on noCode ▸ encryptedItem ▸ text ▸ outer encryptedTexts ∷ []
+shared encryptedTexts = pass closing ▸ outer parameters ∷ on noCode ▸ encryptedItem ▸ text line ▸ outer encryptedTexts ∷ []
 -- "Agent: 02, name text, optionally 02 and addresses (texts, then 01), optionally 03 and resolvers"; "Agent list: agents, then 01"
-shared agentList = on 0x02 ▸ agentName ▸ text ▸ stay afterName ∷ pass closing ▸ listEnds ∷ []
-shared oneAgent = on 0x02 ▸ agentName ▸ text ▸ stay afterName ∷ []
+shared agentList = on 0x02 ▸ agentName ▸ text line ▸ stay afterName ∷ pass closing ▸ listEnds ∷ []
+shared oneAgent = on 0x02 ▸ agentName ▸ text line ▸ stay afterName ∷ []
 shared afterName = on 0x02 ▸ addressesOpen ▸ opens ▸ stay addressTexts ∷ resolversOn
-shared addressTexts = pass closing ▸ stay afterAddresses ∷ on noCode ▸ address ▸ text ▸ stay addressTexts ∷ []
+shared addressTexts = pass closing ▸ stay afterAddresses ∷ on noCode ▸ address ▸ text line ▸ stay addressTexts ∷ []
 shared afterAddresses = resolversOn
 shared afterResolvers = pass closing ▸ agentEnds ∷ []
 shared agentExtra = anyValues (stay afterResolvers)
@@ -178,12 +178,12 @@ extraCode B = 0x04
 extraCode D = 0x05
 
 abbrev pub agentExtras : Edition → List Move
-agentExtras e = on extraCode e ▸ extraKey ▸ text ▸ stay agentExtra ∷ []
+agentExtras e = on extraCode e ▸ extraKey ▸ text line ▸ stay agentExtra ∷ []
 
 -- "Received object: .. then in D extras"
 abbrev pub receivedExtras : Edition → List Move
 receivedExtras B = []
-receivedExtras D = on extraCode D ▸ extraKey ▸ text ▸ stay receivedExtra ∷ []
+receivedExtras D = on extraCode D ▸ extraKey ▸ text line ▸ stay receivedExtra ∷ []
 
 -- "08 encrypted, texts then 01 (B only)"
 abbrev pub ownParameters : Edition → List Move

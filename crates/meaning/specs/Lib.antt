@@ -17,4 +17,5 @@ pub mod Accepting
 pub mod Refusing
 pub mod Coding
 pub mod Days
+pub mod Breaks
 pub mod Bounds

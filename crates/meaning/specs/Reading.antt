@@ -31,7 +31,7 @@ rowOf r = record { kind = r .kind; level = r .level; view = r .view }
 
 -- the value of a move behind its code; left: the bytes left at the code
 unfoldable pub takeValue : Told → Form → ℕ → ℕ → List ℕ → Taken
-takeValue t text left code s = takeText s
+takeValue t (text rule) left code s = takeText rule s
 takeValue t (date reach designated) left code s = takeDate (dateChecks reach designated) [] s
 takeValue t number left code s = takeNumber 0 true s
 takeValue t (block w) left code s = takeBlock t w left s
@@ -41,7 +41,7 @@ takeValue t quiet left code s = took [] s
 
 -- how far a row's start lies before the end of its view: a text's closing 00 stands behind it; "Opening rows .. start at their identifier or code byte"
 abbrev pub reachBack : Form → ℕ
-reachBack text = 1
+reachBack (text rule) = 1
 reachBack (date reach designated) = 0
 reachBack number = 0
 reachBack (block w) = 0

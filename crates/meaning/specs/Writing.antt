@@ -19,7 +19,7 @@ isOnly c (b ∷ (d ∷ v)) = false
 
 -- bytes that a row of this form may view. "Length 9 or 10 picks the date code"
 unfoldable pub valid : Form → ℕ → List ℕ → Bool
-valid text code v = textOk v
+valid (text rule) code v = textOk rule v
 valid (date reach designated) code v = dateOk (dateChecks reach designated) [] v
 valid number code v = numberOk 0 true v
 valid (block w) code v = blockOk w v
@@ -28,7 +28,7 @@ valid opens code v = isEmpty v
 valid quiet code v = isEmpty v
 
 unfoldable pub writeValue : Form → List ℕ → List ℕ
-writeValue text v = v ++ (0 ∷ [])
+writeValue (text rule) v = v ++ (0 ∷ [])
 writeValue (date reach designated) v = v
 writeValue number v = v
 writeValue (block w) v = lengthBytes w (length v) ++ v

@@ -22,9 +22,11 @@ use table::kinds::TO_OPENS;
 use table::rows::put_row;
 use table::told::Edition;
 use table::told::Told;
+use values::text::Rule;
 ghost use mathlib.Core.Path.{_≡_};
 ghost use mathlib.Core.Bool.{true, false};
 ghost use Prim.Native.Nat.{_<_};
+ghost use Rattle.meaning.specs.Bytes.{line};
 ghost use Rattle.meaning.specs.Kinds.{ownKey, fromOpens, behaviourOpens, encryptedOpens};
 ghost use Rattle.meaning.specs.Told as meaning;
 ghost use Rattle.meaning.specs.Editions.{state, parameters, ownText, agentList, oneAgent, behaviourValue, encryptedTexts, closed};
@@ -81,9 +83,9 @@ fn read_parameter(
         0x02 => open_list(s, end, at, rows, n, TO_OPENS, told),
         0x03 => open_one(s, end, at, rows, n, told),
         0x04 => rows::representation(s, end, at + 1, rows, n),
-        0x05 => rows::text(s, end, at + 1, rows, n, COMMENTS, 0),
+        0x05 => rows::text(s, end, at + 1, rows, n, COMMENTS, Rule::Note, 0),
         0x06 => rows::number(s, end, at + 1, rows, n),
-        0x07 => rows::text(s, end, at + 1, rows, n, PAYLOAD_ENCODING, 0),
+        0x07 => rows::text(s, end, at + 1, rows, n, PAYLOAD_ENCODING, Rule::Line, 0),
         0x09 => open_list(s, end, at, rows, n, RECEIVER_OPENS, told),
         0x0a => read_received(s, end, at + 1, rows, n, told),
         0x0b => open_behaviour(s, end, at, rows, n, told),
@@ -91,16 +93,16 @@ fn read_parameter(
     }
 }
 
-// "00 own key text, value text", after the code.
+// "00 own key text, value text", after the code: the key a line, the value a note.
 fn own_parameter(s: &[u8], end: usize, at: usize, rows: &mut [u32], n: usize) -> Stage
     requires { ⌜ Ready (now s) end at n ⌝ }
-    ensures { λ r. ⌜ ((t : meaning.Told) → TextRead t (now (s .entry)) end ownKey 0 (state ownText 0 false) at n (now (rows .entry)) r (state parameters 0 false) (now (rows .exit))) ⌝ }
+    ensures { λ r. ⌜ ((t : meaning.Told) → TextRead t (now (s .entry)) end ownKey line 0 (state ownText 0 false) at n (now (rows .entry)) r (state parameters 0 false) (now (rows .exit))) ⌝ }
 {
-    let key = rows::text(s, end, at, rows, n, OWN_KEY, 0);
+    let key = rows::text(s, end, at, rows, n, OWN_KEY, Rule::Line, 0);
     let Stage::Go(after_key, with_key) = key else {
         return key;
     };
-    rows::text(s, end, after_key, rows, with_key, OWN_VALUE, 0)
+    rows::text(s, end, after_key, rows, with_key, OWN_VALUE, Rule::Note, 0)
 }
 
 // "02 `to`, agent list"; "09 intended receiver, agent list", from the code on. The opening row has this kind.

@@ -4,6 +4,7 @@ use mathlib.Core.Bool.{false}
 use mathlib.Core.Path.{_≡_, refl}
 use native.Mathlib.Omega.{arith}
 use borrow.Author.Tests.{ne-eqb}
+use Rattle.meaning.specs.Bytes.{line}
 use Rattle.meaning.specs.Kinds.{extraKey}
 use Rattle.meaning.specs.Told.{Edition, B, D, Told}
 use Rattle.meaning.specs.Editions.{parameters, afterVia, receivedExtra, state, outer, stay, text, anyValues, on_▸_▸_▸_, shared, own, moves}
@@ -21,7 +22,7 @@ unfolding look find moves shared own
 received-no-extra B b h x = rw (ne-eqb 1 b (flip h)) refl
 received-no-extra D b h x = rw (ne-eqb 1 b (flip h), ne-eqb 5 b (flip x)) refl
 
-received-extra : (e : Edition) → receivedExtraCode e < 256 → look (receivedExtraCode e) (moves e afterVia) ≡ hit (on receivedExtraCode e ▸ extraKey ▸ text ▸ stay receivedExtra)
+received-extra : (e : Edition) → receivedExtraCode e < 256 → look (receivedExtraCode e) (moves e afterVia) ≡ hit (on receivedExtraCode e ▸ extraKey ▸ text line ▸ stay receivedExtra)
 unfolding look find moves shared own
 received-extra B h = absurd (omega arith)
 received-extra D h = refl

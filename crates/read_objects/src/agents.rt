@@ -15,8 +15,10 @@ use table::limits::LEVEL_MOST;
 use table::refusals::AGENT_LEVEL;
 use table::rows::put_row;
 use table::told::Told;
+use values::text::Rule;
 ghost use mathlib.Core.Bool.{Bool, true, false};
 ghost use Prim.Native.Nat.{_≤_};
+ghost use Rattle.meaning.specs.Bytes.{line};
 ghost use Rattle.meaning.specs.Kinds.{agentName};
 ghost use Rattle.meaning.specs.Told as meaning;
 ghost use Rattle.meaning.specs.Editions.{state, go, agentEnds, listEnds, agentList, oneAgent, afterName, afterAddresses, afterResolvers, parameters};
@@ -91,7 +93,7 @@ fn read_agent(
 ) -> Stage
     requires { ⌜ (Ready (now s) end at n) × (1 ≤ level) × (level ≤ 8) ⌝ }
     ensures { λ r. ⌜ ((single : Bool) →
-        TextRead (toldOf told) (now (s .entry)) end agentName level (state afterName level single) at n (now (rows .entry)) r (go agentEnds (state afterResolvers level single)) (now (rows .exit))) ⌝ }
+        TextRead (toldOf told) (now (s .entry)) end agentName line level (state afterName level single) at n (now (rows .entry)) r (go agentEnds (state afterResolvers level single)) (now (rows .exit))) ⌝ }
 {
     let named = name_and_addresses(s, end, at, rows, n, level);
     let Stage::Go(after_addresses, with_addresses) = named else {
@@ -128,9 +130,9 @@ fn name_and_addresses(
 ) -> Stage
     requires { ⌜ Ready (now s) end at n ⌝ }
     ensures { λ r. ⌜ ((t : meaning.Told) (single : Bool) →
-        TextRead t (now (s .entry)) end agentName level (state afterName level single) at n (now (rows .entry)) r (state afterAddresses level single) (now (rows .exit))) ⌝ }
+        TextRead t (now (s .entry)) end agentName line level (state afterName level single) at n (now (rows .entry)) r (state afterAddresses level single) (now (rows .exit))) ⌝ }
 {
-    let name = rows::text(s, end, at, rows, n, AGENT_NAME, level);
+    let name = rows::text(s, end, at, rows, n, AGENT_NAME, Rule::Line, level);
     let Stage::Go(after_name, with_name) = name else {
         return name;
     };

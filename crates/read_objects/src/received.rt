@@ -9,6 +9,7 @@ use table::kinds::RECEIVED_FROM;
 use table::kinds::RECEIVED_ID;
 use table::kinds::RECEIVED_VIA;
 use table::told::Told;
+use values::text::Rule;
 ghost use mathlib.Core.Bool.{false};
 ghost use Rattle.meaning.specs.Editions.{state, receivedBegins, afterDate, parameters};
 ghost use Rattle.laws.specs.Pouring.{Ready};
@@ -27,7 +28,7 @@ pub fn read_received(
     requires { ⌜ Ready (now s) end at n ⌝ }
     ensures { λ r. ⌜ StateRead (toldOf told) (now (s .entry)) end (state receivedBegins 0 false) at n (now (rows .entry)) r (state parameters 0 false) (now (rows .exit)) ⌝ }
 {
-    let by = rows::text(s, end, at, rows, n, RECEIVED_BY, 0);
+    let by = rows::text(s, end, at, rows, n, RECEIVED_BY, Rule::Line, 0);
     let Stage::Go(after_by, with_by) = by else {
         return by;
     };

@@ -5,6 +5,7 @@ use mathlib.Core.List.{List}
 use mathlib.Core.Path.{_≡_}
 use lib.Dec.{ltb}
 use Rattle.meaning.specs.Basics.{pick}
+use Rattle.meaning.specs.Bytes.{Rule}
 use Rattle.meaning.specs.Kinds.{payloadLength}
 use Rattle.meaning.specs.Told.{Told}
 use Rattle.meaning.specs.Editions.{State}
@@ -34,9 +35,9 @@ pub record Ran (i : Source) (least : ℕ) (o : Filling) (r : Stage) (q : State) 
 abbrev pub StateRead : Told → List ℕ → ℕ → State → ℕ → ℕ → List ℕ → Stage → State → List ℕ → Type 0
 StateRead t s end q at n m r d left = Ran (source t s end) at (runAt (source t s end) q at n m) r d left
 
--- .. from the place `at` on, where a text stands, whose row has this kind and level
-abbrev pub TextRead : Told → List ℕ → ℕ → ℕ → ℕ → State → ℕ → ℕ → List ℕ → Stage → State → List ℕ → Type 0
-TextRead t s end kind level q at n m r d left = Ran (source t s end) (at + 1) (textAt (source t s end) kind level q at n m) r d left
+-- .. from the place `at` on, where a text by this rule stands, whose row has this kind and level
+abbrev pub TextRead : Told → List ℕ → ℕ → ℕ → Rule → ℕ → State → ℕ → ℕ → List ℕ → Stage → State → List ℕ → Type 0
+TextRead t s end kind rule level q at n m r d left = Ran (source t s end) (at + 1) (textAt (source t s end) kind rule level q at n m) r d left
 
 -- .. where a payload length stands
 abbrev pub NumberRead : Told → List ℕ → ℕ → State → ℕ → ℕ → List ℕ → Stage → State → List ℕ → Type 0

@@ -4,6 +4,7 @@ use crate::Stage;
 use table::rows::put_row;
 use table::told::Told;
 use values::Value;
+use values::text::Rule;
 ghost use mathlib.Core.Path.{_≡_};
 ghost use Prim.Native.Nat.{_≤_};
 ghost use Rattle.meaning.specs.Told as meaning;
@@ -12,9 +13,10 @@ ghost use Rattle.laws.specs.Pouring.{headerMost, Ready};
 ghost use Rattle.laws.specs.Shapes.{Shaped};
 ghost use Rattle.table.specs.Told.{editionOf, toldOf};
 ghost use Rattle.values.specs.Dates.{datesOf};
+ghost use Rattle.values.specs.Stages.{ruleOf};
 ghost use Rattle.read_rows.specs.Stages.{goesOn, keeps, Fits, TextRead, NumberRead, StateRead};
 
-// A text, whose row has this kind and level.
+// A text by its rule, whose row has this kind and level.
 pub fn text(
     s: &[u8],
     end: usize,
@@ -22,12 +24,13 @@ pub fn text(
     rows: &mut [u32],
     n: usize,
     kind: u32,
+    rule: Rule,
     level: u32,
 ) -> Stage
     requires { ⌜ Ready (now s) end at n ⌝ }
-    ensures { λ r. ⌜ ((t : meaning.Told) (q : State) → TextRead t (now (s .entry)) end kind level q at n (now (rows .entry)) r q (now (rows .exit))) ⌝ }
+    ensures { λ r. ⌜ ((t : meaning.Told) (q : State) → TextRead t (now (s .entry)) end kind (ruleOf rule) level q at n (now (rows .entry)) r q (now (rows .exit))) ⌝ }
 {
-    let v = values::text::take(s, end, at, kind);
+    let v = values::text::take(s, end, at, kind, rule);
     keep(v, rows, n, level)
 }
 

@@ -6,8 +6,10 @@ use crate::look::peek;
 use crate::rows;
 use table::kinds::EXTRA_KEY;
 use table::told::Told;
+use values::text::Rule;
 ghost use mathlib.Core.Path.{_≡_};
 ghost use Prim.Native.Nat.{_<_};
+ghost use Rattle.meaning.specs.Bytes.{line};
 ghost use Rattle.meaning.specs.Kinds.{extraKey};
 ghost use Rattle.meaning.specs.Told as meaning;
 ghost use Rattle.meaning.specs.Editions.{State, anyValues};
@@ -16,7 +18,7 @@ ghost use Rattle.laws.specs.Shapes.{Shaped, Texts, Optional, Extras};
 ghost use Rattle.table.specs.Told.{toldOf};
 ghost use Rattle.read_rows.specs.Stages.{StateRead, TextRead};
 
-// A text that may be left out, from its code on. Where another byte stands, nothing is taken and no row changes.
+// A line that may be left out, from its code on. Where another byte stands, nothing is taken and no row changes.
 pub fn optional(
     s: &[u8],
     end: usize,
@@ -34,10 +36,10 @@ pub fn optional(
         return Stage::Go(at, n);
     }
     let first = at + 1;
-    rows::text(s, end, first, rows, n, kind, level)
+    rows::text(s, end, first, rows, n, kind, Rule::Line, level)
 }
 
-// Texts of one kind and level, and the 01 behind them: "In a list of texts, 01 where an item would begin ends the list."
+// Lines of one kind and level, and the 01 behind them: "In a list of texts, 01 where an item would begin ends the list."
 pub fn texts(
     s: &[u8],
     end: usize,
@@ -57,7 +59,7 @@ pub fn texts(
             let behind = here + 1;
             return Stage::Go(behind, count);
         }
-        let r = rows::text(s, end, here, rows, count, kind, level);
+        let r = rows::text(s, end, here, rows, count, kind, Rule::Line, level);
         let Stage::Go(after_text, with_text) = r else {
             return r;
         };
@@ -134,9 +136,9 @@ fn extra(
     told: Told,
 ) -> Stage
     requires { ⌜ Ready (now s) end at n ⌝ }
-    ensures { λ r. ⌜ ((q d : State) → Shaped (toldOf told) q d level 7 anyValues → TextRead (toldOf told) (now (s .entry)) end extraKey level q at n (now (rows .entry)) r d (now (rows .exit))) ⌝ }
+    ensures { λ r. ⌜ ((q d : State) → Shaped (toldOf told) q d level 7 anyValues → TextRead (toldOf told) (now (s .entry)) end extraKey line level q at n (now (rows .entry)) r d (now (rows .exit))) ⌝ }
 {
-    let key = rows::text(s, end, at, rows, n, EXTRA_KEY, level);
+    let key = rows::text(s, end, at, rows, n, EXTRA_KEY, Rule::Line, level);
     let Stage::Go(after_key, with_key) = key else {
         return key;
     };

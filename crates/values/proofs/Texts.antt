@@ -2,73 +2,90 @@
 use Prim.Native.Nat.{ℕ, zero, suc, _+_, _-_, _≤_, _<_}
 use mathlib.Core.List.{List}
 use mathlib.Core.Bool.{Bool, true, false, _&&_, and-assoc}
-use mathlib.Core.Path.{_≡_, refl, ap, sym, _∙_}
+use mathlib.Core.Path.{_≡_, refl, ap, sym, _∙_, subst}
 use native.Mathlib.Omega.{arith}
-use borrow.Author.Tests.{ne-eqb, le-leb, lt-leb, leb-true}
-use lib.Dec.{eqb}
+use borrow.Author.Tests.{ne-eqb, le-leb, lt-leb}
+use lib.Dec.{T, eqb}
 use lib.ListN.{length, getD}
-use Rattle.meaning.specs.Bytes.{Taken, took, failed, textByte, takeText}
+use Rattle.meaning.specs.Bytes.{Taken, took, failed, Rule, line, note, isBreak, textByte, takeText}
 use Rattle.laws.specs.From.{from, from-length, from-end, from-cons}
-use Rattle.values.specs.Stages.{spans, misses, span, Skipped, textRun}
+use Rattle.values.specs.Stages.{spans, misses, span, Skipped, Run, LineRun, textRun}
 use Rattle.laws.specs.Logic.{both-hold}
+use Rattle.laws.specs.Values.{text-byte-above}
 use Rattle.values.specs.Answers.{span-prefixed}
 
-pub is-text : (b : ℕ) → 32 ≤ b → textByte b ≡ true
+pub is-text : (b : ℕ) → 32 ≤ b → textByte line b ≡ true
 unfolding textByte
 is-text b h = le-leb 32 b h
 
-pub no-text : (b : ℕ) → b < 32 → textByte b ≡ false
+pub no-text : (b : ℕ) → b < 32 → textByte line b ≡ false
 unfolding textByte
 no-text b h = lt-leb 32 b h
 
-not-zero : (b : ℕ) → textByte b ≡ true → eqb b 0 ≡ false
+-- what a line allows every rule does
+pub line-in : (rule : Rule) (b : ℕ) → textByte line b ≡ true → textByte rule b ≡ true
 unfolding textByte
-not-zero b h = ne-eqb b 0 (λ z. omega (arith, leb-true 32 b h))
+line-in line b h = h
+line-in note b h = rw h refl
+
+-- a note's byte that is of no line is a break or nothing
+pub note-is : (b : ℕ) {z : Bool} → textByte line b ≡ false → z ≡ isBreak b → z ≡ textByte note b
+unfolding textByte
+note-is b h q = q ∙ rw h refl
+
+not-zero : (rule : Rule) (b : ℕ) → textByte rule b ≡ true → eqb b 0 ≡ false
+not-zero rule b h = let k = text-byte-above rule b (subst T (sym h) tt) in ne-eqb b 0 (λ z. omega arith)
 
 -- at the place i of a text that begins at `at`
-module _ (s : List ℕ) (end : ℕ) (l : end ≤ length s) (at i : ℕ) (g : at ≤ i) where
-  pub text-stops : i < end → getD s i 0 ≡ 0 → span (i - at) (takeText (from s i end)) ≡ spans (i - at) (from s (i + 1) end)
+module _ (rule : Rule) (s : List ℕ) (end : ℕ) (l : end ≤ length s) (at i : ℕ) (g : at ≤ i) where
+  pub text-stops : i < end → getD s i 0 ≡ 0 → span (i - at) (takeText rule (from s i end)) ≡ spans (i - at) (from s (i + 1) end)
   unfolding takeText
   text-stops h z = rw (from-cons s i end h l, z) (ap (λ (x : ℕ). spans x (from s (i + 1) end)) (omega arith))
 
-  pub text-wrong : i < end → (getD s i 0 ≡ 0 → ⊥) → textByte (getD s i 0) ≡ false → span (i - at) (takeText (from s i end)) ≡ misses 8 (end - i)
+  pub text-wrong : i < end → (getD s i 0 ≡ 0 → ⊥) → textByte rule (getD s i 0) ≡ false → span (i - at) (takeText rule (from s i end)) ≡ misses 8 (end - i)
   unfolding takeText
   text-wrong h z b =
       rw (from-cons s i end h l, ne-eqb (getD s i 0) 0 z, b) (ap (misses 8) (omega (arith, from-length s (i + 1) end (omega arith) l)))
 
-  pub text-goes : i < end → textByte (getD s i 0) ≡ true → span (i - at) (takeText (from s i end)) ≡ span (i + 1 - at) (takeText (from s (i + 1) end))
+  pub text-goes : i < end → textByte rule (getD s i 0) ≡ true → span (i - at) (takeText rule (from s i end)) ≡ span (i + 1 - at) (takeText rule (from s (i + 1) end))
   unfolding takeText
   text-goes h b =
       let p : i - at + 1 ≡ i + 1 - at = omega arith in
-      let onward = takeText (from s (i + 1) end) in
-      rw (from-cons s i end h l, not-zero (getD s i 0) b, b) (span-prefixed (i - at) (getD s i 0) onward ∙ ap (λ (x : ℕ). span x onward) p)
+      let onward = takeText rule (from s (i + 1) end) in
+      rw (from-cons s i end h l, not-zero rule (getD s i 0) b, b) (span-prefixed (i - at) (getD s i 0) onward ∙ ap (λ (x : ℕ). span x onward) p)
 
-  pub text-ends : i ≡ end → span (i - at) (takeText (from s i end)) ≡ misses 6 (end - i)
+  pub text-ends : i ≡ end → span (i - at) (takeText rule (from s i end)) ≡ misses 6 (end - i)
   unfolding takeText
   text-ends h = rw (from-end s i end (omega arith)) (ap (misses 6) (omega arith))
 
--- one byte and n more: the text goes on behind them all
-pub text-runs : (s : List ℕ) (end : ℕ) → end ≤ length s → (at i n : ℕ) → at ≤ i → i + n < end → textRun s i n ≡ true
-    → span (i - at) (takeText (from s i end)) ≡ span (i + suc n - at) (takeText (from s (i + suc n) end))
-unfolding textRun
-text-runs s end l at i zero g h b = text-goes s end l at i g (omega arith) b
-text-runs s end l at i (suc n) g h b =
-    let (before, last) = both-hold (textRun s i n) (textByte (getD s (i + suc n) 0)) b in
-    let q : i + suc n + 1 ≡ i + suc (suc n) = omega arith in
-    text-runs s end l at i n g (omega arith) before ∙ text-goes s end l at (i + suc n) (omega arith) (omega arith) last ∙ rw q refl
+-- one byte and n more that one rule allows, and the text's rule too: the text goes on behind them all
+module _ (least rule : Rule) (wider : (b : ℕ) → textByte least b ≡ true → textByte rule b ≡ true) (s : List ℕ) (end : ℕ) (l : end ≤ length s) where
+  pub text-runs : (at i n : ℕ) → at ≤ i → i + n < end → textRun least s i n ≡ true → span (i - at) (takeText rule (from s i end)) ≡ span (i + suc n - at) (takeText rule (from s (i + suc n) end))
+  unfolding textRun
+  text-runs at i zero g h b = text-goes rule s end l at i g (omega arith) (wider (getD s i 0) b)
+  text-runs at i (suc n) g h b =
+      let (before, last) = both-hold (textRun least s i n) (textByte least (getD s (i + suc n) 0)) b in
+      let q : i + suc n + 1 ≡ i + suc (suc n) = omega arith in
+      text-runs at i n g (omega arith) before ∙ text-goes rule s end l at (i + suc n) (omega arith) (omega arith) (wider (getD s (i + suc n) 0) last) ∙ rw q refl
 
--- the place behind a run
-pub run-skipped : (s : List ℕ) (end : ℕ) → end ≤ length s → (at n : ℕ) → at + n < end → textRun s at n ≡ true → Skipped s end at (at + suc n)
-run-skipped s end l at n h b =
-    let q : 0 ≡ at - at = omega arith in
-    record {
-      inside = omega arith;
-      before = omega arith;
-      is = ap (λ (x : ℕ). span x (takeText (from s at end))) q ∙ text-runs s end l at at n (omega arith) h b;
-    }
+  -- the place behind a run
+  run-skipped : (at n : ℕ) → at + n < end → textRun least s at n ≡ true → Skipped rule s end at (at + suc n)
+  run-skipped at n h b =
+      let q : 0 ≡ at - at = omega arith in
+      record {
+        inside = omega arith;
+        before = omega arith;
+        is = ap (λ (x : ℕ). span x (takeText rule (from s at end))) q ∙ text-runs at at n (omega arith) h b;
+      }
 
-pub skipped-none : (s : List ℕ) (end at : ℕ) → at ≤ end → Skipped s end at at
-skipped-none s end at h = let q : 0 ≡ at - at = omega arith in record { inside = omega arith; before = h; is = ap (λ (x : ℕ). span x (takeText (from s at end))) q }
+pub line-skipped : (s : List ℕ) (end : ℕ) → end ≤ length s → (at n : ℕ) → at + n < end → textRun line s at n ≡ true → (rule : Rule) → Skipped rule s end at (at + suc n)
+line-skipped s end l at n h b rule = run-skipped line rule (line-in rule) s end l at n h b
+
+pub note-skipped : (s : List ℕ) (end : ℕ) → end ≤ length s → (at n : ℕ) → at + n < end → textRun note s at n ≡ true → Skipped note s end at (at + suc n)
+note-skipped s end l at n h b = run-skipped note note (λ b h. h) s end l at n h b
+
+pub skipped-none : (s : List ℕ) (end at : ℕ) → at ≤ end → (rule : Rule) → Skipped rule s end at at
+skipped-none s end at h rule = let q : 0 ≡ at - at = omega arith in record { inside = omega arith; before = h; is = ap (λ (x : ℕ). span x (takeText rule (from s at end))) q }
 
 -- one stretch behind another
 span-behind : (n m : ℕ) (t u : Taken) → span 0 t ≡ span n u → span m t ≡ span (m + n) u
@@ -79,28 +96,46 @@ span-behind n m (took v rest) (failed r k) q = let z : _≡_ {A = ℕ} 0 1 = cc 
 span-behind n m (failed r k) (took v rest) q = let z : _≡_ {A = ℕ} 0 1 = cc q in absurd (omega arith)
 span-behind n m (failed r k) (failed r₁ k₁) q = q
 
-pub skipped-on : {s : List ℕ} {end at i k : ℕ} → Skipped s end at i → Skipped s end i k → Skipped s end at k
-skipped-on {s} {end} {at} {i} {k} a b =
+pub skipped-on : {rule : Rule} {s : List ℕ} {end at i k : ℕ} → Skipped rule s end at i → Skipped rule s end i k → Skipped rule s end at k
+skipped-on {rule} {s} {end} {at} {i} {k} a b =
     let e : i - at + (k - i) ≡ k - at = omega (arith, a .inside, b .inside) in
     record {
       inside = omega (arith, a .inside, b .inside);
       before = b .before;
-      is = a .is ∙ span-behind (k - i) (i - at) (takeText (from s i end)) (takeText (from s k end)) (b .is) ∙ ap (λ (x : ℕ). span x (takeText (from s k end))) e;
+      is = a .is ∙ span-behind (k - i) (i - at) (takeText rule (from s i end)) (takeText rule (from s k end)) (b .is) ∙ ap (λ (x : ℕ). span x (takeText rule (from s k end))) e;
+    }
+
+pub run-on : {rule : Rule} {s : List ℕ} {end at i k : ℕ} → Skipped rule s end at i → Run rule s end i k → Run rule s end at k
+run-on a b = record { skipped = skipped-on a (b .skipped); stops = b .stops }
+
+-- one byte that the rule allows
+pub byte-skipped : (rule : Rule) (s : List ℕ) (end : ℕ) → end ≤ length s → (i : ℕ) → i < end → textByte rule (getD s i 0) ≡ true → Skipped rule s end i (i + 1)
+byte-skipped rule s end l i h b =
+    let q : 0 ≡ i - i = omega arith in
+    record {
+      inside = omega arith;
+      before = omega arith;
+      is = ap (λ (x : ℕ). span x (takeText rule (from s i end))) q ∙ text-goes rule s end l i i (omega arith) h b;
     }
 
 -- two runs, one behind the other
-pub runs-join : (s : List ℕ) (i n m : ℕ) → (textRun s i n && textRun s (i + suc n) m) ≡ textRun s i (suc n + m)
-unfolding textRun
-runs-join s i n zero = let q : n ≡ n + 0 = omega arith in let p : suc n + 0 ≡ suc n = omega arith in sym (ap (textRun s i) p)
-runs-join s i n (suc m) =
-    let q : i + suc n + suc m ≡ i + suc (suc n + m) = omega arith in
-    let p : suc n + suc m ≡ suc (suc n + m) = omega arith in
-    sym (and-assoc (textRun s i n) (textRun s (i + suc n) m) (textByte (getD s (i + suc n + suc m) 0)))
-    ∙ ap (λ (b : Bool). b && textByte (getD s (i + suc n + suc m) 0)) (runs-join s i n m) ∙ ap (λ (k : ℕ). textRun s i (suc n + m) && textByte (getD s k 0)) q ∙ sym (ap (textRun s i) p)
+module _ (rule : Rule) (s : List ℕ) (i : ℕ) where
+  runs-join : (n m : ℕ) → (textRun rule s i n && textRun rule s (i + suc n) m) ≡ textRun rule s i (suc n + m)
+  unfolding textRun
+  runs-join n zero = let p : suc n + 0 ≡ suc n = omega arith in sym (ap (textRun rule s i) p)
+  runs-join n (suc m) =
+      let q : i + suc n + suc m ≡ i + suc (suc n + m) = omega arith in
+      let p : suc n + suc m ≡ suc (suc n + m) = omega arith in
+      sym (and-assoc (textRun rule s i n) (textRun rule s (i + suc n) m) (textByte rule (getD s (i + suc n + suc m) 0)))
+      ∙ ap (λ (b : Bool). b && textByte rule (getD s (i + suc n + suc m) 0)) (runs-join n m) ∙ ap (λ (k : ℕ). textRun rule s i (suc n + m) && textByte rule (getD s k 0)) q ∙ sym (ap (textRun rule s i) p)
 
-pub two-runs : (s : List ℕ) (i n : ℕ) {a b : Bool} → a ≡ textRun s i n → b ≡ textRun s (i + suc n) n → (a && b) ≡ textRun s i (suc n + n)
-two-runs s i n {a} {b} p q = ap (λ (x : Bool). x && b) p ∙ ap (λ (x : Bool). textRun s i n && x) q ∙ runs-join s i n n
+  pub two-runs : (n : ℕ) {a b : Bool} → a ≡ textRun rule s i n → b ≡ textRun rule s (i + suc n) n → (a && b) ≡ textRun rule s i (suc n + n)
+  two-runs n {a} {b} p q = ap (λ (x : Bool). x && b) p ∙ ap (λ (x : Bool). textRun rule s i n && x) q ∙ runs-join n n
 
-pub one-text : (s : List ℕ) (i : ℕ) → 32 ≤ getD s i 0 → textRun s i 0 ≡ true
+pub one-text : (s : List ℕ) (i : ℕ) → 32 ≤ getD s i 0 → textRun line s i 0 ≡ true
 unfolding textRun
 one-text s i h = is-text (getD s i 0) h
+
+-- where a line's run stops, the line does
+pub line-runs : {s : List ℕ} {end at place : ℕ} → LineRun s end at place → Run line s end at place
+line-runs r = record { skipped = r .skipped line; stops = r .stops }

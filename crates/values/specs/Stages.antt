@@ -6,12 +6,14 @@ use mathlib.Core.Bool.{Bool, false, _&&_}
 use lib.Dec.{eqb}
 use mathlib.Core.Path.{_≡_}
 use lib.ListN.{length, getD}
-use Rattle.meaning.specs.Bytes.{Taken, took, failed, textByte, takeText}
+use Rattle.meaning.specs.Bytes.{Taken, took, failed, Rule, line, note, textByte, takeText}
 use Rattle.meaning.specs.Told.{Told}
 use Rattle.meaning.specs.Kinds.{agentName}
 use Rattle.meaning.specs.Editions.{Next, Move, Form, isQuiet, noCode, on_▸_▸_▸_}
 use Rattle.meaning.specs.Reading.{look, none, hit, takeValue, reachBack}
 use Rattle.laws.specs.From.{from}
+use Rattle.values.specs.declared.text.Rule as declared
+use Rattle.values.specs.declared.text.Rule.the-variants.{Line, Note}
 use Rattle.values.specs.declared.Value.{Value}
 use Rattle.values.specs.declared.Value.the-variants.{Is, Refused}
 
@@ -61,18 +63,27 @@ pub record Inside (s : List ℕ) (end at : ℕ) : Type 0 where
   pub whole : end ≤ length s
   pub before : at ≤ end
 
+abbrev pub ruleOf : declared.Rule → Rule
+ruleOf Line = line
+ruleOf Note = note
+
 -- a place that a text goes past: the text is the same from there on, behind the bytes passed
-pub record Skipped (s : List ℕ) (end at place : ℕ) : Type 0 where
+pub record Skipped (rule : Rule) (s : List ℕ) (end at place : ℕ) : Type 0 where
   pub inside : at ≤ place
   pub before : place ≤ end
-  pub is : span 0 (takeText (from s at end)) ≡ span (place - at) (takeText (from s place end))
+  pub is : span 0 (takeText rule (from s at end)) ≡ span (place - at) (takeText rule (from s place end))
 
--- the first place whose byte is no text, or the end
-pub record Run (s : List ℕ) (end at place : ℕ) : Type 0 where
-  pub skipped : Skipped s end at place
-  pub stops : place < end → textByte (getD s place 0) ≡ false
+-- the first place whose byte the rule does not allow, or the end
+pub record Run (rule : Rule) (s : List ℕ) (end at place : ℕ) : Type 0 where
+  pub skipped : Skipped rule s end at place
+  pub stops : place < end → textByte rule (getD s place 0) ≡ false
 
--- whether a byte, and so many behind it, are text
-unfoldable pub textRun : List ℕ → ℕ → ℕ → Bool
-textRun s at zero = textByte (getD s at 0)
-textRun s at (suc n) = textRun s at n && textByte (getD s (at + suc n) 0)
+-- the first place whose byte is of no line, or the end; what stands before it every rule allows
+pub record LineRun (s : List ℕ) (end at place : ℕ) : Type 0 where
+  pub skipped : (rule : Rule) → Skipped rule s end at place
+  pub stops : place < end → textByte line (getD s place 0) ≡ false
+
+-- whether the rule allows a byte, and so many behind it
+unfoldable pub textRun : Rule → List ℕ → ℕ → ℕ → Bool
+textRun rule s at zero = textByte rule (getD s at 0)
+textRun rule s at (suc n) = textRun rule s at n && textByte rule (getD s (at + suc n) 0)

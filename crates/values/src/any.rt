@@ -4,6 +4,7 @@ use crate::bytes::four_bytes;
 use crate::bytes::one_byte;
 use crate::bytes::two_bytes;
 use crate::text;
+use crate::text::Rule;
 use table::kinds::ANY_BYTES;
 use table::kinds::ANY_TEXT;
 use table::refusals::CODE_WRONG;
@@ -40,7 +41,7 @@ pub fn take(s: &[u8], end: usize, at: usize, told: Told) -> Value
     let code = s[at];
     let first = at + 1;
     match code {
-        0x14 => text::take(s, end, first, ANY_TEXT),
+        0x14 => text::take(s, end, first, ANY_TEXT, Rule::Note),
         0x16 => block(s, end, at, 1, told),
         0x17 => block(s, end, at, 2, told),
         0x19 => block(s, end, at, 4, told),

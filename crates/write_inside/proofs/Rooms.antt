@@ -2,6 +2,7 @@
 use mathlib.Core.List.{[], _∷_}
 use mathlib.Core.Bool.{Bool, true, false}
 use mathlib.Core.Path.{_≡_, refl}
+use Rattle.meaning.specs.Bytes.{line, note}
 use Rattle.meaning.specs.Kinds.{standardRepresentation, ownRepresentation, receivedBy, toOpens, fromOpens, receiverOpens, comments, payloadLength, payloadEncoding, encryptedOpens, encryptedItem, ownKey, ownValue, behaviourOpens}
 use Rattle.meaning.specs.Editions.{state, receivedBegins, headRepresentation, headDate, parameters, ownText, parameterRepresentation, behaviourValue, encryptedTexts, outer, text, number, opens, noCode, moves, shared, own, representations, anyValues, go, on_▸_▸_▸_, pass_▸_}
 use Rattle.meaning.specs.Reading.{hit, find}
@@ -27,12 +28,12 @@ front-date B = record { rows = refl; lead = dates-lead B (outer parameters) (sta
 
 -- "Parameters, any order": the first row of each, and what has to follow it
 
-pub own-first : (edition : Edition) → InParameters edition (on 0x00 ▸ ownKey ▸ text ▸ outer ownText)
+pub own-first : (edition : Edition) → InParameters edition (on 0x00 ▸ ownKey ▸ text line ▸ outer ownText)
 unfolding moves shared own
 own-first D = refl
 own-first B = refl
 
-pub own-text : (edition : Edition) → Needs edition (state ownText 0 false) (on noCode ▸ ownValue ▸ text ▸ outer parameters ∷ []) (outer parameters)
+pub own-text : (edition : Edition) → Needs edition (state ownText 0 false) (on noCode ▸ ownValue ▸ text note ▸ outer parameters ∷ []) (outer parameters)
 unfolding moves shared own find
 own-text D = record { rows = refl; lead = (refl, refl, tt); lost = refl }
 own-text B = record { rows = refl; lead = (refl, refl, tt); lost = refl }
@@ -66,7 +67,7 @@ unfolding moves shared own find
 parameter-representation D = record { rows = refl; lead = (refl, refl, (refl, refl, (refl, refl, (refl, refl, tt)))); lost = refl }
 parameter-representation B = record { rows = refl; lead = (refl, refl, (refl, refl, (refl, refl, (refl, refl, tt)))); lost = refl }
 
-pub comments-first : (edition : Edition) → InParameters edition (on 0x05 ▸ comments ▸ text ▸ outer parameters)
+pub comments-first : (edition : Edition) → InParameters edition (on 0x05 ▸ comments ▸ text note ▸ outer parameters)
 unfolding moves shared own
 comments-first D = refl
 comments-first B = refl
@@ -76,7 +77,7 @@ unfolding moves shared own
 length-first D = refl
 length-first B = refl
 
-pub encoding-first : (edition : Edition) → InParameters edition (on 0x07 ▸ payloadEncoding ▸ text ▸ outer parameters)
+pub encoding-first : (edition : Edition) → InParameters edition (on 0x07 ▸ payloadEncoding ▸ text line ▸ outer parameters)
 unfolding moves shared own
 encoding-first D = refl
 encoding-first B = refl

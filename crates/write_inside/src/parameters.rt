@@ -17,6 +17,7 @@ use table::kinds::STANDARD_REPRESENTATION;
 use table::kinds::TO_OPENS;
 use table::rows::look_ahead;
 use table::told::Edition;
+use values::text::Rule;
 use write_objects::agents::agents;
 use write_objects::received::received;
 use write_rows::advance::Advance;
@@ -33,6 +34,7 @@ ghost use mathlib.Core.Path.{_≡_};
 ghost use mathlib.Core.List.{[], _∷_};
 ghost use mathlib.Core.Bool.{false};
 ghost use Prim.Native.Nat.{_≤_};
+ghost use Rattle.meaning.specs.Bytes.{line};
 ghost use Rattle.meaning.specs.Kinds.{ownKey, behaviourOpens};
 ghost use Rattle.meaning.specs.Editions.{state, ownText, behaviourValue, closed, outer, opens, on_▸_▸_▸_};
 ghost use Rattle.meaning.specs.Told;
@@ -71,18 +73,21 @@ fn begun(s: Advance) -> Parameter
     }
 }
 
-// "00 own key text, value text": lays the parameter that row i begins. None begins there if it is no such key.
-// Stuck at the next row if that is no value.
+// "00 own key text, value text": lays the parameter that row i begins; its key is a line, its value a note.
+// None begins there if row i is no such key. Stuck at the next row if that is no value.
 fn own_parameter(rows: &[u32], pool: &[u8], i: usize, output: &mut [u8], at: usize) -> Parameter
     requires { ⌜ StageRequires (now rows) i (now output) at ⌝ }
-    ensures { λ r. ⌜ ((edition : Told.Edition) → ParameterIs edition (on 0x00 ▸ ownKey ▸ Rattle.meaning.specs.Editions.text ▸ outer ownText ∷ []) (now (pool .entry)) (now (rows .entry)) i (now (output .entry)) at r (now (output .exit))) ⌝ }
+    ensures { λ r. ⌜ ((edition : Told.Edition) → ParameterIs edition (on 0x00 ▸ ownKey ▸ Rattle.meaning.specs.Editions.text line ▸ outer ownText ∷ []) (now (pool .entry)) (now (rows .entry)) i (now (output .entry)) at r (now (output .exit))) ⌝ }
 {
-    let t = text(rows, pool, i, OWN_KEY, 0, 0x00, output, at);
+    let t = text(rows, pool, i, OWN_KEY, Rule::Line, 0, 0x00, output, at);
     let Tried::To(p) = t else {
         return Parameter::Last;
     };
     let k = i + 1;
-    begun(needed(text(rows, pool, k, OWN_VALUE, 0, NO_CODE, output, p), k))
+    begun(needed(
+        text(rows, pool, k, OWN_VALUE, Rule::Note, 0, NO_CODE, output, p),
+        k,
+    ))
 }
 
 // "02 `to`, agent list; 03 `from`, one agent; 09 intended receiver, agent list": lays the parameter of this kind and code, naming agents, that row i opens.
@@ -216,10 +221,23 @@ fn by_kind(
             output,
             at,
         ),
-        COMMENTS => single(text(rows, pool, i, COMMENTS, 0, 0x05, output, at), i),
+        COMMENTS => single(
+            text(rows, pool, i, COMMENTS, Rule::Note, 0, 0x05, output, at),
+            i,
+        ),
         PAYLOAD_LENGTH => single(number(rows, pool, i, output, at), i),
         PAYLOAD_ENCODING => single(
-            text(rows, pool, i, PAYLOAD_ENCODING, 0, 0x07, output, at),
+            text(
+                rows,
+                pool,
+                i,
+                PAYLOAD_ENCODING,
+                Rule::Line,
+                0,
+                0x07,
+                output,
+                at,
+            ),
             i,
         ),
         ENCRYPTED_OPENS => encrypted(rows, pool, i, edition, output, at),

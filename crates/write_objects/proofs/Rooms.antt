@@ -4,6 +4,7 @@ use mathlib.Core.List.{[], _∷_}
 use mathlib.Core.Bool.{Bool, true, false}
 use mathlib.Core.Path.{_≡_, refl}
 use Rattle.meaning.specs.Basics.{pick}
+use Rattle.meaning.specs.Bytes.{line}
 use Rattle.meaning.specs.Kinds.{receivedBy, receivedFrom, receivedId, receivedVia, addressesOpen, address, resolversOpen}
 use Rattle.meaning.specs.Editions.{state, receivedBegins, parameters, receivedDate, afterDate, afterFrom, afterId, afterVia, receivedExtra, agentList, oneAgent, afterName, addressTexts, afterAddresses, afterResolvers, agentExtra, outer, inner, stay, deeper, listEnds, agentEnds, text, opens, noCode, closing, moves, shared, own, go, on_▸_▸_▸_, pass_▸_, extraCode}
 use Rattle.meaning.specs.Reading.{none, hit, find}
@@ -15,7 +16,7 @@ use Rattle.values.specs.Dates.{datesOf}
 
 -- "Received object: by (text), date, then optionally .. 02 from, 03 id, 04 via (texts), then in D extras, then 01"
 
-pub received-by : (edition : Edition) → Needs edition (state receivedBegins 0 false) (on noCode ▸ receivedBy ▸ text ▸ inner receivedDate ∷ []) (inner receivedDate)
+pub received-by : (edition : Edition) → Needs edition (state receivedBegins 0 false) (on noCode ▸ receivedBy ▸ text line ▸ inner receivedDate ∷ []) (inner receivedDate)
 unfolding moves shared own find
 received-by D = record { rows = refl; lead = (refl, refl, tt); lost = refl }
 received-by B = record { rows = refl; lead = (refl, refl, tt); lost = refl }

@@ -5,6 +5,7 @@ use mathlib.Core.Bool.{Bool, false, _&&_}
 use mathlib.Core.Path.{_≡_}
 use lib.Dec.{eqb}
 use Rattle.meaning.specs.Basics.{pick}
+use Rattle.meaning.specs.Bytes.{line}
 use Rattle.meaning.specs.Kinds.{agentName}
 use Rattle.meaning.specs.Editions.{State, state, parameters, agentList, oneAgent, afterName, stay, text, Move, on_▸_▸_▸_}
 use Rattle.meaning.specs.Told.{Edition}
@@ -17,7 +18,7 @@ use Rattle.write_objects.specs.declared.agents.ListTurn.{ListTurn}
 use Rattle.write_objects.specs.declared.agents.ListTurn.the-variants.{On, Done, Stuck}
 
 abbrev pub agentNames : List Move
-agentNames = on 0x02 ▸ agentName ▸ text ▸ stay afterName ∷ []
+agentNames = on 0x02 ▸ agentName ▸ text line ▸ stay afterName ∷ []
 
 -- where an agent begins: the one of `from` stands in no list
 abbrev pub agentsAt : ℕ → Bool → State

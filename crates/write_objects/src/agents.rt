@@ -7,6 +7,7 @@ use table::kinds::AGENT_NAME;
 use table::kinds::RESOLVERS_OPEN;
 use table::limits::LEVEL_MOST;
 use table::told::Edition;
+use values::text::Rule;
 use write_rows::advance::Advance;
 use write_rows::advance::Onto;
 use write_rows::advance::Tried;
@@ -117,7 +118,17 @@ fn agent(
     requires { ⌜ ListTurnRequires (now rows) i level (now output) at ⌝ }
     ensures { λ r. ⌜ ListTurnIs (editionOf edition) single (now (pool .entry)) (now (rows .entry)) i (agentsAt level single) (rowsAndLevels (now (rows .entry)) i level - 1) (now (output .entry)) at r (now (output .exit)) ⌝ }
 {
-    let t = text(rows, pool, i, AGENT_NAME, level, 0x02, output, at);
+    let t = text(
+        rows,
+        pool,
+        i,
+        AGENT_NAME,
+        Rule::Line,
+        level,
+        0x02,
+        output,
+        at,
+    );
     let Tried::To(p) = t else {
         return list_ends(rows, pool, i, level, single, edition, output, at);
     };

@@ -7,6 +7,7 @@ use table::kinds::RECEIVED_FROM;
 use table::kinds::RECEIVED_ID;
 use table::kinds::RECEIVED_VIA;
 use table::told::Edition;
+use values::text::Rule;
 use write_rows::advance::Advance;
 use write_rows::advance::Tried;
 use write_rows::ahead::text;
@@ -59,7 +60,17 @@ pub fn received(
     requires { ⌜ StageRequires (now rows) i (now output) at ⌝ }
     ensures { λ r. ⌜ (AdvanceIs (editionOf edition) (now (pool .entry)) (now (rows .entry)) i (state receivedBegins 0 false) (state parameters 0 false) (now (output .entry)) at r (now (output .exit))) × Beyond i r ⌝ }
 {
-    let t = text(rows, pool, i, RECEIVED_BY, 0, NO_CODE, output, at);
+    let t = text(
+        rows,
+        pool,
+        i,
+        RECEIVED_BY,
+        Rule::Line,
+        0,
+        NO_CODE,
+        output,
+        at,
+    );
     let Tried::To(p) = t else {
         return Advance::Stuck(i);
     };

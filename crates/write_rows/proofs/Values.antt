@@ -9,7 +9,7 @@ use lib.ListN.{length, take, getD}
 use lib.Seq.{take-length}
 use borrow.Author.Tests.{ne-eqb, eqb-true, leb-false, leb-true}
 use Rattle.meaning.specs.Basics.{pick, isEmpty}
-use Rattle.meaning.specs.Bytes.{Taken, took, failed, prefixed, textByte, takeText, textOk, numberOk, takeNumber, dateOk, takeDate, Check, passes, Reach, absolute, relative, dateChecks}
+use Rattle.meaning.specs.Bytes.{Taken, took, failed, prefixed, Rule, textByte, takeText, textOk, numberOk, takeNumber, dateOk, takeDate, Check, passes, Reach, absolute, relative, dateChecks}
 use Rattle.meaning.specs.Writing.{isOnly}
 use Rattle.laws.specs.Logic.{is-true}
 use Rattle.laws.specs.From.{from, from-length, from-end, from-cons}
@@ -78,27 +78,27 @@ wants-more : (b n : ℕ) (t : Taken) → wantsEnd (span n (prefixed b t)) ≡ wa
 wants-more b n (took v rest) = refl
 wants-more b n (failed refusal left) = refl
 
-text-wants : (n : ℕ) (v : List ℕ) → wantsEnd (span n (takeText v)) ≡ textOk v
+text-wants : (rule : Rule) (n : ℕ) (v : List ℕ) → wantsEnd (span n (takeText rule v)) ≡ textOk rule v
 unfolding takeText textOk
-text-wants n [] = refl
-text-wants n (b ∷ v) = at (eqb b 0) refl (textByte b) refl (text-wants n v)
+text-wants rule n [] = refl
+text-wants rule n (b ∷ v) = at (eqb b 0) refl (textByte rule b) refl (text-wants rule n v)
   where
-    at : (z : Bool) → eqb b 0 ≡ z → (l : Bool) → textByte b ≡ l → wantsEnd (span n (takeText v)) ≡ textOk v → wantsEnd (span n (pick z (took [] v) (pick l (prefixed b (takeText v)) (failed 8 (suc (length v)))))) ≡ (l && textOk v)
-    at true q true e i = let h = text-byte-above b (subst T (sym e) tt) in let z = eqb-true b 0 q in absurd (omega arith)
+    at : (z : Bool) → eqb b 0 ≡ z → (l : Bool) → textByte rule b ≡ l → wantsEnd (span n (takeText rule v)) ≡ textOk rule v → wantsEnd (span n (pick z (took [] v) (pick l (prefixed b (takeText rule v)) (failed 8 (suc (length v)))))) ≡ (l && textOk rule v)
+    at true q true e i = let h = text-byte-above rule b (subst T (sym e) tt) in let z = eqb-true b 0 q in absurd (omega arith)
     at true q false e i = refl
-    at false q true e i = wants-more b n (takeText v) ∙ i
+    at false q true e i = wants-more b n (takeText rule v) ∙ i
     at false q false e i = ne-eqb (suc (length v)) 0 (λ x. omega arith)
 
-pub text-run : (v : List ℕ) {place : ℕ} → Run v (length v) 0 place → leb (length v) place ≡ textOk v
+pub text-run : (rule : Rule) (v : List ℕ) {place : ℕ} → Run rule v (length v) 0 place → leb (length v) place ≡ textOk rule v
 unfolding textOk
-text-run v {place} r =
-    at (leb (length v) place) refl ∙ sym (text-wants (place - 0) (from v place (length v))) ∙ sym (ap wantsEnd (r .skipped .is)) ∙ text-wants 0 (from v 0 (length v)) ∙ ap textOk (from-all v)
+text-run rule v {place} r =
+    at (leb (length v) place) refl ∙ sym (text-wants rule (place - 0) (from v place (length v))) ∙ sym (ap wantsEnd (r .skipped .is)) ∙ text-wants rule 0 (from v 0 (length v)) ∙ ap (textOk rule) (from-all v)
   where
-    at : (b : Bool) → leb (length v) place ≡ b → b ≡ textOk (from v place (length v))
-    at true q = sym (ap textOk (from-end v place (length v) (leb-true (length v) place q)))
+    at : (b : Bool) → leb (length v) place ≡ b → b ≡ textOk rule (from v place (length v))
+    at true q = sym (ap (textOk rule) (from-end v place (length v) (leb-true (length v) place q)))
     at false q =
         let l = leb-false (length v) place q in
-        sym (ap textOk (from-cons v place (length v) l (omega arith)) ∙ ap (λ (x : Bool). x && textOk (from v (place + 1) (length v))) (r .stops l))
+        sym (ap (textOk rule) (from-cons v place (length v) l (omega arith)) ∙ ap (λ (x : Bool). x && textOk rule (from v (place + 1) (length v))) (r .stops l))
 
 -- A number, a date
 

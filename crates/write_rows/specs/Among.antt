@@ -38,7 +38,7 @@ find-rows row (m ∷ l) = at (m .form) refl (find-rows row l)
   where
     at : (f : Form) → m .form ≡ f → find (standsFor row) l ≡ find (standsFor row) (rowsOf l) → find (standsFor row) (m ∷ l) ≡ find (standsFor row) (pick (isQuiet f) (rowsOf l) (m ∷ rowsOf l))
     at quiet e q = ap (λ (f : Form). pick (not (isQuiet f) && eqb (m .kind) (row .kind) && takes (row .view) m) (hit m) (find (standsFor row) l)) e ∙ q
-    at text e q = ap (pick (standsFor row m) (hit m)) q
+    at (text rule) e q = ap (pick (standsFor row m) (hit m)) q
     at (date reach designated) e q = ap (pick (standsFor row m) (hit m)) q
     at number e q = ap (pick (standsFor row m) (hit m)) q
     at (block w) e q = ap (pick (standsFor row m) (hit m)) q

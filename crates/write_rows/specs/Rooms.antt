@@ -5,6 +5,7 @@ use mathlib.Core.Bool.{Bool, false, _&&_, not}
 use mathlib.Core.Path.{_≡_, refl}
 use lib.Dec.{eqb}
 use Rattle.meaning.specs.Basics.{pick}
+use Rattle.meaning.specs.Bytes.{line}
 use Rattle.meaning.specs.Kinds.{agentName, extraKey}
 use Rattle.meaning.specs.Told.{Edition, B, D}
 use Rattle.meaning.specs.Editions.{State, state, Room, Next, stay, text, isQuiet, noCode, closing, Move, moves, anyValues, go, on_▸_▸_▸_, pass_▸_}
@@ -60,7 +61,7 @@ pub record Needs (e : Edition) (st : State) (l : List Move) (n : Next) : Type 0 
 -- a list of texts: items, and a closing that leads on
 pub record TextsIn (e : Edition) (room : Room) (kind level : ℕ) (single : Bool) (st₁ : State) : Type 0 where
   pub item : Next
-  pub rows : rowsOf (moves e room) ≡ on noCode ▸ kind ▸ text ▸ item ∷ []
+  pub rows : rowsOf (moves e room) ≡ on noCode ▸ kind ▸ text line ▸ item ∷ []
   pub again : go item (state room level single) ≡ state room level single
   pub next : Next
   pub closes : Closes e room (hit (pass closing ▸ next))
@@ -69,7 +70,7 @@ pub record TextsIn (e : Edition) (room : Room) (kind level : ℕ) (single : Bool
 
 -- a text that may be left out: the room behind it has all moves of the room before it but the text's
 pub record OptionalIn (e : Edition) (room room₁ : Room) (kind code : ℕ) : Type 0 where
-  pub is : moves e room ≡ on code ▸ kind ▸ text ▸ stay room₁ ∷ moves e room₁
+  pub is : moves e room ≡ on code ▸ kind ▸ text line ▸ stay room₁ ∷ moves e room₁
   pub within : isClosed room ≡ false
   pub within₁ : isClosed room₁ ≡ false
   pub shallow : eqb kind agentName ≡ false
@@ -77,7 +78,7 @@ pub record OptionalIn (e : Edition) (room room₁ : Room) (kind code : ℕ) : Ty
 -- extras: a key behind its code, an any-value in a room of its own, and a closing that leads on
 pub record ExtrasIn (e : Edition) (room : Room) (level : ℕ) (single : Bool) (code : ℕ) (st₁ : State) : Type 0 where
   pub value : Room
-  pub rows : rowsOf (moves e room) ≡ on code ▸ extraKey ▸ text ▸ stay value ∷ []
+  pub rows : rowsOf (moves e room) ≡ on code ▸ extraKey ▸ text line ▸ stay value ∷ []
   pub values : rowsOf (moves e value) ≡ anyValues (stay room)
   pub lost : Closes e value none
   pub next : Next

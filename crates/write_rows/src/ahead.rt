@@ -9,11 +9,13 @@ use table::kinds::PAYLOAD_LENGTH;
 use table::rows::Ahead;
 use table::rows::look_ahead;
 use table::rows::nothing;
+use values::text::Rule;
 ghost use mathlib.Core.List.{[], _∷_};
 ghost use Prim.Native.Nat.{_≤_};
 ghost use Rattle.meaning.specs.Kinds.{payloadLength};
 ghost use Rattle.meaning.specs.Editions.{Next, opens, on_▸_▸_▸_};
 ghost use Rattle.meaning.specs.Memory.{roomOf};
+ghost use Rattle.values.specs.Stages.{ruleOf};
 ghost use Rattle.write_rows.specs.Stages.{StageRequires, SoughtIs, TakeRequires, TriedIs};
 
 // The row at i, if it is of this kind and level and its bytes are all in the pool; else a row of kind 0, which no room takes.
@@ -31,20 +33,21 @@ pub fn look_for(rows: &[u32], pool: &[u8], i: usize, kind: u32, level: u32) -> A
     r
 }
 
-// Tries row i as a text of this kind and level: lays its code, if it has one, its bytes and the 00 behind them.
-// Where it is another row, or its bytes are no text, nothing is laid.
+// Tries row i as a text of this kind and level by its rule: lays its code, if it has one, its bytes and the 00 behind them.
+// Where it is another row, or has a byte that the rule does not allow, nothing is laid.
 pub fn text(
     rows: &[u32],
     pool: &[u8],
     i: usize,
     kind: u32,
+    rule: Rule,
     level: u32,
     code: u32,
     output: &mut [u8],
     at: usize,
 ) -> Tried
     requires { ⌜ TakeRequires (now rows) i kind code (now output) at ⌝ }
-    ensures { λ r. ⌜ ((n : Next) → TriedIs (on code ▸ kind ▸ Rattle.meaning.specs.Editions.text ▸ n ∷ []) level (now (pool .entry)) (now (rows .entry)) i (now (output .entry)) at r (now (output .exit))) ⌝ }
+    ensures { λ r. ⌜ ((n : Next) → TriedIs (on code ▸ kind ▸ Rattle.meaning.specs.Editions.text (ruleOf rule) ▸ n ∷ []) level (now (pool .entry)) (now (rows .entry)) i (now (output .entry)) at r (now (output .exit))) ⌝ }
 {
     let r = look_for(rows, pool, i, kind, level);
     if r.kind == 0 {
@@ -53,7 +56,7 @@ pub fn text(
     let start = r.start;
     let end = r.end;
     let bytes = &pool[start..end];
-    if text_ok(bytes) {
+    if text_ok(bytes, rule) {
         let p = put_code(code, output, at);
         let q = copy(bytes, output, p);
         return Tried::To(put(output, q, 0));

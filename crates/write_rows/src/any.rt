@@ -8,6 +8,7 @@ use crate::lay::put_four;
 use crate::lay::put_two;
 use table::kinds::ANY_BYTES;
 use table::kinds::ANY_TEXT;
+use values::text::Rule;
 ghost use Prim.Native.Nat.{_≤_};
 ghost use lib.ListN.{length};
 ghost use Rattle.meaning.specs.Editions.{Next, anyValues};
@@ -39,14 +40,14 @@ fn block(bytes: &[u8], output: &mut [u8], at: usize) -> usize
 }
 
 // "Any-value: 14 and a text, or .. that many bytes": tries row i as one of this level, and lays it.
-// Where it is another row, or of the text's kind with bytes that are no text, nothing is laid.
+// Its text is a note. Where it is another row, or of the text's kind with a byte that no note has, nothing is laid.
 pub fn any(rows: &[u32], pool: &[u8], i: usize, level: u32, output: &mut [u8], at: usize) -> Tried
     requires { ⌜ StageRequires (now rows) i (now output) at ⌝ }
     ensures { λ r. ⌜ ((n : Next) → TriedIs (anyValues n) level (now (pool .entry)) (now (rows .entry)) i (now (output .entry)) at r (now (output .exit))) ⌝ }
 {
     let r = look_for(rows, pool, i, ANY_BYTES, level);
     if r.kind == 0 {
-        return text(rows, pool, i, ANY_TEXT, level, 0x14, output, at);
+        return text(rows, pool, i, ANY_TEXT, Rule::Note, level, 0x14, output, at);
     }
     let start = r.start;
     let end = r.end;

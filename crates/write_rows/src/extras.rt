@@ -7,6 +7,7 @@ use crate::any::any;
 use crate::lay::put;
 use table::codes::CLOSING;
 use table::kinds::EXTRA_KEY;
+use values::text::Rule;
 ghost use mathlib.Core.Bool.{Bool};
 ghost use Rattle.meaning.specs.Told.{Edition};
 ghost use Rattle.meaning.specs.Kinds.{extraKey};
@@ -57,7 +58,7 @@ fn some_extras(
     let mut i = from;
     let mut p = at;
     loop {
-        let t = text(rows, pool, i, EXTRA_KEY, level, code, output, p);
+        let t = text(rows, pool, i, EXTRA_KEY, Rule::Line, level, code, output, p);
         let Tried::To(q) = t else {
             return Advance::Go {
                 row: i,

@@ -5,6 +5,7 @@ use crate::ahead::text;
 use crate::lay::put;
 use table::kinds::OWN_REPRESENTATION;
 use table::kinds::STANDARD_REPRESENTATION;
+use values::text::Rule;
 ghost use Rattle.meaning.specs.Editions.{Next, representations};
 ghost use Rattle.write_rows.specs.Stages.{StageRequires, TriedIs};
 
@@ -16,7 +17,17 @@ pub fn representation(rows: &[u32], pool: &[u8], i: usize, output: &mut [u8], at
 {
     let r = look_for(rows, pool, i, STANDARD_REPRESENTATION, 0);
     if r.kind == 0 {
-        return text(rows, pool, i, OWN_REPRESENTATION, 0, 0x00, output, at);
+        return text(
+            rows,
+            pool,
+            i,
+            OWN_REPRESENTATION,
+            Rule::Line,
+            0,
+            0x00,
+            output,
+            at,
+        );
     }
     let start = r.start;
     if r.end - start != 1 {

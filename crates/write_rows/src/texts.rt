@@ -1,10 +1,11 @@
-// Texts one behind the other, and a text that may be left out.
+// Texts one behind the other, and a text that may be left out: all of them are lines.
 use crate::advance::Onto;
 use crate::advance::Tried;
 use crate::ahead::text;
 use crate::lay::put;
 use table::codes::CLOSING;
 use table::codes::NO_CODE;
+use values::text::Rule;
 ghost use mathlib.Core.Bool.{Bool};
 ghost use Rattle.meaning.specs.Told.{Edition};
 ghost use Rattle.meaning.specs.Editions.{Room, State, state, noCode};
@@ -29,7 +30,7 @@ pub fn texts(
     let mut i = from;
     let mut p = at;
     loop {
-        let t = text(rows, pool, i, kind, level, NO_CODE, output, p);
+        let t = text(rows, pool, i, kind, Rule::Line, level, NO_CODE, output, p);
         let Tried::To(q) = t else {
             return Onto {
                 row: i,
@@ -57,7 +58,7 @@ pub fn optional(
     ensures { λ r. ⌜ ((edition : Edition) (room room₁ : Room) (single : Bool) → OptionalIn edition room room₁ kind code →
         Onward edition (now (pool .entry)) (now (rows .entry)) i (state room level single) (r .row) (state room₁ level single) (now (output .entry)) at (now (output .exit)) (r .at)) ⌝ }
 {
-    let t = text(rows, pool, i, kind, level, code, output, at);
+    let t = text(rows, pool, i, kind, Rule::Line, level, code, output, at);
     let Tried::To(p) = t else {
         return Onto { row: i, at: at };
     };

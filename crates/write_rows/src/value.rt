@@ -1,17 +1,20 @@
 // Whether the bytes that a row views are a value of a form.
 use values::Value;
+use values::text::Rule;
 ghost use mathlib.Core.Path.{_≡_};
 ghost use mathlib.Core.Bool.{true};
 ghost use mathlib.Core.List.{[]};
 ghost use Rattle.meaning.specs.Bytes.{textOk, numberOk, dateOk, dateChecks};
+ghost use Rattle.values.specs.Stages.{ruleOf};
 ghost use Rattle.values.specs.Dates.{reaching};
 
-// "Text: bytes 20 to FF." Answers whether all bytes are such: whether the reader's own run over them comes to their end.
-pub fn text_ok(bytes: &[u8]) -> bool
-    ensures { λ r. ⌜ r ≡ textOk (now (bytes .entry)) ⌝ }
+// "Text: bytes 20 to FF", and in notes line breaks. Answers whether the rule allows all bytes: whether the reader's own run over them
+// comes to their end.
+pub fn text_ok(bytes: &[u8], rule: Rule) -> bool
+    ensures { λ r. ⌜ r ≡ textOk (ruleOf rule) (now (bytes .entry)) ⌝ }
 {
     let end = bytes.len();
-    end <= values::text::run(bytes, end, 0)
+    end <= values::text::run(bytes, end, 0, rule)
 }
 
 // Answers whether the bytes are a number: whether the reader's own stage takes all of them.

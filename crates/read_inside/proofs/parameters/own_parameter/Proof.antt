@@ -3,6 +3,7 @@ use mathlib.Core.Bool.{false}
 use mathlib.Core.Path.{_∙_, refl}
 use native.Mathlib.Omega.{arith}
 use borrow.Author.Needs.{needs}
+use Rattle.meaning.specs.Bytes.{note}
 use Rattle.meaning.specs.Editions.{outer, ownText, parameters, state}
 use Rattle.meaning.specs.Headers.{read}
 use Rattle.meaning.specs.Kinds.{ownValue}
@@ -44,7 +45,7 @@ returns-2 c t =
     let read = c .before .before .before .before .before .before .before .before .before .text .ensures t (state ownText 0 false) in
     let u = moved-to (c .before .before .before .before .before .key .given .1) read in
     begun (omega arith)
-    (went (c .before .before .before .before .before .key .given .1) read ∙ only-text (source t (a .s .now) (a .end)) _ _ _ (state ownText 0 false) ownValue (outer parameters) (value-look (t .edition)) refl refl)
+    (went (c .before .before .before .before .before .key .given .1) read ∙ only-text (source t (a .s .now) (a .end)) _ _ _ (state ownText 0 false) ownValue note (outer parameters) (value-look (t .edition)) refl refl)
     (c .before .before .text2 .ensures t (state parameters 0 false))
 
 pub own-parameter-spec : {M : Type 1} → statement M

@@ -3,6 +3,7 @@ use mathlib.Core.Bool.{false}
 use mathlib.Core.Path.{refl}
 use native.Mathlib.Omega.{arith}
 use borrow.Author.Needs.{needs}
+use Rattle.meaning.specs.Bytes.{line, note}
 use Rattle.meaning.specs.Editions.{agentList, behaviourValue, inner, innerOne, moves, oneAgent, outer, own, ownText, parameterRepresentation, parameters, receivedBegins, shared, state}
 use Rattle.meaning.specs.Kinds.{behaviourOpens, comments, fromOpens, ownKey, payloadEncoding, payloadLength, receiverOpens, toOpens}
 use Rattle.meaning.specs.Reading.{find, look}
@@ -73,7 +74,7 @@ unfolding look find moves shared own
 returns c =
     let a = c .before .before .before .before .before .before .before .args in
     begun (omega arith)
-    (text-at (source (toldOf (a .told)) (a .s .now) (a .end)) (a .at) (a .n) (a .rows .now) (a .b) (c .before .before .before .before .before .before .before .pre .1) 0x00 (c .before .before .before .before .match .keys1) (omega arith) (state parameters 0 false) ownKey (outer ownText) refl refl)
+    (text-at (source (toldOf (a .told)) (a .s .now) (a .end)) (a .at) (a .n) (a .rows .now) (a .b) (c .before .before .before .before .before .before .before .pre .1) 0x00 (c .before .before .before .before .match .keys1) (omega arith) (state parameters 0 false) ownKey line (outer ownText) refl refl)
     (c .before .before .own-parameter .ensures (toldOf (a .told)))
 
 same-length-2 : tie.Need-same-length-2
@@ -117,7 +118,7 @@ unfolding look find moves shared own
 returns-5 c =
     let a = c .before .before .before .before .before .before .before .args in
     begun (omega arith)
-    (text-at (source (toldOf (a .told)) (a .s .now) (a .end)) (a .at) (a .n) (a .rows .now) (a .b) (c .before .before .before .before .before .before .before .pre .1) 0x05 (c .before .before .before .before .match .keys5) (omega arith) (state parameters 0 false) comments (outer parameters) refl refl)
+    (text-at (source (toldOf (a .told)) (a .s .now) (a .end)) (a .at) (a .n) (a .rows .now) (a .b) (c .before .before .before .before .before .before .before .pre .1) 0x05 (c .before .before .before .before .match .keys5) (omega arith) (state parameters 0 false) comments note (outer parameters) refl refl)
     (c .before .before .text .ensures (toldOf (a .told)) (state parameters 0 false))
 
 same-length-6 : tie.Need-same-length-6
@@ -139,7 +140,7 @@ unfolding look find moves shared own
 returns-7 c =
     let a = c .before .before .before .before .before .before .before .args in
     begun (omega arith)
-    (text-at (source (toldOf (a .told)) (a .s .now) (a .end)) (a .at) (a .n) (a .rows .now) (a .b) (c .before .before .before .before .before .before .before .pre .1) 0x07 (c .before .before .before .before .match .keys7) (omega arith) (state parameters 0 false) payloadEncoding (outer parameters) refl refl)
+    (text-at (source (toldOf (a .told)) (a .s .now) (a .end)) (a .at) (a .n) (a .rows .now) (a .b) (c .before .before .before .before .before .before .before .pre .1) 0x07 (c .before .before .before .before .match .keys7) (omega arith) (state parameters 0 false) payloadEncoding line (outer parameters) refl refl)
     (c .before .before .text2 .ensures (toldOf (a .told)) (state parameters 0 false))
 
 same-length-8 : tie.Need-same-length-8

@@ -8,6 +8,7 @@ use lib.Dec.{ltb}
 use lib.ListN.{length}
 use borrow.Author.Needs.{needs}
 use borrow.Author.Tests.{le-ltb, lt-ltb}
+use Rattle.meaning.specs.Bytes.{line}
 use Rattle.meaning.specs.Editions.{State, afterAddresses, afterName, afterResolvers, agentList, deeper, listEnds, on_▸_▸_▸_, state, stay, text}
 use Rattle.meaning.specs.Kinds.{agentName, resolversOpen}
 use Rattle.meaning.specs.Reading.{levelMost}
@@ -90,7 +91,7 @@ module _ (t : ℕ) where
   went-on c = moved-to (c .named .given .1) (c .before .before .before .before .name-and-addresses .ensures (told B) true)
 
   -- behind the name and the addresses
-  named : (c : After-names) (single : Bool) → textAt (source (toldOf (c .before .before .before .before .before .before .before .before .args .told)) (c .before .before .before .before .before .before .before .before .args .s .now) (c .before .before .before .before .before .before .before .before .args .end)) agentName (c .before .before .before .before .before .before .before .before .args .level) (state afterName (c .before .before .before .before .before .before .before .before .args .level) single) (c .before .before .before .before .before .before .before .before .args .at) (c .before .before .before .before .before .before .before .before .args .n) (c .before .before .before .before .before .before .before .before .args .rows .now)
+  named : (c : After-names) (single : Bool) → textAt (source (toldOf (c .before .before .before .before .before .before .before .before .args .told)) (c .before .before .before .before .before .before .before .before .args .s .now) (c .before .before .before .before .before .before .before .before .args .end)) agentName line (c .before .before .before .before .before .before .before .before .args .level) (state afterName (c .before .before .before .before .before .before .before .before .args .level) single) (c .before .before .before .before .before .before .before .before .args .at) (c .before .before .before .before .before .before .before .before .args .n) (c .before .before .before .before .before .before .before .before .args .rows .now)
       ≡ runAt (source (toldOf (c .before .before .before .before .before .before .before .before .args .told)) (c .before .before .before .before .before .before .before .before .args .s .now) (c .before .before .before .before .before .before .before .before .args .end)) (state afterAddresses (c .before .before .before .before .before .before .before .before .args .level) single) (c .named .given .0 .0) (c .named .given .0 .1 .0) (c .before .before .before .before .name-and-addresses .last .1 .1 .1 .0)
   named c single = went (c .named .given .1) (c .before .before .before .before .name-and-addresses .ensures (toldOf (c .before .before .before .before .before .before .before .before .args .told)) single)
 
@@ -101,7 +102,7 @@ module _ (t : ℕ) where
   -- the list of resolvers, a level down
   resolved : (c : After-resolvers) (single : Bool)
       → Ran (source (toldOf (c .before .before .before .before .before .before .before .before .before .before .before .before .before .before .before .before .before .args .told)) (c .before .before .before .before .before .before .before .before .before .before .before .before .before .before .before .before .before .args .s .now) (c .before .before .before .before .before .before .before .before .before .before .before .before .before .before .before .before .before .args .end)) (c .before .before .before .before .before .before .before .before .before .named .given .0 .0 + 1)
-      (textAt (source (toldOf (c .before .before .before .before .before .before .before .before .before .before .before .before .before .before .before .before .before .args .told)) (c .before .before .before .before .before .before .before .before .before .before .before .before .before .before .before .before .before .args .s .now) (c .before .before .before .before .before .before .before .before .before .before .before .before .before .before .before .before .before .args .end)) agentName (c .before .before .before .before .before .before .before .before .before .before .before .before .before .before .before .before .before .args .level) (state afterName (c .before .before .before .before .before .before .before .before .before .before .before .before .before .before .before .before .before .args .level) single) (c .before .before .before .before .before .before .before .before .before .before .before .before .before .before .before .before .before .args .at) (c .before .before .before .before .before .before .before .before .before .before .before .before .before .before .before .before .before .args .n) (c .before .before .before .before .before .before .before .before .before .before .before .before .before .before .before .before .before .args .rows .now))
+      (textAt (source (toldOf (c .before .before .before .before .before .before .before .before .before .before .before .before .before .before .before .before .before .args .told)) (c .before .before .before .before .before .before .before .before .before .before .before .before .before .before .before .before .before .args .s .now) (c .before .before .before .before .before .before .before .before .before .before .before .before .before .before .before .before .before .args .end)) agentName line (c .before .before .before .before .before .before .before .before .before .before .before .before .before .before .before .before .before .args .level) (state afterName (c .before .before .before .before .before .before .before .before .before .before .before .before .before .before .before .before .before .args .level) single) (c .before .before .before .before .before .before .before .before .before .before .before .before .before .before .before .before .before .args .at) (c .before .before .before .before .before .before .before .before .before .before .before .before .before .before .before .before .before .args .n) (c .before .before .before .before .before .before .before .before .before .before .before .before .before .before .before .before .before .args .rows .now))
       (c .read-list .result) (state afterResolvers (c .before .before .before .before .before .before .before .before .before .before .before .before .before .before .before .before .before .args .level) single) (c .read-list .last .1 .1 .1 .0)
   resolved c single =
       let p = c .before .before .before .before .before .before .before .peek in
@@ -191,7 +192,7 @@ module _ (t : ℕ) where
       let deep : ltb levelMost (a .level) ≡ false = le-ltb levelMost (a .level) (omega arith) in
       arrives (stays-in-list (a .level) single h)
       (begun (omega arith)
-      (l .inv .4 single h ∙ text-at (source (toldOf (a .told)) (a .s .now) (a .end)) (l .here) (l .count) (l .rows) (p .result) (p .ensures) 0x02 (c .before .before .before .if2 .left) (omega arith) (state agentList (a .level) single) agentName (stay afterName) (list-name _) deep)
+      (l .inv .4 single h ∙ text-at (source (toldOf (a .told)) (a .s .now) (a .end)) (l .here) (l .count) (l .rows) (p .result) (p .ensures) 0x02 (c .before .before .before .if2 .left) (omega arith) (state agentList (a .level) single) agentName line (stay afterName) (list-name _) deep)
       (c .read-agent .ensures single))
 
 read-list-loop-holds : (t : ℕ) → read-list-lts.Need-loop-holds (list-calls t) (read-list-at t) read-list.Post read-list-Inv-loop read-list-μ-loop
@@ -219,7 +220,7 @@ read-list-returns-3 t c single h =
     let l = c .before .before .before .before .loop in
     let a = c .before .before .before .before .before .before .before .args in
     let deep : ltb levelMost (a .level) ≡ true = lt-ltb levelMost (a .level) (omega arith) in
-    refusing (l .inv .4 single h ∙ too-deep-at (source (toldOf (a .told)) (a .s .now) (a .end)) (l .here) (l .count) (l .rows) (p .result) (p .ensures) 0x02 (c .before .if2 .left) (omega arith) (state agentList (a .level) single) (on 0x02 ▸ agentName ▸ text ▸ stay afterName) (list-name _) deep)
+    refusing (l .inv .4 single h ∙ too-deep-at (source (toldOf (a .told)) (a .s .now) (a .end)) (l .here) (l .count) (l .rows) (p .result) (p .ensures) 0x02 (c .before .if2 .left) (omega arith) (state agentList (a .level) single) (on 0x02 ▸ agentName ▸ text line ▸ stay afterName) (list-name _) deep)
 
 read-list-read-agent-requires : (t : ℕ) → read-list-lts.Need-read-agent-requires (list-calls t) (read-list-at t) read-list.Post read-list-Inv-loop read-list-μ-loop
 read-list-read-agent-requires t c κs =

@@ -3,6 +3,7 @@ use mathlib.Core.Bool.{true}
 use mathlib.Core.Path.{refl}
 use native.Mathlib.Omega.{arith}
 use borrow.Author.Needs.{needs}
+use Rattle.meaning.specs.Bytes.{line}
 use Rattle.meaning.specs.Editions.{afterName, oneAgent, state, stay}
 use Rattle.meaning.specs.Kinds.{agentName}
 use Rattle.laws.specs.AgentRooms.{one-name, one-none}
@@ -39,7 +40,7 @@ returns-2 c =
     let a = c .before .before .before .before .before .before .before .before .args in
     let p = c .before .before .before .before .before .peek in
     begun (omega arith)
-    (text-at (source (toldOf (a .told)) (a .s .now) (a .end)) (a .at) (a .n) (a .rows .now) (p .result) (p .ensures) 0x02 (c .before .before .before .before .if1 .left) (omega arith) (state oneAgent 1 true) agentName (stay afterName) (one-name _) refl)
+    (text-at (source (toldOf (a .told)) (a .s .now) (a .end)) (a .at) (a .n) (a .rows .now) (p .result) (p .ensures) 0x02 (c .before .before .before .before .if1 .left) (omega arith) (state oneAgent 1 true) agentName line (stay afterName) (one-name _) refl)
     (c .before .before .read-agent .ensures true)
 
 pub read-one-spec : {M : Type 1} → statement M

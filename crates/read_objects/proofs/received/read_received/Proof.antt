@@ -1,8 +1,9 @@
--- `received::read_received`: a text with no code, the date, and what stands behind it.
+-- `received::read_received`: a line with no code, the date, and what stands behind it.
 use mathlib.Core.Bool.{false}
 use mathlib.Core.Path.{refl}
 use native.Mathlib.Omega.{arith}
 use borrow.Author.Needs.{needs}
+use Rattle.meaning.specs.Bytes.{line}
 use Rattle.meaning.specs.Editions.{afterDate, inner, receivedBegins, receivedDate, state}
 use Rattle.meaning.specs.Kinds.{receivedBy}
 use Rattle.laws.specs.Pouring.{ready-to, source}
@@ -17,7 +18,7 @@ use Rattle.read_objects.proofs.received.read_received.Tie as tie
 by-read : (c : tie.After-text) → StateRead (toldOf (c .before .before .before .before .args .told)) (c .before .before .before .before .args .s .now) (c .before .before .before .before .args .end) (state receivedBegins 0 false) (c .before .before .before .before .args .at) (c .before .before .before .before .args .n) (c .before .before .before .before .args .rows .now) (c .text .result) (state receivedDate 1 false) (c .text .last .1 .1 .1 .0)
 by-read c =
     let a = c .before .before .before .before .args in
-    begun (omega arith) (only-text (source (toldOf (a .told)) (a .s .now) (a .end)) (a .at) (a .n) (a .rows .now) (state receivedBegins 0 false) receivedBy (inner receivedDate) (by-look _) refl refl) (c .text .ensures (toldOf (a .told)) (state receivedDate 1 false))
+    begun (omega arith) (only-text (source (toldOf (a .told)) (a .s .now) (a .end)) (a .at) (a .n) (a .rows .now) (state receivedBegins 0 false) receivedBy line (inner receivedDate) (by-look _) refl refl) (c .text .ensures (toldOf (a .told)) (state receivedDate 1 false))
 
 date-read : (c : tie.After-date) → StateRead (toldOf (c .before .before .before .before .before .before .before .before .before .before .before .args .told)) (c .before .before .before .before .before .before .before .before .before .before .before .args .s .now) (c .before .before .before .before .before .before .before .before .before .before .before .args .end) (state receivedBegins 0 false) (c .before .before .before .before .before .before .before .before .before .before .before .args .at) (c .before .before .before .before .before .before .before .before .before .before .before .args .n) (c .before .before .before .before .before .before .before .before .before .before .before .args .rows .now) (c .date .result) (state afterDate 1 false) (c .date .last .1 .1 .1 .0)
 date-read c =

@@ -1,9 +1,10 @@
--- `texts::optional`: without its code the state is as the one behind the text.
+-- `texts::optional`: without its code the state is as the one behind the line.
 use Prim.Native.Nat.{_+_, _<_, ℕ}
 use mathlib.Core.Path.{_∙_, ap}
 use native.Mathlib.Nat.{le-refl}
 use native.Mathlib.Omega.{arith}
 use borrow.Author.Needs.{needs}
+use Rattle.meaning.specs.Bytes.{line}
 use Rattle.meaning.specs.Editions.{go}
 use Rattle.laws.specs.Pouring.{not-deep, source, textAt}
 use Rattle.laws.specs.ReadAt.{alike-at, text-at}
@@ -40,8 +41,8 @@ returns-2 c t q d h =
     let i = source t (a .s .now) (a .end) in
     arrives (h .leads)
     (begun (omega arith)
-    (text-at i (a .at) (a .n) (a .rows .now) (p .result) (p .ensures) (a .code) (c .before .before .before .before .if1 .left) (c .before .before .before .before .before .before .before .before .pre .1) q (a .kind) (h .out) (h .has) (not-deep q (a .kind) (h .flat))
-    ∙ ap (λ (x : ℕ). textAt i (a .kind) x (go (h .out) q) (a .at + 1) (a .n) (a .rows .now)) (h .deep))
+    (text-at i (a .at) (a .n) (a .rows .now) (p .result) (p .ensures) (a .code) (c .before .before .before .before .if1 .left) (c .before .before .before .before .before .before .before .before .pre .1) q (a .kind) line (h .out) (h .has) (not-deep q (a .kind) (h .flat))
+    ∙ ap (λ (x : ℕ). textAt i (a .kind) line x (go (h .out) q) (a .at + 1) (a .n) (a .rows .now)) (h .deep))
     (c .before .before .text .ensures t (go (h .out) q)))
 
 pub optional-spec : {M : Type 1} → statement M

@@ -7,6 +7,7 @@ use native.Mathlib.Nat.{le-refl}
 use native.Mathlib.Omega.{arith}
 use lib.ListN.{length}
 use borrow.Author.Needs.{needs}
+use Rattle.meaning.specs.Bytes.{line}
 use Rattle.meaning.specs.Editions.{State, afterResolvers, agentExtra, go, state}
 use Rattle.meaning.specs.Kinds.{extraKey}
 use Rattle.meaning.specs.Told.{told}
@@ -43,9 +44,9 @@ once-more c q any d h =
     let small = code-below (p .ensures) (c .before .before .if2 .left) (c .before .before .before .before .before .before .before .before .pre .1) .1 in
     begun (omega arith)
     (l .inv .4 q any d h
-    ∙ text-at i (l .here) (l .count) (l .rows) (p .result) (p .ensures) (a .code) (c .before .before .if2 .left) small q extraKey (h .key) (h .more small) refl
-    ∙ ap (λ (x : ℕ). textAt i extraKey x (go (h .key) q) (l .here + 1) (l .count) (l .rows)) (h .deep)
-    ∙ ap (λ (x : State). textAt i extraKey (a .level) x (l .here + 1) (l .count) (l .rows)) (h .keyed))
+    ∙ text-at i (l .here) (l .count) (l .rows) (p .result) (p .ensures) (a .code) (c .before .before .if2 .left) small q extraKey line (h .key) (h .more small) refl
+    ∙ ap (λ (x : ℕ). textAt i extraKey line x (go (h .key) q) (l .here + 1) (l .count) (l .rows)) (h .deep)
+    ∙ ap (λ (x : State). textAt i extraKey line (a .level) x (l .here + 1) (l .count) (l .rows)) (h .keyed))
     (c .extra .ensures any q (h .any-value))
 
 loop-holds : tie.Need-loop-holds Inv-loop μ-loop

@@ -1,4 +1,4 @@
--- `texts::texts`: each turn reads one text and is in the same state again; the 01 leads out.
+-- `texts::texts`: each turn reads one line and is in the same state again; the 01 leads out.
 use Prim.Native.Nat.{_+_, _-_, _<_, _≤_, ℕ}
 use mathlib.Core.Bool.{false}
 use mathlib.Core.Path.{_∙_, _≡_, ap, refl}
@@ -6,6 +6,7 @@ use native.Mathlib.Nat.{le-refl}
 use native.Mathlib.Omega.{arith}
 use lib.ListN.{length}
 use borrow.Author.Needs.{needs}
+use Rattle.meaning.specs.Bytes.{line}
 use Rattle.meaning.specs.Editions.{State, go, parameters, state}
 use Rattle.meaning.specs.Headers.{read}
 use Rattle.meaning.specs.Told.{B, Told, told}
@@ -25,7 +26,7 @@ Inv-loop s end at rows₀ n kind level i₀ m₀ rows i m =
 abbrev μ-loop : tie.MeasureT-loop
 μ-loop s end at rows₀ n kind level i₀ m₀ rows i m = end - i
 
--- one more text
+-- one more line
 once-more : (c : tie.After-text Inv-loop μ-loop) (t : Told) (q d : State) → Texts t q d (c .before .before .before .before .before .before .before .args .kind) (c .before .before .before .before .before .before .before .args .level)
     → Ran (source t (c .before .before .before .before .before .before .before .args .s .now) (c .before .before .before .before .before .before .before .args .end)) (c .before .before .before .before .loop .here + 1)
     (runAt (source t (c .before .before .before .before .before .before .before .args .s .now) (c .before .before .before .before .before .before .before .args .end)) q (c .before .before .before .before .before .before .before .args .at) (c .before .before .before .before .before .before .before .args .n) (c .before .before .before .before .before .before .before .args .rows .now)) (c .text .result) q (c .text .last .1 .1 .1 .0)
@@ -37,8 +38,8 @@ once-more c t q d h =
     arrives (h .stays)
     (begun (le-refl _)
     (l .inv .4 t q d h
-    ∙ uncoded i (l .here) (l .count) (l .rows) (p .result) (p .ensures) q (a .kind) (h .again) (h .more (p .result) (c .before .before .if1 .left)) (not-deep q (a .kind) (h .flat)) (h .ajar)
-    ∙ ap (λ (x : ℕ). textAt i (a .kind) x (go (h .again) q) (l .here) (l .count) (l .rows)) (h .deep))
+    ∙ uncoded i (l .here) (l .count) (l .rows) (p .result) (p .ensures) q (a .kind) line (h .again) (h .more (p .result) (c .before .before .if1 .left)) (not-deep q (a .kind) (h .flat)) (h .ajar)
+    ∙ ap (λ (x : ℕ). textAt i (a .kind) line x (go (h .again) q) (l .here) (l .count) (l .rows)) (h .deep))
     (c .text .ensures t (go (h .again) q)))
 
 loop-holds : tie.Need-loop-holds Inv-loop μ-loop

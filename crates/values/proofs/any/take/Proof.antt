@@ -5,7 +5,7 @@ use Rattle.meaning.specs.Reading.{look, find, takeValue}
 use Rattle.values.specs.Stages.{ended}
 use Rattle.values.proofs.Coded.{code-unknown, code-before}
 use Rattle.meaning.specs.Editions.{text, block}
-use Rattle.meaning.specs.Bytes.{oneByte, twoBytes, fourBytes}
+use Rattle.meaning.specs.Bytes.{note, oneByte, twoBytes, fourBytes}
 use Rattle.values.proofs.Tables.{no-any}
 use Rattle.values.proofs.any.take.Statement.{statement}
 use Rattle.values.proofs.any.take.Tie as tie
@@ -35,7 +35,7 @@ returns-2 : tie.Need-returns-2
 unfolding takeValue look find
 returns-2 c =
     let at-if1 = c .before .before .before in
-    code-before (at-if1 .if1 .left) (sym (c .before .match .keys1)) text (record { coded = refl; rowed = refl; flat = refl }) (λ n. refl) (c .take .ensures)
+    code-before (at-if1 .if1 .left) (sym (c .before .match .keys1)) (text note) (record { coded = refl; rowed = refl; flat = refl }) (λ n. refl) (c .take .ensures)
 
 returns-3 : tie.Need-returns-3
 unfolding takeValue look find

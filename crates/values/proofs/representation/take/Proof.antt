@@ -7,6 +7,7 @@ use Rattle.values.specs.Answers.{answered}
 use Rattle.meaning.specs.Reading.{look, find, takeValue}
 use Rattle.values.specs.Stages.{ended}
 use Rattle.values.proofs.Coded.{code-unknown, code-known, code-before}
+use Rattle.meaning.specs.Bytes.{line}
 use Rattle.meaning.specs.Editions.{text, itself}
 use Rattle.values.proofs.Tables.{standard, no-representation}
 use Rattle.values.proofs.representation.take.Statement.{statement}
@@ -28,7 +29,7 @@ returns-2 : tie.Need-returns-2
 unfolding takeValue look find
 returns-2 c t =
     let at-if1 = c .before .before .before in
-    code-before (at-if1 .if1 .left) (sym (c .before .match .keys1)) text (record { coded = refl; rowed = refl; flat = refl }) (λ n. refl) (c .take .ensures)
+    code-before (at-if1 .if1 .left) (sym (c .before .match .keys1)) (text line) (record { coded = refl; rowed = refl; flat = refl }) (λ n. refl) (c .take .ensures)
 
 returns-3 : tie.Need-returns-3
 unfolding takeValue

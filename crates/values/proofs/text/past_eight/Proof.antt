@@ -1,5 +1,5 @@
 -- `text::past_eight`: a run of eight, or none.
-use Rattle.values.proofs.Texts.{run-skipped, skipped-none}
+use Rattle.values.proofs.Texts.{line-skipped, skipped-none}
 use mathlib.Core.Path.{_∙_, sym}
 use native.Mathlib.Omega.{arith}
 use borrow.Author.Needs.{needs}
@@ -19,7 +19,7 @@ returns : tie.Need-returns
 returns c =
     let entry = c .before .before .before .before in
     let a = entry .args in
-    run-skipped (a .s .now) (a .end) (entry .pre .whole) (a .at) 7 (omega (arith, c .before .before .if1 .taken)) (sym (c .before .eight .ensures) ∙ c .if2 .taken)
+    line-skipped (a .s .now) (a .end) (entry .pre .whole) (a .at) 7 (omega (arith, c .before .before .if1 .taken)) (sym (c .before .eight .ensures) ∙ c .if2 .taken)
 
 returns-2 : tie.Need-returns-2
 returns-2 c = let entry = c .before .before .before .before in skipped-none (entry .args .s .now) (entry .args .end) (entry .args .at) (entry .pre .before)

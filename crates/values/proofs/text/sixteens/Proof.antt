@@ -2,15 +2,15 @@
 use Prim.Native.Nat.{ℕ, _-_}
 use mathlib.Core.Path.{_≡_, ap, sym, _∙_}
 use native.Mathlib.Omega.{arith}
-use Rattle.meaning.specs.Bytes.{takeText}
+use Rattle.meaning.specs.Bytes.{Rule, line, takeText}
 use Rattle.laws.specs.From.{from}
 use Rattle.values.specs.Stages.{span, Skipped}
-use Rattle.values.proofs.Texts.{text-runs}
+use Rattle.values.proofs.Texts.{line-in, text-runs}
 use Rattle.values.proofs.text.sixteens.Statement.{statement}
 use Rattle.values.proofs.text.sixteens.Tie as tie
 
 abbrev Inv-loop : tie.InvT-loop
-Inv-loop s end at i₀ i = Skipped s end at i
+Inv-loop s end at i₀ i = (rule : Rule) → Skipped rule s end at i
 
 abbrev μ-loop : tie.MeasureT-loop
 μ-loop s end at i₀ i = end - i
@@ -19,10 +19,10 @@ loop-holds : tie.Need-loop-holds Inv-loop μ-loop
 loop-holds c =
     let a = c .before .args in
     let q : 0 ≡ a .at - a .at = omega arith in
-    record { inside = omega arith; before = c .before .pre .before; is = ap (λ (x : ℕ). span x (takeText (from (a .s .now) (a .at) (a .end)))) q }
+    λ rule. record { inside = omega arith; before = c .before .pre .before; is = ap (λ (x : ℕ). span x (takeText rule (from (a .s .now) (a .at) (a .end)))) q }
 
 sub-loop : tie.Need-sub-loop Inv-loop μ-loop
-sub-loop c = omega arith
+sub-loop c = c .loop .inv line .before
 
 sixteen-requires : tie.Need-sixteen-requires Inv-loop μ-loop
 sixteen-requires c κs = omega (arith, c .before .before .before .pre .whole)
@@ -39,10 +39,11 @@ loop-again c =
     let at-loop = c .before .before .before in
     let l = at-loop .loop in
     let a = start .args in
-    record {
+    let here = l .inv line in
+    λ rule. record {
       inside = omega arith;
       before = omega arith;
-      is = l .inv .is ∙ text-runs (a .s .now) (a .end) (start .pre .whole) (a .at) (l .i) 15 (l .inv .inside) (omega arith) (sym (c .before .sixteen .ensures) ∙ c .if1 .taken);
+      is = l .inv rule .is ∙ text-runs line rule (line-in rule) (a .s .now) (a .end) (start .pre .whole) (a .at) (l .i) 15 (here .inside) (omega arith) (sym (c .before .sixteen .ensures) ∙ c .if1 .taken);
     }
 
 returns : tie.Need-returns Inv-loop μ-loop

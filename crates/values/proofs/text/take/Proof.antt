@@ -1,6 +1,7 @@
 -- `text::take`: where the run stops, the text's end, a byte that is no text, or nothing more.
 use mathlib.Core.Path.{_∙_}
 use native.Mathlib.Omega.{arith}
+use Rattle.values.specs.Stages.{ruleOf}
 use Rattle.values.specs.Answers.{answered, refuses}
 use Rattle.values.proofs.Texts.{text-stops, text-wrong, text-ends}
 use borrow.Author.Needs.{needs}
@@ -16,16 +17,16 @@ returns c =
     let a = entry .args in
     let i = c .before .run .result in
     let r = c .before .run .ensures in
-    refuses (r .skipped .is ∙ text-ends (a .s .now) (a .end) (entry .pre .whole) (a .at) i (r .skipped .inside) (omega (arith, r .skipped .before, c .if1 .taken))) (r .skipped .before)
+    refuses (r .skipped .is ∙ text-ends (ruleOf (a .rule)) (a .s .now) (a .end) (entry .pre .whole) (a .at) i (r .skipped .inside) (omega (arith, r .skipped .before, c .if1 .taken))) (r .skipped .before)
 
 shared-slice-read-if2 : tie.Need-shared-slice-read-if2
 shared-slice-read-if2 c = search needs
 
-sub-t9 : tie.Need-sub-t9
-sub-t9 c = search needs
+sub-length : tie.Need-sub-length
+sub-length c = search needs
 
-add-t10 : tie.Need-add-t10
-add-t10 c = search needs
+add-after : tie.Need-add-after
+add-after c = search needs
 
 returns-2 : tie.Need-returns-2
 returns-2 c =
@@ -33,7 +34,7 @@ returns-2 c =
     let a = entry .args in
     let i = c .before .before .before .run .result in
     let r = c .before .before .before .run .ensures in
-    answered (r .skipped .is ∙ text-stops (a .s .now) (a .end) (entry .pre .whole) (a .at) i (r .skipped .inside) (c .before .before .if1 .left) (c .if2 .taken)) (omega (arith, r .skipped .inside)) (omega arith) (omega (arith, r .skipped .inside)) (omega (arith, c .before .before .if1 .left))
+    answered (r .skipped .is ∙ text-stops (ruleOf (a .rule)) (a .s .now) (a .end) (entry .pre .whole) (a .at) i (r .skipped .inside) (c .before .before .if1 .left) (c .if2 .taken)) (omega (arith, r .skipped .inside)) (omega arith) (omega (arith, r .skipped .inside)) (omega (arith, c .before .before .if1 .left))
 
 returns-3 : tie.Need-returns-3
 returns-3 c =
@@ -41,9 +42,9 @@ returns-3 c =
     let a = entry .args in
     let i = c .before .before .before .run .result in
     let r = c .before .before .before .run .ensures in
-    refuses (r .skipped .is ∙ text-wrong (a .s .now) (a .end) (entry .pre .whole) (a .at) i (r .skipped .inside) (c .before .before .if1 .left) (c .if2 .left) (r .stops (c .before .before .if1 .left))) (r .skipped .before)
+    refuses (r .skipped .is ∙ text-wrong (ruleOf (a .rule)) (a .s .now) (a .end) (entry .pre .whole) (a .at) i (r .skipped .inside) (c .before .before .if1 .left) (c .if2 .left) (r .stops (c .before .before .if1 .left))) (r .skipped .before)
 
 pub take-spec : {M : Type 1} → statement M
 take-spec =
     tie.close
-    (tie.spec run-requires returns shared-slice-read-if2 sub-t9 add-t10 returns-2 returns-3)
+    (tie.spec run-requires returns shared-slice-read-if2 sub-length add-after returns-2 returns-3)

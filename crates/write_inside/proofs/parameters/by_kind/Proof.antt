@@ -1,4 +1,5 @@
 -- `parameters::by_kind`: each kind that begins a parameter, those that its code leads to, and all others.
+use Rattle.meaning.specs.Bytes.{line, note}
 use Rattle.meaning.specs.Editions.{ownText, behaviourValue, parameters, outer, text, number, opens, on_▸_▸_▸_}
 use Rattle.meaning.specs.Kinds.{standardRepresentation, ownRepresentation, receivedBy, behaviourOpens, comments, encryptedOpens, fromOpens, ownKey, payloadEncoding, payloadLength, receiverOpens, toOpens}
 use Rattle.table.specs.Told.{editionOf}
@@ -110,7 +111,7 @@ same-length-7 c = search needs
 returns-7 : tie.Need-returns-7
 returns-7 c =
     let a = c .before .before .before .before .before .before .before .before .before .before .args in
-    found-kind (editionOf (a .edition)) _ _ _ comments (c .before .before .before .before .before .before .look-ahead .ensures) (c .before .before .before .before .before .match .keys7) refl _ _ ((on 0x05 ▸ comments ▸ text ▸ outer parameters) ∷ []) (comments-first (editionOf (a .edition))) (c .single .result) _ (after-single (editionOf (a .edition)) _ _ _ (on 0x05 ▸ comments ▸ text ▸ outer parameters) _ _ (c .before .before .before .text .result) _ (comments-first (editionOf (a .edition))) refl refl (c .before .before .before .text .ensures (outer parameters)) (c .single .ensures))
+    found-kind (editionOf (a .edition)) _ _ _ comments (c .before .before .before .before .before .before .look-ahead .ensures) (c .before .before .before .before .before .match .keys7) refl _ _ ((on 0x05 ▸ comments ▸ text note ▸ outer parameters) ∷ []) (comments-first (editionOf (a .edition))) (c .single .result) _ (after-single (editionOf (a .edition)) _ _ _ (on 0x05 ▸ comments ▸ text note ▸ outer parameters) _ _ (c .before .before .before .text .result) _ (comments-first (editionOf (a .edition))) refl refl (c .before .before .before .text .ensures (outer parameters)) (c .single .ensures))
 
 same-length-8 : tie.Need-same-length-8
 same-length-8 c = search needs
@@ -126,7 +127,7 @@ same-length-9 c = search needs
 returns-9 : tie.Need-returns-9
 returns-9 c =
     let a = c .before .before .before .before .before .before .before .before .before .before .args in
-    found-kind (editionOf (a .edition)) _ _ _ payloadEncoding (c .before .before .before .before .before .before .look-ahead .ensures) (c .before .before .before .before .before .match .keys9) refl _ _ ((on 0x07 ▸ payloadEncoding ▸ text ▸ outer parameters) ∷ []) (encoding-first (editionOf (a .edition))) (c .single3 .result) _ (after-single (editionOf (a .edition)) _ _ _ (on 0x07 ▸ payloadEncoding ▸ text ▸ outer parameters) _ _ (c .before .before .before .text2 .result) _ (encoding-first (editionOf (a .edition))) refl refl (c .before .before .before .text2 .ensures (outer parameters)) (c .single3 .ensures))
+    found-kind (editionOf (a .edition)) _ _ _ payloadEncoding (c .before .before .before .before .before .before .look-ahead .ensures) (c .before .before .before .before .before .match .keys9) refl _ _ ((on 0x07 ▸ payloadEncoding ▸ text line ▸ outer parameters) ∷ []) (encoding-first (editionOf (a .edition))) (c .single3 .result) _ (after-single (editionOf (a .edition)) _ _ _ (on 0x07 ▸ payloadEncoding ▸ text line ▸ outer parameters) _ _ (c .before .before .before .text2 .result) _ (encoding-first (editionOf (a .edition))) refl refl (c .before .before .before .text2 .ensures (outer parameters)) (c .single3 .ensures))
 
 same-length-10 : tie.Need-same-length-10
 same-length-10 c = search needs
@@ -142,7 +143,7 @@ same-length-11 c = search needs
 returns-11 : tie.Need-returns-11
 returns-11 c =
     let a = c .before .before .before .before .before .before .before .before .before .args in
-    found-kind (editionOf (a .edition)) _ _ _ ownKey (c .before .before .before .before .before .look-ahead .ensures) (c .before .before .before .before .match .keys11) refl _ _ (on 0x00 ▸ ownKey ▸ text ▸ outer ownText ∷ []) (own-first (editionOf (a .edition))) (c .before .before .own-parameter .result) _ (c .before .before .own-parameter .ensures (editionOf (a .edition)))
+    found-kind (editionOf (a .edition)) _ _ _ ownKey (c .before .before .before .before .before .look-ahead .ensures) (c .before .before .before .before .match .keys11) refl _ _ (on 0x00 ▸ ownKey ▸ text line ▸ outer ownText ∷ []) (own-first (editionOf (a .edition))) (c .before .before .own-parameter .result) _ (c .before .before .own-parameter .ensures (editionOf (a .edition)))
 
 same-length-12 : tie.Need-same-length-12
 same-length-12 c = search needs

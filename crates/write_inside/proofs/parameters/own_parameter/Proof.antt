@@ -3,6 +3,7 @@ use Rattle.meaning.specs.Memory.{roomOf}
 use Rattle.write_rows.specs.Onward.{tried-as, needed-is}
 use Rattle.write_rows.specs.Laying.{laid-layable}
 use Rattle.write_inside.proofs.Choosing.{after-first, parameter-row}
+use Rattle.meaning.specs.Bytes.{line}
 use Rattle.meaning.specs.Editions.{state, parameters, ownText, outer, text, on_▸_▸_▸_}
 use Rattle.meaning.specs.Kinds.{ownKey}
 use Rattle.write_inside.proofs.Rooms.{own-first, own-text}
@@ -52,7 +53,7 @@ same-length-2 c = search needs
 returns-2 : tie.Need-returns-2
 returns-2 c edition =
     let first = tried-as _ _ _ _ _ _ _ _ (c .before .before .before .before .before .before .before .t .given .1) (c .before .before .before .before .before .before .before .before .before .before .before .text .ensures (outer ownText)) in
-    after-first edition _ (c .before .before .before .before .before .before .before .before .before .before .before .before .before .before .before .before .pre .layable .small) (parameter-row edition _ _ (on 0x00 ▸ ownKey ▸ text ▸ outer ownText) (own-first edition) refl first) (c .before .needed .result) _
+    after-first edition _ (c .before .before .before .before .before .before .before .before .before .before .before .before .before .before .before .before .pre .layable .small) (parameter-row edition _ _ (on 0x00 ▸ ownKey ▸ text line ▸ outer ownText) (own-first edition) refl first) (c .before .needed .result) _
     (needed-is edition _ _ _ (state ownText 0 false) (own-text edition) _ _ (c .before .before .before .before .text2 .result) _ (c .before .before .before .before .text2 .ensures (outer parameters)) (c .before .needed .ensures)) (c .begun .ensures)
 
 pub own-parameter-spec : {M : Type 1} → statement M

@@ -1,7 +1,8 @@
--- `ahead::text`: no row of this kind and level is ahead, or its bytes are text, or they are not.
+-- `ahead::text`: no row of this kind and level is ahead, or the rule allows its bytes, or not.
 use Rattle.meaning.specs.Editions.{on_▸_▸_▸_}
 use Rattle.meaning.specs.Editions as editions
 use Rattle.meaning.specs.Writing.{valid, writeValue}
+use Rattle.values.specs.Stages.{ruleOf}
 use Rattle.write_rows.specs.Laying.{laid-layable, laid-then}
 use Rattle.write_rows.specs.Among.{sought-none, sought-not, sought-taken}
 use borrow.Author.Needs.{needs}
@@ -13,7 +14,7 @@ look-for-requires : tie.Need-look-for-requires
 look-for-requires c κs = c .before .before .before .pre .inside
 
 returns : tie.Need-returns
-returns c n = (refl, sought-not (on (c .before .before .before .before .before .before .args .code) ▸ (c .before .before .before .before .before .before .args .kind) ▸ editions.text ▸ n) (c .before .before .before .before .before .before .args .level) refl (c .before .before .look-for .ensures) (c .before .before .before .before .before .before .pre .inner) (c .if1 .taken))
+returns c n = (refl, sought-not (on (c .before .before .before .before .before .before .args .code) ▸ (c .before .before .before .before .before .before .args .kind) ▸ editions.text (ruleOf (c .before .before .before .before .before .before .args .rule)) ▸ n) (c .before .before .before .before .before .before .args .level) refl (c .before .before .look-for .ensures) (c .before .before .before .before .before .before .pre .inner) (c .if1 .taken))
 
 sub-bytes : tie.Need-sub-bytes
 sub-bytes c = search needs
@@ -46,11 +47,11 @@ returns-2 c n =
     let ok = sym (c .before .before .before .before .before .before .before .before .before .before .before .before .before .text-ok .ensures) ∙ c .before .before .before .before .before .before .before .before .before .before .before .before .if2 .taken in
     let coded = laid-layable (c .before .before .before .before .before .before .before .before .before .before .put-code .ensures) (entry .pre .layable) in
     let laid = laid-then (c .before .before .before .before .before .before .before .before .before .before .put-code .ensures) (entry .pre .layable .small) (laid-then (c .before .before .before .before .before .before .copy .ensures) (coded .small) (c .before .before .put .ensures)) in
-    sought-taken (on (entry .args .code) ▸ (entry .args .kind) ▸ editions.text ▸ n) (entry .args .level) refl (c .before .before .before .before .before .before .before .before .before .before .before .before .before .before .before .before .before .look-for .ensures) (entry .pre .inner) (c .before .before .before .before .before .before .before .before .before .before .before .before .before .before .before .if1 .left) ok laid
+    sought-taken (on (entry .args .code) ▸ (entry .args .kind) ▸ editions.text (ruleOf (entry .args .rule)) ▸ n) (entry .args .level) refl (c .before .before .before .before .before .before .before .before .before .before .before .before .before .before .before .before .before .look-for .ensures) (entry .pre .inner) (c .before .before .before .before .before .before .before .before .before .before .before .before .before .before .before .if1 .left) ok laid
 
 returns-3 : tie.Need-returns-3
 unfolding valid
-returns-3 c n = (refl, sought-none (on (c .before .before .before .before .before .before .before .before .before .args .code) ▸ (c .before .before .before .before .before .before .before .before .before .args .kind) ▸ editions.text ▸ n) (c .before .before .before .before .before .before .before .before .before .args .level) refl (c .before .before .before .before .before .look-for .ensures) (c .before .before .before .if1 .left) (sym (c .before .text-ok .ensures) ∙ c .if2 .left))
+returns-3 c n = (refl, sought-none (on (c .before .before .before .before .before .before .before .before .before .args .code) ▸ (c .before .before .before .before .before .before .before .before .before .args .kind) ▸ editions.text (ruleOf (c .before .before .before .before .before .before .before .before .before .args .rule)) ▸ n) (c .before .before .before .before .before .before .before .before .before .args .level) refl (c .before .before .before .before .before .look-for .ensures) (c .before .before .before .if1 .left) (sym (c .before .text-ok .ensures) ∙ c .if2 .left))
 
 pub text-spec : {M : Type 1} → statement M
 text-spec =

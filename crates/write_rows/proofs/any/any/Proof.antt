@@ -1,4 +1,5 @@
 -- `any::any`: a block is ahead, and its length picks its move; or none is, and what is said of the text holds among all moves.
+use Rattle.meaning.specs.Bytes.{note}
 use Rattle.meaning.specs.Editions.{anyValues, text, on_▸_▸_▸_}
 use Rattle.meaning.specs.Kinds.{anyBytes, anyText}
 use Rattle.write_rows.specs.Among.{sought-away, sought-row}
@@ -23,7 +24,7 @@ same-length c = search needs
 returns : tie.Need-returns
 returns c n =
     let a = c .before .before .before .before .before .before .before .before .before .before .args in
-    taken-more anyBytes (a .level) (on 0x14 ▸ anyText ▸ text ▸ n ∷ []) (anyValues n) (λ j h. rw (ne-eqb anyBytes j (λ q. h (sym q))) refl) (a .pool .now) (a .rows .now) (a .i) (sought-away (c .before .before .before .before .before .before .look-for .ensures) (omega arith) (c .before .before .before .before .if1 .taken)) _ _ _ (c .before .before .text .result) (c .before .before .text .ensures n)
+    taken-more anyBytes (a .level) (on 0x14 ▸ anyText ▸ text note ▸ n ∷ []) (anyValues n) (λ j h. rw (ne-eqb anyBytes j (λ q. h (sym q))) refl) (a .pool .now) (a .rows .now) (a .i) (sought-away (c .before .before .before .before .before .before .look-for .ensures) (omega arith) (c .before .before .before .before .if1 .taken)) _ _ _ (c .before .before .text .result) (c .before .before .text .ensures n)
 
 sub-block : tie.Need-sub-block
 sub-block c = search needs

@@ -1,5 +1,6 @@
 -- `extras::extras`: no key is ahead and the 01 is laid, or the extras are.
 use Rattle.meaning.specs.Kinds.{extraKey}
+use Rattle.meaning.specs.Bytes.{line}
 use Rattle.meaning.specs.Editions.{text, stay, on_▸_▸_▸_}
 use Rattle.write_rows.specs.Among.{sought-not}
 use Rattle.write_rows.proofs.Lists.{extras-end}
@@ -20,7 +21,7 @@ same-length c = search needs
 returns : tie.Need-returns
 returns c edition room single st₁ t =
     let entry = c .before .before .before .before .before .before .before .before .before .before in
-    let none = sought-not (on (entry .args .code) ▸ extraKey ▸ text ▸ stay (t .value)) (entry .args .level) refl (c .before .before .before .before .before .before .look-for .ensures) (entry .pre .inner) (c .before .before .before .before .if1 .taken) in
+    let none = sought-not (on (entry .args .code) ▸ extraKey ▸ text line ▸ stay (t .value)) (entry .args .level) refl (c .before .before .before .before .before .before .look-for .ensures) (entry .pre .inner) (c .before .before .before .before .if1 .taken) in
     extras-end edition _ _ t none (entry .pre .inside) (c .before .before .put .ensures)
 
 some-extras-requires : tie.Need-some-extras-requires

@@ -1,4 +1,5 @@
 -- `representation::representation`: a standard one is ahead, and its byte is its code or no code; or none is, and what is said of the text holds among all moves.
+use Rattle.meaning.specs.Bytes.{line}
 use Rattle.meaning.specs.Editions.{representations, text, on_▸_▸_▸_}
 use Rattle.meaning.specs.Kinds.{ownRepresentation, standardRepresentation}
 use Rattle.write_rows.specs.Among.{sought-away, sought-row}
@@ -23,7 +24,7 @@ same-length c = search needs
 returns : tie.Need-returns
 returns c n =
     let a = c .before .before .before .before .before .before .before .before .before .before .args in
-    taken-more standardRepresentation 0 (on 0x00 ▸ ownRepresentation ▸ text ▸ n ∷ []) (representations n) (λ j h. rw (ne-eqb standardRepresentation j (λ q. h (sym q))) refl) (a .pool .now) (a .rows .now) (a .i) (sought-away (c .before .before .before .before .before .before .look-for .ensures) (omega arith) (c .before .before .before .before .if1 .taken)) _ _ _ (c .before .before .text .result) (c .before .before .text .ensures n)
+    taken-more standardRepresentation 0 (on 0x00 ▸ ownRepresentation ▸ text line ▸ n ∷ []) (representations n) (λ j h. rw (ne-eqb standardRepresentation j (λ q. h (sym q))) refl) (a .pool .now) (a .rows .now) (a .i) (sought-away (c .before .before .before .before .before .before .look-for .ensures) (omega arith) (c .before .before .before .before .if1 .taken)) _ _ _ (c .before .before .text .result) (c .before .before .text .ensures n)
 
 sub-if2 : tie.Need-sub-if2
 sub-if2 c = search needs

@@ -1,4 +1,5 @@
--- `value::text_ok`: the run of text comes to the end, or it is no text.
+-- `value::text_ok`: the rule's run comes to the end, or there is a byte that it does not allow.
+use Rattle.values.specs.Stages.{ruleOf}
 use Rattle.write_rows.proofs.Values.{text-run}
 use native.Mathlib.Omega.{arith}
 use Rattle.write_rows.proofs.value.text_ok.Statement.{statement}
@@ -8,7 +9,7 @@ run-requires : tie.Need-run-requires
 run-requires c κs = record { whole = omega arith; before = omega arith }
 
 returns : tie.Need-returns
-returns c = text-run (c .before .before .args .bytes .now) (c .run .ensures)
+returns c = text-run (ruleOf (c .before .before .args .rule)) (c .before .before .args .bytes .now) (c .run .ensures)
 
 pub text-ok-spec : {M : Type 1} → statement M
 text-ok-spec = tie.close (tie.spec run-requires returns)
