@@ -1,7 +1,7 @@
 -- What a call that answers 0 says of the meaning and of the lent memory, and back: by cases on what the meaning gives.
 -- A refusal is never 0, so an answer of 0 leaves one case.
 use Prim.Native.Nat.{ℕ, _*_, _≤_}
-use mathlib.Core.List.{List, [], _∷_, map}
+use mathlib.Core.List.{List}
 use mathlib.Core.Bool.{Bool, true, false}
 use mathlib.Core.Path.{_≡_, refl, ap, sym, _∙_}
 use native.Mathlib.Omega.{arith}
@@ -10,11 +10,11 @@ use lib.Dec.{leb}
 use lib.ListN.{length, take, drop}
 use lib.Seq.{take-at, drop-at}
 use Rattle.meaning.specs.Basics.{pick}
-use Rattle.meaning.specs.Reading.{Row}
 use Rattle.meaning.specs.Headers.{Placed, Answer, refused, accepted, read}
-use Rattle.meaning.specs.Writing.{Cell, cell, broken, Written, written, unwritten}
+use Rattle.meaning.specs.Writing.{Written, written, unwritten}
 use Rattle.meaning.specs.Memory.{rowWidth, tableOf, cellsOf, roomOf, laidOver, Reply, reply, readReply, readMemory, readAnswer, readRows, writeReply, writeMemory, write, writeAnswer, writeOutput}
 use Rattle.meaning.specs.Plain.{Decoded, decoded, undecoded, Outcome, outcome, decodeOutcome, encodeOutcome, encodeMemory}
+use Rattle.laws.specs.Rows.{rows-whole}
 use Rattle.laws.specs.Plans.{written-writes}
 use Rattle.laws.specs.Ties.{SameMeaning, written-known}
 use Rattle.laws.specs.WriterRefusals.{WriterRefusal, no-edition, no-table, past-limit, no-room}
@@ -116,23 +116,6 @@ refusal-some (no-edition k) = omega arith
 refusal-some (no-table h) = omega arith
 refusal-some (past-limit h) = omega arith
 refusal-some (no-room bytes h l w) = omega arith
-
--- a table that is written has whole rows only
-no-broken : (cells : List Cell) (table : List Row) → broken ∷ cells ≡ map cell table → ⊥
-no-broken cells [] q = let z : _≡_ {A = ℕ} 0 1 = cc q in absurd (omega arith)
-no-broken cells (row ∷ table) q = let z : _≡_ {A = ℕ} 0 1 = cc q in absurd (omega arith)
-
-pub rows-whole : (pool rows : List ℕ) (table : List Row) → cellsOf pool rows ≡ map cell table → length rows ≡ length table * rowWidth
-unfolding cellsOf
-rows-whole pool [] [] q = refl
-rows-whole pool [] (row ∷ table) q = let z : _≡_ {A = ℕ} 0 1 = cc q in absurd (omega arith)
-rows-whole pool (kind ∷ []) table q = absurd (no-broken [] table q)
-rows-whole pool (kind ∷ (level ∷ [])) table q = absurd (no-broken [] table q)
-rows-whole pool (kind ∷ (level ∷ (start ∷ []))) table q = absurd (no-broken [] table q)
-rows-whole pool (kind ∷ (level ∷ (start ∷ (many ∷ rows)))) [] q = let z : _≡_ {A = ℕ} 0 1 = cc q in absurd (omega arith)
-rows-whole pool (kind ∷ (level ∷ (start ∷ (many ∷ rows)))) (row ∷ table) q =
-    let rest : cellsOf pool rows ≡ map cell table = cc q in let h = rows-whole pool rows table rest in
-    omega arith
 
 module _ {edition : ℕ} {rows pool before after : List ℕ} {a : declared.Reply} (p : WritePromise edition rows pool before a after) where
   abbrev WrittenCall : Type 0

@@ -1,7 +1,7 @@
 -- Rows in lent memory: rows put one by one are the table laid over it, and rows taken by their numbers are its cells.
 -- How many numbers a row has is known in `meaning`'s Memory, here and in the crate `table`; whoever stands above asks for room and whole rows.
 use Prim.Native.Nat.{ℕ, zero, suc, _+_, _-_, _*_, _/_, _%_, _≤_, _<_}
-use mathlib.Core.List.{List, [], _∷_, _++_, append-assoc}
+use mathlib.Core.List.{List, [], _∷_, _++_, append-assoc, map}
 use mathlib.Core.Bool.{Bool, true, false}
 use mathlib.Core.Path.{_≡_, refl, ap, sym, _∙_}
 use native.Mathlib.Nat.{zero-add}
@@ -11,9 +11,10 @@ use lib.Dec.{T, eqb, leb}
 use lib.ListN.{length, getD, set, drop, length-append}
 use borrow.Author.Tests.{le-leb}
 use Rattle.meaning.specs.Basics.{pick, every}
+use Rattle.meaning.specs.Reading.{Row}
 use Rattle.meaning.specs.Headers.{Placed}
 use Rattle.meaning.specs.Memory.{rowWidth, numbersOf, tableOf, roomOf, laidOver, cellOf, cellsOf}
-use Rattle.meaning.specs.Writing.{Cell, broken}
+use Rattle.meaning.specs.Writing.{Cell, cell, broken}
 use Rattle.laws.specs.Logic.{both}
 
 -- Putting rows
@@ -123,6 +124,23 @@ every-cell test pool f b (kind ∷ (level ∷ [])) = both (test broken) true b t
 every-cell test pool f b (kind ∷ (level ∷ (start ∷ []))) = both (test broken) true b tt
 every-cell test pool f b (kind ∷ (level ∷ (start ∷ (len ∷ rows)))) =
     both (test (cellOf pool kind level start len)) (every test (cellsOf pool rows)) (f kind level start len) (every-cell test pool f b rows)
+
+-- a table that is written has whole rows only
+no-broken : (cells : List Cell) (table : List Row) → broken ∷ cells ≡ map cell table → ⊥
+no-broken cells [] q = let z : _≡_ {A = ℕ} 0 1 = cc q in absurd (omega arith)
+no-broken cells (row ∷ table) q = let z : _≡_ {A = ℕ} 0 1 = cc q in absurd (omega arith)
+
+pub rows-whole : (pool rows : List ℕ) (table : List Row) → cellsOf pool rows ≡ map cell table → length rows ≡ length table * rowWidth
+unfolding cellsOf
+rows-whole pool [] [] q = refl
+rows-whole pool [] (row ∷ table) q = let z : _≡_ {A = ℕ} 0 1 = cc q in absurd (omega arith)
+rows-whole pool (kind ∷ []) table q = absurd (no-broken [] table q)
+rows-whole pool (kind ∷ (level ∷ [])) table q = absurd (no-broken [] table q)
+rows-whole pool (kind ∷ (level ∷ (start ∷ []))) table q = absurd (no-broken [] table q)
+rows-whole pool (kind ∷ (level ∷ (start ∷ (many ∷ rows)))) [] q = let z : _≡_ {A = ℕ} 0 1 = cc q in absurd (omega arith)
+rows-whole pool (kind ∷ (level ∷ (start ∷ (many ∷ rows)))) (row ∷ table) q =
+    let rest : cellsOf pool rows ≡ map cell table = cc q in let h = rows-whole pool rows table rest in
+    omega arith
 
 -- the table's cells are those from row 0 on
 pub cells-are : (pool rows : List ℕ) → cellsOf pool rows ≡ cellsAt pool rows 0
