@@ -1,4 +1,5 @@
-// The entries under the names that C and Rust programs link, each with its whole promise; nothing else. `include/gamulisyan.h` declares them.
+// The entries under the names that C and Rust programs link, each with its whole promise; nothing else. `include/gamulisyan.h` declares them
+// and says what each takes, answers, refuses and leaves.
 ghost use Rattle.reader.specs.Promises.{ReadPromise, PartPromise};
 ghost use Rattle.writer.specs.Promise.{WritePromise};
 ghost use Rattle.coders.specs.Plain.{NumberDecodes, NumberEncodes, DateDecodes, DateEncodes, plainOf};

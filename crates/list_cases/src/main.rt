@@ -8,6 +8,7 @@ fn main() {
     list_file(2, b"too_long");
 }
 
+// Lists the file of this name in this edition; says so where it cannot be read.
 fn list_file(edition: u32, path: &[u8]) {
     let from = os::open_read(path);
     if from < 0 {

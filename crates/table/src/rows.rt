@@ -67,6 +67,7 @@ pub fn row_at(rows: &[u32], i: usize) -> Row
     }
 }
 
+// Takes a place among the lent numbers. Answers the number there.
 fn number_at(rows: &[u32], k: usize) -> usize
     requires { ⌜ k < length (now rows) ⌝ }
     ensures { λ r. ⌜ (r ≡ getD (now (rows .entry)) k 0) × (r ≤ u32Most) ⌝ }

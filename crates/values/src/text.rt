@@ -131,6 +131,7 @@ fn sixteens(s: &[u8], end: usize, at: usize) -> usize
     i
 }
 
+// Past eight bytes if all of them are of a line, else where it began.
 fn past_eight(s: &[u8], end: usize, at: usize) -> usize
     requires { ⌜ Inside (now s) end at ⌝ }
     ensures { λ r. ⌜ ((rule : Rattle.meaning.specs.Bytes.Rule) → Skipped rule (now (s .entry)) end at r) ⌝ }
@@ -143,6 +144,7 @@ fn past_eight(s: &[u8], end: usize, at: usize) -> usize
     at
 }
 
+// The same with four.
 fn past_four(s: &[u8], end: usize, at: usize) -> usize
     requires { ⌜ Inside (now s) end at ⌝ }
     ensures { λ r. ⌜ ((rule : Rattle.meaning.specs.Bytes.Rule) → Skipped rule (now (s .entry)) end at r) ⌝ }
@@ -163,6 +165,7 @@ fn sixteen_in_note(s: &[u8], i: usize) -> bool
     eight_in_note(s, i) & eight_in_note(s, i + 8)
 }
 
+// The same of eight.
 fn eight_in_note(s: &[u8], i: usize) -> bool
     requires { ⌜ i + 8 ≤ length (now s) ⌝ }
     ensures { λ r. ⌜ r ≡ textRun note (now (s .entry)) i 7 ⌝ }
@@ -170,6 +173,7 @@ fn eight_in_note(s: &[u8], i: usize) -> bool
     four_in_note(s, i) & four_in_note(s, i + 4)
 }
 
+// The same of four.
 fn four_in_note(s: &[u8], i: usize) -> bool
     requires { ⌜ i + 4 ≤ length (now s) ⌝ }
     ensures { λ r. ⌜ r ≡ textRun note (now (s .entry)) i 3 ⌝ }
@@ -177,6 +181,7 @@ fn four_in_note(s: &[u8], i: usize) -> bool
     in_note(s[i]) & in_note(s[i + 1]) & in_note(s[i + 2]) & in_note(s[i + 3])
 }
 
+// Whether a note allows a byte: one of a line, or a break.
 fn in_note(b: u8) -> bool
     ensures { λ r. ⌜ r ≡ textByte note b ⌝ }
 {
@@ -191,6 +196,7 @@ fn sixteen(s: &[u8], i: usize) -> bool
     eight(s, i) & eight(s, i + 8)
 }
 
+// The same of eight.
 fn eight(s: &[u8], i: usize) -> bool
     requires { ⌜ i + 8 ≤ length (now s) ⌝ }
     ensures { λ r. ⌜ r ≡ textRun line (now (s .entry)) i 7 ⌝ }
@@ -198,6 +204,7 @@ fn eight(s: &[u8], i: usize) -> bool
     four(s, i) & four(s, i + 4)
 }
 
+// The same of four.
 fn four(s: &[u8], i: usize) -> bool
     requires { ⌜ i + 4 ≤ length (now s) ⌝ }
     ensures { λ r. ⌜ r ≡ textRun line (now (s .entry)) i 3 ⌝ }
