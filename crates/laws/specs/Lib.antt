@@ -14,6 +14,7 @@ pub mod Rooms
 pub mod AgentRooms
 pub mod Finishing
 pub mod Frames
+pub mod Shortest
 pub mod Fits
 pub mod WrittenRead
 pub mod PlainRows
