@@ -26,7 +26,7 @@ use Rattle.meaning.specs.Headers.{Answer, envelope}
 use Rattle.meaning.specs.Writing.{Written, valid, writeValue, wayOf, fit, fitRow, closeWithin, close, planOf}
 use Rattle.meaning.specs.Plain.{decoded, decodeNumber, numberValue, numberBytes, Date, dateOf, dateBytes, decodeDate, dateInRange}
 use Rattle.meaning.specs.Cases.{hex, baseWith, inMemory, baseRows}
-use Rattle.laws.specs.Refusals.{refused-shape as header-refused}
+use Rattle.laws.specs.Refusals.{not-zero, refused-shape as header-refused}
 use Rattle.laws.specs.RowCounts.{table-few, length-meant}
 use Rattle.laws.specs.WriterRefusals.{WriterRefusal, writer-refusal}
 use Rattle.laws.specs.PlainNumbers.{number-coded-decoded, number-decoded-coded}
@@ -76,6 +76,13 @@ written-then-read edition rows pool room bytes t q payload =
     let (table, n, c, w, few, fits) = written-writes e room (cellsOf pool rows) bytes a in
     let (read-rows, f, m) = header-read (told strict e) w envelopesMost few 0 in
     (read-rows, read-as strict edition e (bytes ++ payload) k ∙ f payload ∙ ap (λ (x : ℕ). accepted x read-rows) (omega arith), same-meaning e bytes payload rows pool table read-rows (written-are-bytes e pool rows t c w) c m (f []))
+
+-- what is written holds bytes
+pub written-are-bytes-of : (edition : ℕ) (rows pool : List ℕ) (room : ℕ) (bytes : List ℕ) → T (areBytes pool) → write edition rows pool room ≡ written bytes → T (areBytes bytes)
+written-are-bytes-of edition rows pool room bytes t q =
+    let (e, k, a) = written-known edition rows pool room bytes q in
+    let (table, n, c, w, few, fits) = written-writes e room (cellsOf pool rows) bytes a in
+    written-are-bytes e pool rows t c w
 
 -- 3. "The label can't lie": "A table written under one edition and read under the other is the same table, or is refused with 7 or 9: never a different table."
 -- The same if the table is plain; refused if it is not. A table is one or the other.
@@ -148,7 +155,9 @@ refused-shape strictness edition input refusal place q = at (labelOf edition) q
   where
     at : (l : Label) → labelled strictness input l ≡ refused refusal place → (1 ≤ refusal) × (place ≤ length input)
     at unknown r = let a : 1 ≡ refusal = cc r in let b : 0 ≡ place = cc r in (omega arith, omega arith)
-    at (known e) r = header-refused envelopesMost (told strictness e) input refusal place r
+    at (known e) r =
+        let (i, l) = header-refused envelopesMost (told strictness e) input refusal place r in
+        (not-zero (told strictness e) refusal i, l)
 
 pub unwritten-shape : (edition : ℕ) (rows pool : List ℕ) (room refusal place : ℕ) → write edition rows pool room ≡ unwritten refusal place → WriterRefusal edition rows pool room refusal place
 unwritten-shape edition rows pool room refusal place q = writer-refusal edition rows pool room refusal place q

@@ -30,6 +30,7 @@ pub mod Completing
 pub mod Fifteen
 pub mod WrittenBytes
 pub mod Refusals
+pub mod Tolerance
 pub mod RowCounts
 pub mod WriterRefusals
 pub mod CodedNumbers
@@ -37,5 +38,6 @@ pub mod PlainNumbers
 pub mod PlainDates
 pub mod Ties
 pub mod Demands
+pub mod Tolerant
 pub mod Notes
 pub mod Days
