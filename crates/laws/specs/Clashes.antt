@@ -12,7 +12,7 @@ use borrow.Author.Tests.{lt-leb}
 use Rattle.meaning.specs.Basics.{pick, every}
 use Rattle.meaning.specs.Bytes.{Taken, took, failed, prefixed, isDigit, twoDigits, Check, pair, day, half, letter, lastDayAfter, pairWithin, passes, Reach, absolute, relative, anyPair, dateChecks, takeDate, dateOk}
 use Rattle.meaning.specs.Kinds.{agentName}
-use Rattle.meaning.specs.Told.{Edition, B, D, Told, strict, told}
+use Rattle.meaning.specs.Told.{Edition, B, D, Told, told}
 use Rattle.meaning.specs.Editions.{Room, State, Next, outer, inner, innerOne, stay, deeper, listEnds, agentEnds, go, Form, text, date, number, block, itself, opens, quiet, Move, noCode, moves}
 use Rattle.meaning.specs.Reading.{Row, takeValue, Found, none, hit, find, hasCode, look, isClosed, strange, tooDeep, fails, next, step, stepMove, fault, withRows, inside}
 use Rattle.meaning.specs.Writing.{valid, writeValue}
@@ -220,22 +220,22 @@ unfolding takeValue
 form-date told e r d st b c s t = ap (λ (f : Form). takeValue told f (suc (length s)) (c .by .code) s) (date-of r d (c .by .form) t)
 
 -- B's date with a designator, read by D: nine bytes of a forward date, then a letter where a code should stand
-read-by-D : (st : State) (b : ℕ) (u : List ℕ) (x : ℕ) (rest : List ℕ) (c : Clash D (st .room) b) → T (dateOk (dateChecks absolute false) [] u) → 0x20 ≤ x → Refuses (told strict D) st (b ∷ (u ++ (x ∷ rest)))
+read-by-D : (st : State) (b : ℕ) (u : List ℕ) (x : ℕ) (rest : List ℕ) (c : Clash D (st .room) b) → T (dateOk (dateChecks absolute false) [] u) → 0x20 ≤ x → Refuses (told D) st (b ∷ (u ++ (x ∷ rest)))
 unfolding loose
 read-by-D st b u x rest c ok h =
     let s = u ++ (x ∷ rest) in
     let m = c .by in
-    let taken : takeValue (told strict D) (m .form) (suc (length s)) (m .code) s ≡ took u (x ∷ rest) = form-date (told strict D) D relative false st b c s (c .form) ∙ date-in (dateChecks relative false) [] u (x ∷ rest) (date-loose (dateChecks absolute false) [] u ok) in
-    let first = step-is (told strict D) st m b s u (x ∷ rest) (c .found) (c .flat st) (rw (c .coded) taken) in
-    let second = step-high (told strict D) (go (m .next) st) x rest h (low-next D st (m .next) (c .low)) in
-    (7, suc (length rest), inside-next (told strict D) st (b ∷ s) first ∙ ap (withRows _) (inside-fails (told strict D) (go (m .next) st) (x ∷ rest) second), tt)
+    let taken : takeValue (told D) (m .form) (suc (length s)) (m .code) s ≡ took u (x ∷ rest) = form-date (told D) D relative false st b c s (c .form) ∙ date-in (dateChecks relative false) [] u (x ∷ rest) (date-loose (dateChecks absolute false) [] u ok) in
+    let first = step-is (told D) st m b s u (x ∷ rest) (c .found) (c .flat st) (rw (c .coded) taken) in
+    let second = step-high (told D) (go (m .next) st) x rest h (low-next D st (m .next) (c .low)) in
+    (7, suc (length rest), inside-next (told D) st (b ∷ s) first ∙ ap (withRows _) (inside-fails (told D) (go (m .next) st) (x ∷ rest) second), tt)
 
 -- D's forward date, read by B: the code behind it is no designator
-read-by-B : (st : State) (b : ℕ) (v : List ℕ) (y : ℕ) (rest : List ℕ) (c : Clash B (st .room) b) → length v ≡ 9 → y < 0x20 → Refuses (told strict B) st (b ∷ (v ++ (y ∷ rest)))
+read-by-B : (st : State) (b : ℕ) (v : List ℕ) (y : ℕ) (rest : List ℕ) (c : Clash B (st .room) b) → length v ≡ 9 → y < 0x20 → Refuses (told B) st (b ∷ (v ++ (y ∷ rest)))
 read-by-B st b v y rest c h k =
     let s = v ++ (y ∷ rest) in
     let (left, q) = nine-failed (takeDate (dateChecks absolute true) [] s) (date-short (dateChecks absolute false) letter [] v y rest h (letter-low y k)) in
-    (9, left, inside-fails (told strict B) st (b ∷ s) (step-failed (told strict B) st (c .by) b s (c .found) (c .flat st) (c .coded) (form-date (told strict B) B absolute true st b c s (c .form) ∙ q)), tt)
+    (9, left, inside-fails (told B) st (b ∷ s) (step-failed (told B) st (c .by) b s (c .found) (c .flat st) (c .coded) (form-date (told B) B absolute true st b c s (c .form) ∙ q)), tt)
 
 own-bytes : (st st′ : State) (row : Row) (m : Move) (bs : List ℕ) (r : Reach) (d : Bool) → hasCode noCode m ≡ false → T (isDateOf r d (m .form)) → Placing st row m st′ bs → (bs ≡ m .code ∷ row .view) × T (dateOk (dateChecks r d) [] (row .view))
 unfolding writeValue valid
@@ -244,12 +244,12 @@ own-bytes st st′ row m bs r d q t p =
     let o : m .code ∷ writeValue (m .form) (row .view) ≡ bs = rw q at (p .out) in
     (sym o ∙ ap (λ (x : Form). m .code ∷ writeValue x (row .view)) f, subst (λ (x : Form). T (valid x (m .code) (row .view))) f (p .ok))
 
-clash-refused : (e : Edition) (st st′ : State) (row : Row) (m : Move) (bs rest : List ℕ) → hasCode noCode m ≡ false → Clash (other e) (st .room) (m .code) → T (clashes e (m .form)) → Placing st row m st′ bs → Low rest → Refuses (told strict (other e)) st (bs ++ rest)
+clash-refused : (e : Edition) (st st′ : State) (row : Row) (m : Move) (bs rest : List ℕ) → hasCode noCode m ≡ false → Clash (other e) (st .room) (m .code) → T (clashes e (m .form)) → Placing st row m st′ bs → Low rest → Refuses (told (other e)) st (bs ++ rest)
 clash-refused B st st′ row m bs rest q c t p lo =
     let (o, ok) = own-bytes st st′ row m bs absolute true q t p in
     at o (split-last (dateChecks absolute false) letter [] (row .view) ok)
   where
-    at : bs ≡ m .code ∷ row .view → Last (dateChecks absolute false) letter [] (row .view) → Refuses (told strict D) st (bs ++ rest)
+    at : bs ≡ m .code ∷ row .view → Last (dateChecks absolute false) letter [] (row .view) → Refuses (told D) st (bs ++ rest)
     at o (u, x, before, e, ok, h) =
         let w : bs ++ rest ≡ m .code ∷ (u ++ (x ∷ rest)) = rw (o, e) (ap (λ (r : List ℕ). m .code ∷ r) (append-assoc u (x ∷ []) rest)) in
         rw w (read-by-D st (m .code) u x rest c ok (letter-high before x h))
@@ -258,15 +258,15 @@ clash-refused D st st′ row m bs (y ∷ rest) q c t p lo =
     let (o, ok) = own-bytes st st′ row m bs relative false q t p in
     rw o (read-by-B st (m .code) (row .view) y rest c (date-length (dateChecks relative false) [] (row .view) ok) lo)
 
-lost-refused : (e : Edition) (st st′ : State) (row : Row) (m : Move) (bs rest : List ℕ) → Alone e (st .room) m → Placing st row m st′ bs → look (m .code) (moves (other e) (st .room)) ≡ none → Refuses (told strict (other e)) st (bs ++ rest)
+lost-refused : (e : Edition) (st st′ : State) (row : Row) (m : Move) (bs rest : List ℕ) → Alone e (st .room) m → Placing st row m st′ bs → look (m .code) (moves (other e) (st .room)) ≡ none → Refuses (told (other e)) st (bs ++ rest)
 lost-refused e st st′ row m bs rest o p q =
     let s = writeValue (m .form) (row .view) ++ rest in
     let a : m .code ∷ writeValue (m .form) (row .view) ≡ bs = rw (o .coded) at (p .out) in
-    (strange (st .room), suc (length s), rw (← a) (inside-fails (told strict (other e)) st (m .code ∷ s) (step-lost (told strict (other e)) st (m .code) s q (o .ajar))), o .refusal)
+    (strange (st .room), suc (length s), rw (← a) (inside-fails (told (other e)) st (m .code ∷ s) (step-lost (told (other e)) st (m .code) s q (o .ajar))), o .refusal)
 
 -- a row that the other edition lacks; the bytes behind it begin low, unless its move leads to no low room
 pub foreign-refused : (e : Edition) (st st′ : State) (row : Row) (m : Move) (bs rest : List ℕ) → Alone e (st .room) m → Placing st row m st′ bs → (LowRoom e (st′ .room) → Low rest)
-    → T (isLost (look (m .code) (moves (other e) (st .room)))) ⊎ T (clashOk e (st .room) m) → Refuses (told strict (other e)) st (bs ++ rest)
+    → T (isLost (look (m .code) (moves (other e) (st .room)))) ⊎ T (clashOk e (st .room) m) → Refuses (told (other e)) st (bs ++ rest)
 foreign-refused e st st′ row m bs rest o p k (inl t) = lost-refused e st st′ row m bs rest o p (lost-none (look (m .code) (moves (other e) (st .room))) t)
 foreign-refused e st st′ row m bs rest o p k (inr t) =
     let mine = clash-of-mine (left-of (clashWith e (hit m)) (clashWith (other e) (look (m .code) (moves (other e) (st .room)))) t) in

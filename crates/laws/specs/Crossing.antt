@@ -8,7 +8,7 @@ use native.Mathlib.Omega.{arith}
 use lib.Dec.{T, ltb→lt}
 use borrow.Author.Tests.{eqb-true}
 use Rattle.meaning.specs.Basics.{pick, every}
-use Rattle.meaning.specs.Told.{Edition, strict, told}
+use Rattle.meaning.specs.Told.{Edition, told}
 use Rattle.meaning.specs.Editions.{State, Move, noCode, moves}
 use Rattle.meaning.specs.Reading.{Row, seen, hasCode, look, withRows}
 use Rattle.meaning.specs.Writing.{writeValue, fits, fitRow, close}
@@ -53,17 +53,17 @@ low-all e (row ∷ rows) st st′ bs q f =
 
 -- The whole inside of an envelope
 
-closing-crosses : (e e′ : Edition) (st st′ : State) (bs : List ℕ) → close e st ≡ fits st′ bs → Closes (told strict e′) st bs st′
+closing-crosses : (e e′ : Edition) (st st′ : State) (bs : List ℕ) → close e st ≡ fits st′ bs → Closes (told e′) st bs st′
 closing-crosses e e′ =
-    close-holds e (λ st st′ bs. Closes (told strict e′) st bs st′) (λ st h. (h, rests)) (λ st st′ m bs i q c. (c .0, moves-on (step-quiet-other e e′ st m bs i q) (c .1)))
+    close-holds e (λ st st′ bs. Closes (told e′) st bs st′) (λ st h. (h, rests)) (λ st st′ m bs i q c. (c .0, moves-on (step-quiet-other e e′ st m bs i q) (c .1)))
 
 abbrev pub CrossAll : Edition → List Row → State → List ℕ → Type 0
-CrossAll e rows st bs = ((allPlain rows ≡ true) × ReadsAll (told strict (other e)) st bs rows) ⊎ ((allPlain rows ≡ false) × Refuses (told strict (other e)) st bs)
+CrossAll e rows st bs = ((allPlain rows ≡ true) × ReadsAll (told (other e)) st bs rows) ⊎ ((allPlain rows ≡ false) × Refuses (told (other e)) st bs)
 
-all-behind : (e : Edition) (row : Row) (rows : List Row) (st st₁ : State) (bs ds : List ℕ) → isPlain row ≡ true → Reads (told strict (other e)) st bs row st₁ ds → CrossAll e rows st₁ ds → CrossAll e (row ∷ rows) st bs
-all-behind e row rows st st₁ bs ds pl r (inl (a, rs)) = inl (rw (pl, a) refl, reads-row (told strict (other e)) row rows st st₁ bs ds r rs)
+all-behind : (e : Edition) (row : Row) (rows : List Row) (st st₁ : State) (bs ds : List ℕ) → isPlain row ≡ true → Reads (told (other e)) st bs row st₁ ds → CrossAll e rows st₁ ds → CrossAll e (row ∷ rows) st bs
+all-behind e row rows st st₁ bs ds pl r (inl (a, rs)) = inl (rw (pl, a) refl, reads-row (told (other e)) row rows st st₁ bs ds r rs)
 all-behind e row rows st st₁ bs ds pl (left, p) (inr (a, (refusal, l, q, t))) =
-    inr (rw (pl, a) refl, (refusal, l, inside-path (told strict (other e)) p ∙ ap (withRows (seen (row .kind) (row .level) left (row .view) ∷ [])) q, t))
+    inr (rw (pl, a) refl, (refusal, l, inside-path (told (other e)) p ∙ ap (withRows (seen (row .kind) (row .level) left (row .view) ∷ [])) q, t))
 
 all-here : (e : Edition) (row : Row) (rows : List Row) (st st₁ : State) (bs ds : List ℕ) → Crosses e (other e) row st bs st₁ ds → CrossAll e rows st₁ ds → (LowRoom e (st₁ .room) → Low ds) → CrossAll e (row ∷ rows) st bs
 all-here e row rows st st₁ bs ds (inl (pl, r)) c k = all-behind e row rows st st₁ bs ds pl r c
@@ -71,13 +71,13 @@ all-here e row rows st st₁ bs ds (inr (np, f)) c k =
     let o = alone e (f .at .room) (f .its-own) in
     inr (
       rw np refl,
-      fault-behind (told strict (other e)) st (f .at) bs (f .bytes ++ ds) (f .path)
+      fault-behind (told (other e)) st (f .at) bs (f .bytes ++ ds) (f .path)
           (foreign-refused e (f .at) st₁ row (f .by) (f .bytes) ds o (f .put) k (either (isLost (look (f .by .code) (moves (other e) (f .at .room)))) (clashOk e (f .at .room) (f .by)) (o .beyond))),
     )
 
 pub all-crosses : (e : Edition) (rows : List Row) (st st′ : State) (bs : List ℕ) → fitAll e rows st ≡ fits st′ bs → CrossAll e rows st bs
 unfolding fitAll
-all-crosses e [] st st′ bs q = inl (refl, reads-end (told strict (other e)) st st′ bs (closing-crosses e (other e) st st′ bs q))
+all-crosses e [] st st′ bs q = inl (refl, reads-end (told (other e)) st st′ bs (closing-crosses e (other e) st st′ bs q))
 all-crosses e (row ∷ rows) st st′ bs q =
     let (st₁, cs, ds, q₁, q₂, q₃) = then-inv (fitRow e st row) (fitAll e rows) st′ bs q in
     rw q₃ (all-here e row rows st st₁ (cs ++ ds) ds (row-crosses e (other e) row st st₁ cs q₁ ds) (all-crosses e rows st₁ st′ ds q₂) (low-all e rows st₁ st′ ds q₂))

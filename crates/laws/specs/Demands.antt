@@ -8,7 +8,7 @@ use native.Mathlib.Omega.{arith}
 use lib.Dec.{T}
 use lib.ListN.{length, take, drop, length-append}
 use Rattle.meaning.specs.Basics.{every}
-use Rattle.meaning.specs.Told.{Edition, Label, B, D, known, unknown, labelOf, Strictness, strict, told}
+use Rattle.meaning.specs.Told.{Edition, Label, B, D, known, unknown, labelOf, Strictness, strict, toldBy, told}
 use Rattle.meaning.specs.Reading.{Row}
 use Rattle.meaning.specs.Headers.{Placed, meant, refused, accepted, header, envelopesMost, labelled, readBy, read}
 use Rattle.meaning.specs.Writing.{Cell, cell, wholePlan, written, unwritten, writeRows}
@@ -48,13 +48,13 @@ pub rows-written : (strictness : Strictness) (edition : ℕ) (input : List ℕ) 
     → RowsWritten strictness edition input place rows
 rows-written strictness edition input place rows t q =
     let (e, k, a) = accepted-known strictness edition input place rows q in
-    let w = whole-of (told strictness e) input place rows t a in
+    let w = whole-of (toldBy strictness e) input place rows t a in
     let cells : cellsOf input (tableOf rows) ≡ map cell (map meant rows) = ap (λ (x : List ℕ). cellsOf x (tableOf rows)) (w .parts) ∙ cells-placed (w .bytes) (w .payload) rows (w .views) in
     record {
       bytes = w .brief;
       is = λ room h. write-as edition e (tableOf rows) input room k ∙ ap (writeRows e room) cells ∙ writes-written e (w .count) (map meant rows) (w .brief) room (w .written) (w .few) h;
       shorter = omega (arith, w .place, w .shorter);
-      exact = λ s. w .exact s ∙ sym (whole-front (told strictness e) input place rows w);
+      exact = λ s. w .exact s ∙ sym (whole-front (toldBy strictness e) input place rows w);
     }
 
 pub read-then-written : (edition : ℕ) (input : List ℕ) (place : ℕ) (rows : List Placed) → T (areBytes input) → read edition input ≡ accepted place rows
@@ -74,7 +74,7 @@ pub written-then-read : (edition : ℕ) (rows pool : List ℕ) (room : ℕ) (byt
 written-then-read edition rows pool room bytes t q payload =
     let (e, k, a) = written-known edition rows pool room bytes q in
     let (table, n, c, w, few, fits) = written-writes e room (cellsOf pool rows) bytes a in
-    let (read-rows, f, m) = header-read (told strict e) w envelopesMost few 0 in
+    let (read-rows, f, m) = header-read (told e) w envelopesMost few 0 in
     (read-rows, read-as strict edition e (bytes ++ payload) k ∙ f payload ∙ ap (λ (x : ℕ). accepted x read-rows) (omega arith), same-meaning e bytes payload rows pool table read-rows (written-are-bytes e pool rows t c w) c m (f []))
 
 -- what is written holds bytes
@@ -112,10 +112,10 @@ label-cannot-lie e rows pool room bytes t q payload =
 pub payload-alters-nothing : (edition : ℕ) (input : List ℕ) (place : ℕ) (rows : List Placed) → T (areBytes input) → read edition input ≡ accepted place rows → (payload : List ℕ) → read edition (take place input ++ payload) ≡ accepted place rows
 payload-alters-nothing edition input place rows t q payload =
     let (e, k, a) = accepted-known strict edition input place rows q in
-    let w = whole-of (told strict e) input place rows t a in
-    let (read-rows, f, m) = header-read (told strict e) (whole-written w) envelopesMost (w .few) 0 in
-    let same : accepted (0 + length (w .bytes)) read-rows ≡ accepted place rows = sym (f (w .payload)) ∙ ap (header envelopesMost (told strict e) 0) (sym (w .parts)) ∙ a in
-    read-as strict edition e (take place input ++ payload) k ∙ ap (λ (x : List ℕ). header envelopesMost (told strict e) 0 (x ++ payload)) (whole-front (told strict e) input place rows w) ∙ f payload ∙ same
+    let w = whole-of (told e) input place rows t a in
+    let (read-rows, f, m) = header-read (told e) (whole-written w) envelopesMost (w .few) 0 in
+    let same : accepted (0 + length (w .bytes)) read-rows ≡ accepted place rows = sym (f (w .payload)) ∙ ap (header envelopesMost (told e) 0) (sym (w .parts)) ∙ a in
+    read-as strict edition e (take place input ++ payload) k ∙ ap (λ (x : List ℕ). header envelopesMost (told e) 0 (x ++ payload)) (whole-front (told e) input place rows w) ∙ f payload ∙ same
 
 -- 5. "15: rows up to here begin no table of this edition, or start plus length passes the pool, or rows or slice end early"
 -- The rows before the one that 15 names begin a table, its limits aside; with that row none do; where it names the row count, they are no table.
@@ -136,7 +136,7 @@ pub accepted-shape : (strictness : Strictness) (edition : ℕ) (input : List ℕ
     → (place ≤ length input) × (length rows ≤ place) × ViewsHeader input place rows
 accepted-shape strictness edition input place rows t q =
     let (e, k, a) = accepted-known strictness edition input place rows q in
-    let w = whole-of (told strictness e) input place rows t a in
+    let w = whole-of (toldBy strictness e) input place rows t a in
     let few = table-few e (w .written) in (
       omega (arith, w .place, ap length (w .parts), length-append (w .bytes) (w .payload)),
       omega (arith, w .place, w .shorter, length-meant rows),
@@ -156,8 +156,8 @@ refused-shape strictness edition input refusal place q = at (labelOf edition) q
     at : (l : Label) → labelled strictness input l ≡ refused refusal place → (1 ≤ refusal) × (place ≤ length input)
     at unknown r = let a : 1 ≡ refusal = cc r in let b : 0 ≡ place = cc r in (omega arith, omega arith)
     at (known e) r =
-        let (i, l) = header-refused envelopesMost (told strictness e) input refusal place r in
-        (not-zero (told strictness e) refusal i, l)
+        let (i, l) = header-refused envelopesMost (toldBy strictness e) input refusal place r in
+        (not-zero (toldBy strictness e) refusal i, l)
 
 pub unwritten-shape : (edition : ℕ) (rows pool : List ℕ) (room refusal place : ℕ) → write edition rows pool room ≡ unwritten refusal place → WriterRefusal edition rows pool room refusal place
 unwritten-shape edition rows pool room refusal place q = writer-refusal edition rows pool room refusal place q

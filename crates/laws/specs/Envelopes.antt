@@ -12,7 +12,7 @@ use lib.Seq.{take-append-seam, drop-append-seam}
 use borrow.Author.Tests.{ne-eqb, le-ltb, leb-true, leb-false}
 use Rattle.meaning.specs.Basics.{pick}
 use Rattle.meaning.specs.Bytes.{counted, highFirst, twoBytes, fourBytes, lengthBytes}
-use Rattle.meaning.specs.Told.{Edition, Told, strict, told}
+use Rattle.meaning.specs.Told.{Edition, Told, told}
 use Rattle.meaning.specs.Editions.{State}
 use Rattle.meaning.specs.Reading.{Row, Seen, rowOf, done, inside}
 use Rattle.meaning.specs.Headers.{Placed, placedRow, placed, meant, Answer, refused, accepted, behind, envelopeMost, opening, start, Onward, ends, envelope, shortLeast, longLeast, sized, header}
@@ -140,7 +140,7 @@ RefusesHeader n told at s = (refusal : ℕ) × (place : ℕ) × (header n told a
 
 abbrev pub CrossHeader : ℕ → Edition → ℕ → List ℕ → List Row → Type 0
 CrossHeader n e at w table =
-    ((allPlain table ≡ true) × ReadsHeader n (told strict (other e)) at w table) ⊎ ((allPlain table ≡ false) × ((payload : List ℕ) → RefusesHeader n (told strict (other e)) at (w ++ payload)))
+    ((allPlain table ≡ true) × ReadsHeader n (told (other e)) at w table) ⊎ ((allPlain table ≡ false) × ((payload : List ℕ) → RefusesHeader n (told (other e)) at (w ++ payload)))
 
 refused-here : (n : ℕ) (told : Told) (b : Bool) (at : ℕ) (bs rest : List ℕ) → withinLimit (length bs) ≡ true → Refuses told (start b) bs → RefusesHeader (suc n) told at (wrap b bs ++ rest)
 refused-here n told b at bs rest hi (refusal, left, q, t) = (refusal, at + envelopeSize (length bs) - left, envelope-read n told b bs rest at hi ∙ rw q refl, t)
@@ -161,33 +161,33 @@ plain-append (x ∷ xs) ys = at (isPlain x) (plain-append xs ys)
     at false q = refl
 
 base-crosses : (n : ℕ) (e : Edition) (at : ℕ) (rows : List Row) (bs : List ℕ) → withinLimit (length bs) ≡ true → CrossAll e rows (start true) bs → CrossHeader (suc n) e at (wrap true bs) (openingRow true ∷ rows)
-base-crosses n e at rows bs hi (inl (a, r)) = inl (plain-behind true rows ∙ a, base-read n (told strict (other e)) at rows bs hi r)
-base-crosses n e at rows bs hi (inr (a, r)) = inr (plain-behind true rows ∙ a, λ payload. refused-here n (told strict (other e)) true at bs payload hi r)
+base-crosses n e at rows bs hi (inl (a, r)) = inl (plain-behind true rows ∙ a, base-read n (told (other e)) at rows bs hi r)
+base-crosses n e at rows bs hi (inr (a, r)) = inr (plain-behind true rows ∙ a, λ payload. refused-here n (told (other e)) true at bs payload hi r)
 
 module _ (n : ℕ) (e : Edition) (at : ℕ) (rows table : List Row) (bs w : List ℕ) (hi : withinLimit (length bs) ≡ true) where
   plain-both : {x y : Bool} → allPlain rows ≡ x → allPlain table ≡ y → allPlain (openingRow false ∷ (rows ++ table)) ≡ x && y
   plain-both p q = plain-behind false (rows ++ table) ∙ plain-append rows table ∙ rw (p, q) refl
 
-  refused-later : (rs : List Seen) → inside (told strict (other e)) (start false) bs ≡ done rs [] → (payload : List ℕ) → RefusesHeader n (told strict (other e)) (at + envelopeSize (length bs)) (w ++ payload) → RefusesHeader (suc n) (told strict (other e)) at ((wrap false bs ++ w) ++ payload)
+  refused-later : (rs : List Seen) → inside (told (other e)) (start false) bs ≡ done rs [] → (payload : List ℕ) → RefusesHeader n (told (other e)) (at + envelopeSize (length bs)) (w ++ payload) → RefusesHeader (suc n) (told (other e)) at ((wrap false bs ++ w) ++ payload)
   refused-later rs q payload (refusal, place, r, t) =
-      (refusal, place, ap (header (suc n) (told strict (other e)) at) (append-assoc (wrap false bs) w payload) ∙ extension-step n (told strict (other e)) at bs (w ++ payload) rs hi q ∙ rw r refl, t)
+      (refusal, place, ap (header (suc n) (told (other e)) at) (append-assoc (wrap false bs) w payload) ∙ extension-step n (told (other e)) at bs (w ++ payload) rs hi q ∙ rw r refl, t)
 
-  crosses-on : allPlain rows ≡ true → ReadsAll (told strict (other e)) (start false) bs rows → ((x : ℕ) → CrossHeader n e x w table) → (b : Bool) → allPlain table ≡ b → CrossHeader (suc n) e at (wrap false bs ++ w) (openingRow false ∷ (rows ++ table))
-  crosses-on a r ih true p = inl (plain-both a p, extension-read n (told strict (other e)) at rows table bs w hi r (λ x. reads x (ih x)))
+  crosses-on : allPlain rows ≡ true → ReadsAll (told (other e)) (start false) bs rows → ((x : ℕ) → CrossHeader n e x w table) → (b : Bool) → allPlain table ≡ b → CrossHeader (suc n) e at (wrap false bs ++ w) (openingRow false ∷ (rows ++ table))
+  crosses-on a r ih true p = inl (plain-both a p, extension-read n (told (other e)) at rows table bs w hi r (λ x. reads x (ih x)))
     where
-      reads : (x : ℕ) → CrossHeader n e x w table → ReadsHeader n (told strict (other e)) x w table
+      reads : (x : ℕ) → CrossHeader n e x w table → ReadsHeader n (told (other e)) x w table
       reads x (inl (c, h)) = h
       reads x (inr (c, h)) = let z : true ≡ false = sym p ∙ c in let y : _≡_ {A = ℕ} 0 1 = cc z in absurd (omega arith)
   crosses-on a (rs, q, m) ih false p = inr (plain-both a p, λ payload. refused-later rs q payload (lost (at + envelopeSize (length bs)) (ih (at + envelopeSize (length bs))) payload))
     where
-      lost : (x : ℕ) → CrossHeader n e x w table → (payload : List ℕ) → RefusesHeader n (told strict (other e)) x (w ++ payload)
+      lost : (x : ℕ) → CrossHeader n e x w table → (payload : List ℕ) → RefusesHeader n (told (other e)) x (w ++ payload)
       lost x (inl (c, h)) = let z : true ≡ false = sym c ∙ p in let y : _≡_ {A = ℕ} 0 1 = cc z in absurd (omega arith)
       lost x (inr (c, h)) = h
 
   extension-crosses : CrossAll e rows (start false) bs → ((x : ℕ) → CrossHeader n e x w table) → CrossHeader (suc n) e at (wrap false bs ++ w) (openingRow false ∷ (rows ++ table))
   extension-crosses (inl (a, r)) ih = crosses-on a r ih (allPlain table) refl
   extension-crosses (inr (a, r)) ih =
-      inr (plain-both a refl, λ payload. subst (RefusesHeader (suc n) (told strict (other e)) at) (sym (append-assoc (wrap false bs) w payload)) (refused-here n (told strict (other e)) false at bs (w ++ payload) hi r))
+      inr (plain-both a refl, λ payload. subst (RefusesHeader (suc n) (told (other e)) at) (sym (append-assoc (wrap false bs) w payload)) (refused-here n (told (other e)) false at bs (w ++ payload) hi r))
 
 pub header-crosses : (e : Edition) {n : ℕ} {table : List Row} {w : List ℕ} → Writes e n table w → (k : ℕ) → n ≤ k → (at : ℕ) → CrossHeader k e at w table
 header-crosses e (the-base rows st bs q hi) zero h at = absurd (omega arith)

@@ -11,7 +11,7 @@ use lib.ListN.{length}
 use Rattle.meaning.specs.Basics.{every}
 use Rattle.meaning.specs.Bytes.{Reach, absolute, relative, dateChecks}
 use Rattle.meaning.specs.Kinds.{dateAbsolute, dateForward, dateBackward, extraKey, encryptedOpens, agentName}
-use Rattle.meaning.specs.Told.{Edition, B, D, strict, told}
+use Rattle.meaning.specs.Told.{Edition, B, D, told}
 use Rattle.meaning.specs.Editions.{Room, State, Next, outer, inner, innerOne, stay, deeper, listEnds, agentEnds, go, Form, text, date, number, block, itself, opens, quiet, isQuiet, Move, noCode, moves, shared, own}
 use Rattle.meaning.specs.Reading.{Row, Found, none, hit, find, hasCode, look, isClosed, strange, next, step}
 use Rattle.meaning.specs.Writing.{valid, fits, fitRow}
@@ -182,12 +182,12 @@ pub record Foreign (e e′ : Edition) (row : Row) (st : State) (s : List ℕ) (s
   pub at : State
   pub bytes : List ℕ
   pub by : Move
-  pub path : Path (told strict e′) st s [] at (bytes ++ rest)
+  pub path : Path (told e′) st s [] at (bytes ++ rest)
   pub its-own : In by (own e (at .room))
   pub put : Placing at row by st′ bytes
 
 abbrev pub Crosses : Edition → Edition → Row → State → List ℕ → State → List ℕ → Type 0
-Crosses e e′ row st s st′ rest = ((isPlain row ≡ true) × Reads (told strict e′) st s row st′ rest) ⊎ ((isPlain row ≡ false) × Foreign e e′ row st s st′ rest)
+Crosses e e′ row st s st′ rest = ((isPlain row ≡ true) × Reads (told e′) st s row st′ rest) ⊎ ((isPlain row ≡ false) × Foreign e e′ row st s st′ rest)
 
 or-true : (a : Bool) → T (false || a) → a ≡ true
 or-true true t = refl
@@ -199,7 +199,7 @@ cross-own e e′ row st st′ m bs rest (inl i) p =
     let a : T (isQuiet (m .form) || plainMove m) = right-of (datedOk m) (isQuiet (m .form) || plainMove m) t in
     inl (
       sym (plain-same st st′ row m bs (left-of (datedOk m) (isQuiet (m .form) || plainMove m) t) p) ∙ or-true (plainMove m) (rw (p .loud) at a),
-      reads-own (told strict e′) row st st′ m bs (in-shared e′ (st .room) m i) p rest,
+      reads-own (told e′) row st st′ m bs (in-shared e′ (st .room) m i) p rest,
     )
 cross-own e e′ row st st′ m bs rest (inr i) p =
     let o = alone e (st .room) i in
@@ -210,10 +210,10 @@ quiet-shared : (e : Edition) (r : Room) (m : Move) → isQuiet (m .form) ≡ tru
 quiet-shared e r m q (inl i) = i
 quiet-shared e r m q (inr i) = let z = alone e r i .loud in let a : true ≡ false = sym q ∙ z in let y : _≡_ {A = ℕ} 0 1 = cc a in absurd (omega arith)
 
-pub step-quiet-other : (e e′ : Edition) (st : State) (m : Move) (s : List ℕ) → In m (moves e (st .room)) → isQuiet (m .form) ≡ true → step (told strict e′) st (m .code ∷ s) ≡ next (go (m .next) st) [] s
-step-quiet-other e e′ st m s i q = step-quiet (told strict e′) st m s (in-shared e′ (st .room) m (quiet-shared e (st .room) m q (in-moves e (st .room) m i))) q
+pub step-quiet-other : (e e′ : Edition) (st : State) (m : Move) (s : List ℕ) → In m (moves e (st .room)) → isQuiet (m .form) ≡ true → step (told e′) st (m .code ∷ s) ≡ next (go (m .next) st) [] s
+step-quiet-other e e′ st m s i q = step-quiet (told e′) st m s (in-shared e′ (st .room) m (quiet-shared e (st .room) m q (in-moves e (st .room) m i))) q
 
-cross-after : (e e′ : Edition) (row : Row) (st st₁ st′ : State) (s s₁ rest : List ℕ) → step (told strict e′) st s ≡ next st₁ [] s₁ → Crosses e e′ row st₁ s₁ st′ rest → Crosses e e′ row st s st′ rest
+cross-after : (e e′ : Edition) (row : Row) (st st₁ st′ : State) (s s₁ rest : List ℕ) → step (told e′) st s ≡ next st₁ [] s₁ → Crosses e e′ row st₁ s₁ st′ rest → Crosses e e′ row st s st′ rest
 cross-after e e′ row st st₁ st′ s s₁ rest q (inl (a, (left, p))) = inl (a, (left, moves-on q p))
 cross-after e e′ row st st₁ st′ s s₁ rest q (inr (a, f)) = inr (a, record { at = f .at; bytes = f .bytes; by = f .by; path = moves-on q (f .path); its-own = f .its-own; put = f .put })
 

@@ -10,7 +10,7 @@ use lib.Dec.{eqb, ltb}
 use lib.ListN.{length, take, drop, length-append, length-take}
 use Rattle.meaning.specs.Basics.{pick}
 use Rattle.meaning.specs.Bytes.{Taken, took, failed, Count, counted, short, highFirst, Width, oneByte, twoBytes, fourBytes, bytesOf, fewest, tooWide, takeBytes, blockOf, takeBlock}
-use Rattle.meaning.specs.Told.{Edition, strict, tolerant, Told, told}
+use Rattle.meaning.specs.Told.{Edition, tolerant, Told, toldBy, told}
 use Rattle.meaning.specs.Editions.{State, Form, text, date, number, block, itself, opens, quiet, Move, noCode, moves}
 use Rattle.meaning.specs.Reading.{Seen, takeValue, Found, none, hit, hasCode, look, tooDeep, Step, fails, over, next, stepTaken, valueFrom, stepMove, step, Out, dry, fault, done, withRows, onward, run, inside}
 use Rattle.meaning.specs.Headers.{Placed, placedRow, placed, Answer, refused, accepted, behind, envelopeMost, opening, start, ends, envelope, shortLeast, longLeast, longForm, sized, Identifier, extension, base, neither, identifierOf, identified, seventeenth, header}
@@ -88,10 +88,10 @@ pick-beside at false r a b h = h
 
 module _ (e : Edition) where
   abbrev strictly : Told
-  strictly = told strict e
+  strictly = told e
 
   abbrev tolerantly : Told
-  tolerantly = told tolerant e
+  tolerantly = toldBy tolerant e
 
   -- no length is too wide for the tolerant reading
   never-wide : (w : Width) (n : ℕ) → tooWide tolerantly w n ≡ false

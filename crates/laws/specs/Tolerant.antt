@@ -9,7 +9,7 @@ use lib.Dec.{T, eqb}
 use lib.ListN.{length, replicate}
 use lib.Seq.{take-append-seam}
 use Rattle.meaning.specs.Bytes.{textByte, takeText, turn, takeNumber, lastDay, passes, takeDate, highFirst, tooWide, takeBytes, blockOf, takeBlock}
-use Rattle.meaning.specs.Told.{Edition, Label, known, unknown, labelOf, strict, tolerant, told}
+use Rattle.meaning.specs.Told.{Edition, Label, known, unknown, labelOf, strict, tolerant, toldBy}
 use Rattle.meaning.specs.Editions.{shared, own, moves}
 use Rattle.meaning.specs.Reading.{takeValue, find, look, stepMove, step, run, inside}
 use Rattle.meaning.specs.Headers.{Placed, Answer, refused, accepted, envelopesMost, envelope, header, labelled, readBy, read, readTolerant}
@@ -51,12 +51,12 @@ pub never-eleven : (edition : ℕ) (input : List ℕ) (refusal place : ℕ) → 
 unfolding readBy
 never-eleven edition input refusal place q is = at (labelOf edition) q
   where
-    eleven : (e : Edition) (k : ℕ) → k ≡ 11 → T (mayRefuse (told tolerant e) k) → ⊥
+    eleven : (e : Edition) (k : ℕ) → k ≡ 11 → T (mayRefuse (toldBy tolerant e) k) → ⊥
     eleven e k p t = rw p at t
 
     at : (l : Label) → labelled tolerant input l ≡ refused refusal place → ⊥
     at unknown r = let a : 1 ≡ refusal = cc r in absurd (omega arith)
-    at (known e) r = eleven e refusal is (refused-shape envelopesMost (told tolerant e) input refusal place r .0)
+    at (known e) r = eleven e refusal is (refused-shape envelopesMost (toldBy tolerant e) input refusal place r .0)
 
 -- Where the strict reading gives 11, the tolerant one accepts, or refuses for a fault behind that place.
 

@@ -7,7 +7,7 @@ use lib.ListN.{length, take, drop}
 use Rattle.meaning.specs.Basics.{pick}
 use Rattle.meaning.specs.Bytes.{Count, counted, short, highFirst}
 use Rattle.meaning.specs.Kinds.{extensionOpens, baseOpens}
-use Rattle.meaning.specs.Told.{Label, known, unknown, labelOf, Strictness, strict, tolerant, Told, told}
+use Rattle.meaning.specs.Told.{Label, known, unknown, labelOf, Strictness, strict, tolerant, Told, toldBy}
 use Rattle.meaning.specs.Editions.{headRepresentation, receivedBegins, State, state}
 use Rattle.meaning.specs.Reading.{Row, Seen, Out, dry, fault, done, inside}
 
@@ -120,7 +120,7 @@ header (suc n) t at (b ∷ s) = identified t at s (header n t) (identifierOf b)
 -- "1: edition not 1 or 2; before all else, 0"
 abbrev pub labelled : Strictness → List ℕ → Label → Answer
 labelled strictness input unknown = refused 1 0
-labelled strictness input (known e) = header envelopesMost (told strictness e) 0 input
+labelled strictness input (known e) = header envelopesMost (toldBy strictness e) 0 input
 
 unfoldable pub readBy : Strictness → ℕ → List ℕ → Answer
 readBy strictness edition input = labelled strictness input (labelOf edition)

@@ -22,5 +22,9 @@ pub record Told : Type 0 where
   pub edition : Edition
   pub strictness : Strictness
 
-abbrev pub told : Strictness → Edition → Told
-told strictness e = record { edition = e; strictness = strictness }
+abbrev pub toldBy : Strictness → Edition → Told
+toldBy strictness e = record { edition = e; strictness = strictness }
+
+-- document 01's reading is told the edition and no more: it is strict
+abbrev pub told : Edition → Told
+told e = toldBy strict e
