@@ -140,14 +140,17 @@ module _ (told : Told) (r : Room) (n : Next) (has : anyValues n ≡ moves (told 
 
 -- The rooms that have blocks: any-values, and nothing else
 
+abbrev isRoom : Room → Room → Bool
+isRoom r t = eqb (roomNumber r) (roomNumber t)
+
 abbrev hasBlocks : Room → Bool
-hasBlocks r = eqb (roomNumber r) (roomNumber behaviourValue) || eqb (roomNumber r) (roomNumber receivedExtra) || eqb (roomNumber r) (roomNumber agentExtra)
+hasBlocks r = isRoom r behaviourValue || isRoom r receivedExtra || isRoom r agentExtra
 
 blocks-test : T (allRooms (λ e r. every (λ m. not (isBlock (m .form)) || hasBlocks r) (moves e r)))
 unfolding shared own moves
 blocks-test = tt
 
-room-of : (r t : Room) → T (eqb (roomNumber r) (roomNumber t)) → r ≡ t
+room-of : (r t : Room) → T (isRoom r t) → r ≡ t
 room-of r t q = sym (room-again r) ∙ ap (λ (n : ℕ). roomAt n rooms) (eqb→eq (roomNumber r) (roomNumber t) q) ∙ room-again t
 
 module _ (told : Told) (r : Room) (m : Move) (v : List ℕ) (i : In m (moves (told .edition) r)) where
@@ -162,17 +165,17 @@ module _ (told : Told) (r : Room) (m : Move) (v : List ℕ) (i : In m (moves (to
   unfolding shared own moves
   wide-shortest q t = at (either (not (isBlock (m .form))) (hasBlocks r) (every-in (λ x. not (isBlock (x .form)) || hasBlocks r) i (each-room (λ e x. every (λ y. not (isBlock (y .form)) || hasBlocks x) (moves e x)) blocks-test (told .edition) r)))
     where
-      first : T (eqb (roomNumber r) 6) ⊎ T (eqb (roomNumber r) 13) → Shortest told r m v
+      first : T (isRoom r behaviourValue) ⊎ T (isRoom r receivedExtra) → Shortest told r m v
       first (inl p) = any-room behaviourValue (room-of r behaviourValue p) (_, refl) q t
       first (inr p) = any-room receivedExtra (room-of r receivedExtra p) (_, refl) q t
 
-      which : T (eqb (roomNumber r) 6 || eqb (roomNumber r) 13) ⊎ T (eqb (roomNumber r) 20) → Shortest told r m v
-      which (inl p) = first (either (eqb (roomNumber r) 6) (eqb (roomNumber r) 13) p)
+      which : T (isRoom r behaviourValue || isRoom r receivedExtra) ⊎ T (isRoom r agentExtra) → Shortest told r m v
+      which (inl p) = first (either (isRoom r behaviourValue) (isRoom r receivedExtra) p)
       which (inr p) = any-room agentExtra (room-of r agentExtra p) (_, refl) q t
 
       at : T (not (isBlock (m .form))) ⊎ T (hasBlocks r) → Shortest told r m v
       at (inl p) = absurd (not-both (isBlock (m .form)) (subst T (sym q) tt) p)
-      at (inr p) = which (either (eqb (roomNumber r) 6 || eqb (roomNumber r) 13) (eqb (roomNumber r) 20) p)
+      at (inr p) = which (either (isRoom r behaviourValue || isRoom r receivedExtra) (isRoom r agentExtra) p)
 
   pub shortest : isQuiet (m .form) ≡ false → T (allowed told (m .form) (m .code) v) → Shortest told r m v
   shortest nq t = by (isBlock (m .form)) refl

@@ -91,7 +91,7 @@ short-form edition input place rows t q =
     let here = w .is (length (w .bytes)) (omega arith) in
     let strictly = written-then-read edition (tableOf rows) input (length (w .bytes)) (w .bytes) t here in
     let alike : (payload : List ℕ) → readTolerant edition (w .bytes ++ payload) ≡ read edition (w .bytes ++ payload) =
-            λ payload. let (found, is, means) = strictly payload in accepted-agrees edition (w .bytes ++ payload) (length (w .bytes)) found is ∙ sym is in
+    λ payload. let (found, is, means) = strictly payload in accepted-agrees edition (w .bytes ++ payload) (length (w .bytes)) found is ∙ sym is in
     record {
       bytes = w .bytes;
       is = w .is;
