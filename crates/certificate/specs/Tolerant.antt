@@ -11,9 +11,9 @@ use lib.ListN.{length, take}
 use lib.Seq.{take-append-seam}
 use Rattle.meaning.specs.Basics.{pick}
 use Rattle.meaning.specs.Told.{strict, tolerant}
-use Rattle.meaning.specs.Headers.{Placed, Answer, refused, accepted, readBy, read, readTolerant}
+use Rattle.meaning.specs.Headers.{Answer, refused, accepted, read, readTolerant}
 use Rattle.meaning.specs.Writing.{written}
-use Rattle.meaning.specs.Memory.{tableOf, roomOf, laidOver, Reply, reply, readReply, readMemory, answerBy, rowsBy, write}
+use Rattle.meaning.specs.Memory.{tableOf, roomOf, Reply, reply, readReply, readMemory, answerBy, rowsBy, write}
 use Rattle.laws.specs.Logic.{areBytes}
 use Rattle.laws.specs.WrittenBytes.{bytes-append}
 use Rattle.laws.specs.Tolerance.{After}
@@ -21,11 +21,11 @@ use Rattle.laws.specs.Tolerant.{tolerant-agrees, accepted-agrees, never-eleven,
 use Rattle.laws.specs.Demands.{written-then-read, written-are-bytes-of}
 use Rattle.listing.specs.Listed.{table-length}
 use Rattle.table.specs.declared.reply.Reply as declared
-use Rattle.reader.specs.Promises.{ReadsBy, ReadPromise, TolerantPromise}
+use Rattle.reader.specs.Promises.{ReadPromise, TolerantPromise}
 use Rattle.writer.specs.Promise.{WritePromise}
 use Rattle.certificate.specs.OneAnswer.{one-read}
 use Rattle.certificate.specs.Lent.{firstRows, laid-front, rows-read, bytes-written, accepted-call, refuses, lays, written-call}
-use Rattle.certificate.specs.Calls.{SameBytes, read-write-same-bytes, sent, SameTable, write-read-same-table}
+use Rattle.certificate.specs.Calls.{read-write-same-bytes, sent, SameTable, write-read-same-table}
 
 -- where the two readings agree, a call of the one is a call of the other
 as-strict : {edition : ℕ} {input before after : List ℕ} {a : declared.Reply} → readTolerant edition input ≡ read edition input → TolerantPromise edition input before a after → ReadPromise edition input before a after
@@ -99,7 +99,7 @@ module _ {edition : ℕ} {input before rows output out : List ℕ} {a b : declar
   -- a second time: read tolerantly with any payload behind it, and written from those rows, it is the same header
   pub tolerant-again : (payload : List ℕ) → T (areBytes payload) → {lent later output′ out′ : List ℕ} {c d : declared.Reply} → TolerantPromise edition (sent b out payload) lent c later → b .rows ≤ roomOf lent
       → WritePromise edition (firstRows (c .rows) later) (sent b out payload) output′ d out′ → b .place ≤ length output′ → (d .answer ≡ 0) × (d .place ≡ b .place) × (take (d .place) out′ ≡ take (b .place) out)
-  tolerant-again payload u {output′ = output′} {c = c} r few s room′ =
+  tolerant-again payload u {output′ = output′} {c = c} {d = d} r few s room′ =
       let (bytes, w, l) = written-call q (tolerant-then-written .0) in
       let front : take (b .place) out ≡ bytes = bytes-written l in
       let long : length (take (b .place) out) ≡ b .place = ap length front ∙ sym (l .ends) in
@@ -108,7 +108,7 @@ module _ {edition : ℕ} {input before rows output out : List ℕ} {a b : declar
       let holds : T (areBytes (sent b out payload)) = bytes-append (take (b .place) out) payload (subst (λ (x : List ℕ). T (areBytes x)) (sym front) (written-are-bytes-of edition (firstRows (a .rows) rows) input (length output) bytes t w)) u in
       let again = read-write-same-bytes holds strictly (same .answers) s (omega (arith, same .ends)) in
       let header : take (c .place) (sent b out payload) ≡ take (b .place) out = ap (λ (n : ℕ). take n (sent b out payload)) (same .ends ∙ sym long) ∙ take-append-seam (take (b .place) out) payload in
-      (again .answers, again .ends ∙ same .ends, ap (take _) (again .leaves) ∙ laid-front output′ (take (c .place) (sent b out payload)) (ap length header ∙ long ∙ sym (again .ends ∙ same .ends)) ∙ header)
+      (again .answers, again .ends ∙ same .ends, ap (take (d .place)) (again .leaves) ∙ laid-front output′ (take (c .place) (sent b out payload)) (ap length header ∙ long ∙ sym (again .ends ∙ same .ends)) ∙ header)
     where
       -- the two readings agree on it
       alike : (bytes : List ℕ) → write edition (firstRows (a .rows) rows) input (length output) ≡ written bytes → take (b .place) out ≡ bytes → (payload : List ℕ) → readTolerant edition (sent b out payload) ≡ read edition (sent b out payload)

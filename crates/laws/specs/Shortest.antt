@@ -7,16 +7,16 @@ use mathlib.Core.Logic.{_⊎_, inl, inr}
 use mathlib.Core.Path.{_≡_, refl, ap, sym, _∙_, subst}
 use native.Mathlib.Omega.{arith}
 use lib.Dec.{T, eqb, leb, ltb, le→leb, lt→ltb, ltb→lt, eqb→eq}
-use lib.ListN.{length, length-append}
+use lib.ListN.{length}
 use borrow.Author.Tests.{ltb-true, ltb-false}
 use Rattle.meaning.specs.Basics.{every}
-use Rattle.meaning.specs.Bytes.{Width, oneByte, twoBytes, fourBytes, bytesOf, fewest, past, shortestOnly, tooWide, lengthBytes, blockOk}
+use Rattle.meaning.specs.Bytes.{Width, oneByte, twoBytes, fourBytes, bytesOf, fewest, past, shortestOnly, tooWide, blockOk}
 use Rattle.meaning.specs.Kinds.{agentName, anyBytes}
 use Rattle.meaning.specs.Told.{Strictness, strict, Told}
 use Rattle.meaning.specs.Editions.{Room, behaviourValue, receivedExtra, agentExtra, State, Form, text, date, number, block, itself, opens, quiet, isQuiet, Next, Move, on_▸_▸_▸_, anyValues, shared, own, moves}
 use Rattle.meaning.specs.Reading.{levelMost, tooDeep}
 use Rattle.meaning.specs.Writing.{valid, writeValue, lead}
-use Rattle.laws.specs.Logic.{left-of, right-of, both, either, is-true, not-both}
+use Rattle.laws.specs.Logic.{left-of, right-of, both, either, not-both}
 use Rattle.laws.specs.Values.{mayStand, allowed}
 use Rattle.laws.specs.Tables.{In, here, there, every-in, allRooms, each-room, rooms, roomNumber, roomAt, room-again}
 

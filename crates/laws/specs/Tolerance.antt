@@ -13,7 +13,7 @@ use Rattle.meaning.specs.Bytes.{Taken, took, failed, Count, counted, short, hig
 use Rattle.meaning.specs.Told.{Edition, tolerant, Told, toldBy, told}
 use Rattle.meaning.specs.Editions.{State, Form, text, date, number, block, itself, opens, quiet, Move, noCode, moves}
 use Rattle.meaning.specs.Reading.{Seen, takeValue, Found, none, hit, hasCode, look, tooDeep, Step, fails, over, next, stepTaken, valueFrom, stepMove, step, Out, dry, fault, done, withRows, onward, run, inside}
-use Rattle.meaning.specs.Headers.{Placed, placedRow, placed, Answer, refused, accepted, behind, envelopeMost, opening, start, ends, envelope, shortLeast, longLeast, longForm, sized, Identifier, extension, base, neither, identifierOf, identified, seventeenth, header}
+use Rattle.meaning.specs.Headers.{Placed, placedRow, placed, Answer, refused, accepted, behind, envelopeMost, opening, start, ends, envelope, shortLeast, longLeast, longForm, sized, Identifier, extension, base, neither, identifierOf, identified, header}
 use Rattle.laws.specs.Values.{Took, bytes-out}
 use Rattle.laws.specs.Steps.{Shrinks, step-shrinks, Wet, never-dry}
 use Rattle.laws.specs.Refusals.{Numbered, bytes-numbered, from-few, OutNumbered, run-numbered, Leaves, high-leaves, Refusing, header-refusing}

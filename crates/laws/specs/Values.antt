@@ -4,9 +4,9 @@ use mathlib.Core.List.{List, [], _∷_, _++_, append-assoc}
 use mathlib.Core.Bool.{Bool, true, false, _&&_, not}
 use mathlib.Core.Path.{_≡_, refl, ap, sym, subst}
 use native.Mathlib.Omega.{arith}
-use lib.Dec.{T, eqb, leb, ltb, leb→le, ltb→lt, le→leb, lt→ltb, eqb→eq, eqb-refl}
+use lib.Dec.{T, eqb, leb, ltb, leb→le, ltb→lt, lt→ltb, eqb→eq, eqb-refl}
 use lib.ListN.{length}
-use borrow.Author.Tests.{ne-eqb, le-ltb, eqb-true, ltb-false}
+use borrow.Author.Tests.{ne-eqb, le-ltb, eqb-true}
 use Rattle.meaning.specs.Told.{known, Told}
 use Rattle.meaning.specs.Basics.{pick, isEmpty}
 use Rattle.meaning.specs.Bytes.{Taken, took, failed, prefixed, Rule, line, note, textByte, takeText, textOk, Check, passes, takeDate, dateOk, dateChecks, Turn, stop, more, wrong, turn, afterTurn, okTurn, takeNumber, numberOk, takeBytes, highFirst, counted, Width, oneByte, twoBytes, fourBytes, bytesOf, fewest, past, shortestOnly, tooWide, lengthBytes, blockOf, takeBlock, blockOk}

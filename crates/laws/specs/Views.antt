@@ -10,7 +10,7 @@ use lib.Seq.{take-append-seam, drop-append-seam}
 use borrow.Author.Tests.{eqb-true}
 use Rattle.meaning.specs.Basics.{pick}
 use Rattle.meaning.specs.Bytes.{lengthBytes}
-use Rattle.meaning.specs.Told.{Edition, Told}
+use Rattle.meaning.specs.Told.{Told}
 use Rattle.meaning.specs.Editions.{State, Form, text, date, number, block, itself, opens, quiet, isQuiet, noCode}
 use Rattle.meaning.specs.Reading.{Seen, seen, reachBack, hasCode, Step, fails, over, next, step, done, onward, run, inside}
 use Rattle.meaning.specs.Headers.{Placed, placed}

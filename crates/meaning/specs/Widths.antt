@@ -6,7 +6,7 @@ use lib.Dec.{leb}
 use lib.ListN.{length, replicate}
 use Rattle.meaning.specs.Basics.{pick, every}
 use Rattle.meaning.specs.Told.{Strictness, strict, tolerant}
-use Rattle.meaning.specs.Headers.{Answer, readBy}
+use Rattle.meaning.specs.Headers.{readBy}
 use Rattle.meaning.specs.Memory.{tableOf, readReply, write}
 use Rattle.meaning.specs.Cases.{same, hex, aDate, replyIs, rowsIn, viewsFrom, bytesAre}
 
