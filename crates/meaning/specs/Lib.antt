@@ -5,6 +5,7 @@ pub mod Bytes
 pub mod Kinds
 pub mod Editions
 pub mod Reading
+pub mod Skips
 pub mod Headers
 pub mod Writing
 pub mod Memory
@@ -18,4 +19,5 @@ pub mod Refusing
 pub mod Coding
 pub mod Days
 pub mod Breaks
+pub mod Hops
 pub mod Bounds
