@@ -1,27 +1,26 @@
 -- Belonging nests: what belongs to a row that belongs to another belongs to that too, whatever kinds and levels they have. So a row's rows are found
 -- by hopping over those of the rows in it.
-use Prim.Native.Nat.{ℕ, zero, suc, _+_, _-_, _≤_, _<_}
+use Prim.Native.Nat.{ℕ, suc, _+_, _≤_, _<_}
 use mathlib.Core.List.{List, [], _∷_}
 use mathlib.Core.Bool.{Bool, true, false, _&&_, _||_}
 use mathlib.Core.Logic.{_⊎_, inl, inr}
-use mathlib.Core.Path.{_≡_, refl, ap, sym, _∙_, subst}
+use mathlib.Core.Path.{_≡_, refl, ap, sym, _∙_}
 use native.Mathlib.Omega.{arith}
-use lib.Dec.{T, eqb, leb, ltb}
+use lib.Dec.{eqb, ltb}
 use lib.ListN.{length, drop}
-use borrow.Author.Tests.{ltb-true, ltb-false, leb-true, leb-false, eqb-true, eqb-false, lt-ltb, le-leb, eq-eqb}
+use borrow.Author.Tests.{ltb-true, eqb-true, lt-ltb, eq-eqb}
 use Rattle.meaning.specs.Basics.{pick}
-use Rattle.meaning.specs.Skips.{Rank, Span, span, within, beside, isEnvelope, holdsDeeper, belongs, belonging}
-use Rattle.laws.specs.Logic.{is-true}
+use Rattle.meaning.specs.Skips.{Rank, isEnvelope, holdsDeeper, isValue, beside, belongs, belonging}
 
 -- Kinds
 
--- what holds of each span, under the kinds that have it, holds of a kind's own
-by-beside : (P : Span → Type 0) (k : ℕ) → (k ≡ 1 → P (span 3 29)) → (k ≡ 2 → P (span 3 29)) → (k ≡ 15 → P (span 16 21)) → (k ≡ 16 → P (span 17 17)) → (k ≡ 19 → P (span 20 21)) → (k ≡ 29 → P (span 20 21))
-    → (k ≡ 25 → P (span 26 26)) → (k ≡ 27 → P (span 28 28)) → P (span 1 0) → P (beside k)
+-- what holds of each test of kinds, under the kinds that have it, holds of a kind's own
+by-beside : (P : (ℕ → Bool) → Type 0) (k : ℕ) → (k ≡ 1 → P (λ c. ltb 2 c)) → (k ≡ 2 → P (λ c. ltb 2 c)) → (k ≡ 15 → P (λ c. ltb 15 c)) → (k ≡ 16 → P (λ c. eqb c 17)) → (k ≡ 19 → P (λ c. isValue c)) → (k ≡ 29 → P (λ c. isValue c))
+    → (k ≡ 25 → P (λ c. eqb c 26)) → (k ≡ 27 → P (λ c. eqb c 28)) → P (λ c. false) → P (λ c. beside k c)
 by-beside P k p₁ p₂ p₁₅ p₁₆ p₁₉ p₂₉ p₂₅ p₂₇ p₀ = at (eqb k 1) (eqb k 2) (eqb k 15) (eqb k 16) (eqb k 19) (eqb k 29) (eqb k 25) (eqb k 27) refl refl refl refl refl refl refl refl
   where
     at : (a b c d e f g h : Bool) → eqb k 1 ≡ a → eqb k 2 ≡ b → eqb k 15 ≡ c → eqb k 16 ≡ d → eqb k 19 ≡ e → eqb k 29 ≡ f → eqb k 25 ≡ g → eqb k 27 ≡ h
-        → P (pick (a || b) (span 3 29) (pick c (span 16 21) (pick d (span 17 17) (pick (e || f) (span 20 21) (pick g (span 26 26) (pick h (span 28 28) (span 1 0)))))))
+        → P (λ x. pick (a || b) (ltb 2 x) (pick c (ltb 15 x) (pick d (eqb x 17) (pick (e || f) (isValue x) (pick g (eqb x 26) (pick h (eqb x 28) false))))))
     at true b c d e f g h qa qb qc qd qe qf qg qh = p₁ (eqb-true k 1 qa)
     at false true c d e f g h qa qb qc qd qe qf qg qh = p₂ (eqb-true k 2 qb)
     at false false true d e f g h qa qb qc qd qe qf qg qh = p₁₅ (eqb-true k 15 qc)
@@ -32,89 +31,94 @@ by-beside P k p₁ p₂ p₁₅ p₁₆ p₁₉ p₂₉ p₂₅ p₂₇ p₀ = a
     at false false false false false false false true qa qb qc qd qe qf qg qh = p₂₇ (eqb-true k 27 qh)
     at false false false false false false false false qa qb qc qd qe qf qg qh = p₀
 
-abbrev pub In : Span → ℕ → Type 0
-In s k = (s .first ≤ k) × (k ≤ s .last)
+false-not : {A : Type 0} → false ≡ true → A
+false-not q = let z : _≡_ {A = ℕ} 0 1 = cc q in absurd (omega arith)
 
--- a value, an item, an address have nothing beside them, and nothing deeper
-none-beside : (k b : ℕ) {c : ℕ} → beside k ≡ span 1 0 → b ≡ k → In (beside b) c → ⊥
-none-beside k b {c} n q i = let (x, y) = subst (λ (s : Span). In s c) (ap beside q ∙ n) i in absurd (omega arith)
-
-two-values : {A : Type 0} (b : ℕ) → In (span 20 21) b → (b ≡ 20 → A) → (b ≡ 21 → A) → A
-two-values {A} b (x, y) f g = at (eqb b 20) refl
+value-is : {A : Type 0} (c : ℕ) → isValue c ≡ true → (c ≡ 20 → A) → (c ≡ 21 → A) → A
+value-is {A} c h f g = at (eqb c 20) (eqb c 21) refl refl h
   where
-    at : (z : Bool) → eqb b 20 ≡ z → A
-    at true q = f (eqb-true b 20 q)
-    at false q = let n = eqb-false b 20 q in g (omega arith)
+    at : (x y : Bool) → eqb c 20 ≡ x → eqb c 21 ≡ y → x || y ≡ true → A
+    at true y p q r = f (eqb-true c 20 p)
+    at false true p q r = g (eqb-true c 21 q)
+    at false false p q r = false-not r
 
--- nothing that stands beside a row is an envelope's
-inner : (b c : ℕ) → In (beside b) c → In (span 3 29) c
-inner b c =
-    by-beside (λ s. In s c → In (span 3 29) c) b (λ q i. i) (λ q i. i) (λ q (x, y). (omega arith, omega arith)) (λ q (x, y). (omega arith, omega arith)) (λ q (x, y). (omega arith, omega arith))
-    (λ q (x, y). (omega arith, omega arith)) (λ q (x, y). (omega arith, omega arith)) (λ q (x, y). (omega arith, omega arith)) (λ (x, y). absurd (omega arith))
+-- what a row has beside it is above an envelope's kind; beside an agent's own rows, above an agent's
+above : (least b c : ℕ) → (b ≡ 1 → least ≤ 2) → (b ≡ 2 → least ≤ 2) → (b ≡ 15 → least ≤ 15) → least ≤ 16 → beside b c ≡ true → least < c
+above least b c h₁ h₂ h₁₅ h =
+    by-beside (λ f. f c ≡ true → least < c) b (λ q i. let x = ltb-true 2 c i in let y = h₁ q in omega arith) (λ q i. let x = ltb-true 2 c i in let y = h₂ q in omega arith)
+    (λ q i. let x = ltb-true 15 c i in let y = h₁₅ q in omega arith) (λ q i. let x = eqb-true c 17 i in omega arith) (λ q i. value-is c i (λ x. omega arith) (λ x. omega arith)) (λ q i. value-is c i (λ x. omega arith) (λ x. omega arith))
+    (λ q i. let x = eqb-true c 26 i in omega arith) (λ q i. let x = eqb-true c 28 i in omega arith) (λ i. false-not i)
 
--- what stands beside an agent's own rows is an agent's own
-agents : (b c : ℕ) → In (span 16 21) b → In (beside b) c → In (span 16 21) c
-agents b c (l, h) =
-    by-beside (λ s. In s c → In (span 16 21) c) b (λ q i. absurd (omega arith)) (λ q i. absurd (omega arith)) (λ q i. absurd (omega arith)) (λ q (x, y). (omega arith, omega arith)) (λ q (x, y). (omega arith, omega arith))
-    (λ q i. absurd (omega arith)) (λ q i. absurd (omega arith)) (λ q i. absurd (omega arith)) (λ (x, y). absurd (omega arith))
+-- a value, an item, an address have nothing beside them
+none-beside : (k b c : ℕ) → ((x : ℕ) → beside k x ≡ false) → b ≡ k → beside b c ≡ true → ⊥
+none-beside k b c n q i = false-not (sym (n c) ∙ ap (λ (x : ℕ). beside x c) (sym q) ∙ i)
 
-kinds-nest : (a b c : ℕ) → In (beside a) b → In (beside b) c → In (beside a) c
+kinds-nest : (a b c : ℕ) → beside a b ≡ true → beside b c ≡ true → beside a c ≡ true
 kinds-nest a b c =
-    by-beside (λ s. In s b → In (beside b) c → In s c) a (λ q i j. inner b c j) (λ q i j. inner b c j) (λ q i j. agents b c i j)
-    (λ q (x, y) j. absurd (none-beside 17 b refl (omega arith) j))
-    (λ q i j. two-values b i (λ e. absurd (none-beside 20 b refl e j)) (λ e. absurd (none-beside 21 b refl e j)))
-    (λ q i j. two-values b i (λ e. absurd (none-beside 20 b refl e j)) (λ e. absurd (none-beside 21 b refl e j)))
-    (λ q (x, y) j. absurd (none-beside 26 b refl (omega arith) j))
-    (λ q (x, y) j. absurd (none-beside 28 b refl (omega arith) j))
-    (λ (x, y) j. absurd (omega arith))
+    by-beside (λ f. f b ≡ true → beside b c ≡ true → f c ≡ true) a (λ q i j. envelopes i j) (λ q i j. envelopes i j)
+    (λ q i j. let l = ltb-true 15 b i in lt-ltb 15 c (above 15 b c (λ e. absurd (omega arith)) (λ e. absurd (omega arith)) (λ e. omega arith) (omega arith) j))
+    (λ q i j. absurd (none-beside 17 b c (λ x. refl) (eqb-true b 17 i) j))
+    (λ q i j. value-is b i (λ e. absurd (none-beside 20 b c (λ x. refl) e j)) (λ e. absurd (none-beside 21 b c (λ x. refl) e j)))
+    (λ q i j. value-is b i (λ e. absurd (none-beside 20 b c (λ x. refl) e j)) (λ e. absurd (none-beside 21 b c (λ x. refl) e j)))
+    (λ q i j. absurd (none-beside 26 b c (λ x. refl) (eqb-true b 26 i) j))
+    (λ q i j. absurd (none-beside 28 b c (λ x. refl) (eqb-true b 28 i) j))
+    (λ i j. false-not i)
+  where
+    envelopes : ltb 2 b ≡ true → beside b c ≡ true → ltb 2 c ≡ true
+    envelopes i j = lt-ltb 2 c (above 2 b c (λ e. omega arith) (λ e. omega arith) (λ e. omega arith) (omega arith) j)
 
 none-deeper : (k b : ℕ) → holdsDeeper k ≡ false → b ≡ k → holdsDeeper b ≡ true → ⊥
-none-deeper k b n q h = let e : false ≡ true = sym n ∙ ap holdsDeeper (sym q) ∙ h in let z : _≡_ {A = ℕ} 0 1 = cc e in omega arith
+none-deeper k b n q h = false-not (sym n ∙ ap holdsDeeper (sym q) ∙ h)
 
-deeper-nests : (a b : ℕ) → In (beside a) b → holdsDeeper b ≡ true → holdsDeeper a ≡ true
+deeper-nests : (a b : ℕ) → beside a b ≡ true → holdsDeeper b ≡ true → holdsDeeper a ≡ true
 deeper-nests a b =
-    by-beside (λ s. In s b → holdsDeeper b ≡ true → holdsDeeper a ≡ true) a (λ q i h. ap holdsDeeper q) (λ q i h. ap holdsDeeper q) (λ q i h. ap holdsDeeper q)
-    (λ q (x, y) h. absurd (none-deeper 17 b refl (omega arith) h))
-    (λ q i h. two-values b i (λ e. absurd (none-deeper 20 b refl e h)) (λ e. absurd (none-deeper 21 b refl e h)))
-    (λ q i h. two-values b i (λ e. absurd (none-deeper 20 b refl e h)) (λ e. absurd (none-deeper 21 b refl e h)))
-    (λ q (x, y) h. absurd (none-deeper 26 b refl (omega arith) h))
-    (λ q (x, y) h. absurd (none-deeper 28 b refl (omega arith) h))
-    (λ (x, y) h. absurd (omega arith))
+    by-beside (λ f. f b ≡ true → holdsDeeper b ≡ true → holdsDeeper a ≡ true) a (λ q i h. ap holdsDeeper q) (λ q i h. ap holdsDeeper q) (λ q i h. ap holdsDeeper q)
+    (λ q i h. absurd (none-deeper 17 b refl (eqb-true b 17 i) h))
+    (λ q i h. value-is b i (λ e. absurd (none-deeper 20 b refl e h)) (λ e. absurd (none-deeper 21 b refl e h)))
+    (λ q i h. value-is b i (λ e. absurd (none-deeper 20 b refl e h)) (λ e. absurd (none-deeper 21 b refl e h)))
+    (λ q i h. absurd (none-deeper 26 b refl (eqb-true b 26 i) h))
+    (λ q i h. absurd (none-deeper 28 b refl (eqb-true b 28 i) h))
+    (λ i h. false-not i)
 
 -- Rows
 
 -- the two ways to belong to a row: deeper, or beside
 abbrev pub Belongs : Rank → Rank → Type 0
-Belongs r s = ((holdsDeeper (r .kind) ≡ true) × (r .level < s .level)) ⊎ ((s .level ≡ r .level) × In (beside (r .kind)) (s .kind))
+Belongs r s = ((holdsDeeper (r .kind) ≡ true) × (r .level < s .level)) ⊎ ((s .level ≡ r .level) × (beside (r .kind) (s .kind) ≡ true))
 
 pub belongs-how : (r s : Rank) → belongs r s ≡ true → Belongs r s
 unfolding belongs
-belongs-how r s = at (holdsDeeper (r .kind)) (ltb (r .level) (s .level)) (eqb (s .level) (r .level)) (leb (beside (r .kind) .first) (s .kind)) (leb (s .kind) (beside (r .kind) .last)) refl refl refl refl refl
+belongs-how r s = at (holdsDeeper (r .kind)) (ltb (r .level) (s .level)) (eqb (s .level) (r .level)) (beside (r .kind) (s .kind)) refl refl refl refl
   where
-    beside-how : (c d e : Bool) → eqb (s .level) (r .level) ≡ c → leb (beside (r .kind) .first) (s .kind) ≡ d → leb (s .kind) (beside (r .kind) .last) ≡ e → c && (d && e) ≡ true → Belongs r s
-    beside-how true true true p q x h = inr (eqb-true (s .level) (r .level) p, (leb-true (beside (r .kind) .first) (s .kind) q, leb-true (s .kind) (beside (r .kind) .last) x))
-    beside-how true true false p q x h = let z : _≡_ {A = ℕ} 0 1 = cc h in absurd (omega arith)
-    beside-how true false e p q x h = let z : _≡_ {A = ℕ} 0 1 = cc h in absurd (omega arith)
-    beside-how false d e p q x h = let z : _≡_ {A = ℕ} 0 1 = cc h in absurd (omega arith)
+    beside-how : (c d : Bool) → eqb (s .level) (r .level) ≡ c → beside (r .kind) (s .kind) ≡ d → c && d ≡ true → Belongs r s
+    beside-how true true p q h = inr (eqb-true (s .level) (r .level) p, q)
+    beside-how true false p q h = false-not h
+    beside-how false d p q h = false-not h
 
-    at : (a b c d e : Bool) → holdsDeeper (r .kind) ≡ a → ltb (r .level) (s .level) ≡ b → eqb (s .level) (r .level) ≡ c → leb (beside (r .kind) .first) (s .kind) ≡ d → leb (s .kind) (beside (r .kind) .last) ≡ e
-        → a && b || c && (d && e) ≡ true → Belongs r s
-    at true true c d e p q x y z h = inl (p, ltb-true (r .level) (s .level) q)
-    at true false c d e p q x y z h = beside-how c d e x y z h
-    at false b c d e p q x y z h = beside-how c d e x y z h
+    at : (a b c d : Bool) → holdsDeeper (r .kind) ≡ a → ltb (r .level) (s .level) ≡ b → eqb (s .level) (r .level) ≡ c → beside (r .kind) (s .kind) ≡ d → a && b || c && d ≡ true → Belongs r s
+    at true true c d p q x y h = inl (p, ltb-true (r .level) (s .level) q)
+    at true false c d p q x y h = beside-how c d x y h
+    at false b c d p q x y h = beside-how c d x y h
 
 pub deeper-belongs : (r s : Rank) → holdsDeeper (r .kind) ≡ true → r .level < s .level → belongs r s ≡ true
 unfolding belongs
 deeper-belongs r s h l = rw (h, lt-ltb (r .level) (s .level) l) refl
 
-or-true : (b : Bool) → b || true ≡ true
-or-true true = refl
-or-true false = refl
-
-pub beside-belongs : (r s : Rank) → s .level ≡ r .level → In (beside (r .kind)) (s .kind) → belongs r s ≡ true
+pub beside-belongs : (r s : Rank) → s .level ≡ r .level → beside (r .kind) (s .kind) ≡ true → belongs r s ≡ true
 unfolding belongs
-beside-belongs r s q (x, y) =
-    rw (eq-eqb (s .level) (r .level) q, le-leb (beside (r .kind) .first) (s .kind) x, le-leb (s .kind) (beside (r .kind) .last) y) (or-true (holdsDeeper (r .kind) && ltb (r .level) (s .level)))
+beside-belongs r s q h = rw (eq-eqb (s .level) (r .level) q, h) (or-true (holdsDeeper (r .kind) && ltb (r .level) (s .level)))
+  where
+    or-true : (b : Bool) → b || true ≡ true
+    or-true true = refl
+    or-true false = refl
+
+-- and what has neither does not belong
+pub belongs-not : (r s : Rank) → (Belongs r s → ⊥) → belongs r s ≡ false
+belongs-not r s h = at (belongs r s) refl
+  where
+    at : (b : Bool) → belongs r s ≡ b → belongs r s ≡ false
+    at true q = absurd (h (belongs-how r s q))
+    at false q = q
 
 pub belonging-nests : (r s t : Rank) → belongs r s ≡ true → belongs s t ≡ true → belongs r t ≡ true
 belonging-nests r s t p q = at (belongs-how r s p) (belongs-how s t q)

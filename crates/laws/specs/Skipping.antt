@@ -61,6 +61,15 @@ module _ (m : List ℕ) (n : ℕ) where
           let e = eqb-false j (n - suc d) q in
           getD-set-other (skipsLaid m n d) ((n - suc d) * rowWidth + 4) (j * rowWidth + 4) (skipAt m n (n - suc d)) 0 (λ z. e (omega arith)) ∙ ih (omega arith) k
 
+  -- so all rows belong where they did
+  laid-ranks : (d i k : ℕ) → ranksFor (skipsLaid m n d) i k ≡ ranksFor m i k
+  laid-ranks d i zero = refl
+  laid-ranks d i (suc k) = rw (laid-kind d i, laid-level d i, laid-ranks d (suc i) k) refl
+
+  pub laid-same : (d i : ℕ) → skipAt (skipsLaid m n d) n i ≡ skipAt m n i
+  unfolding skipAt
+  laid-same d i = rw (laid-kind d i, laid-level d i, laid-ranks d (suc i) (n - suc i)) refl
+
 -- The whole table
 
 abbrev rowAt : Placed → ℕ → List ℕ

@@ -3,9 +3,9 @@
 use Prim.Native.Nat.{ℕ, suc, _+_}
 use mathlib.Core.List.{List, [], _∷_}
 use mathlib.Core.Bool.{Bool, true, false, _&&_, _||_}
-use lib.Dec.{eqb, leb, ltb}
+use lib.Dec.{eqb, ltb}
 use Rattle.meaning.specs.Basics.{pick}
-use Rattle.meaning.specs.Kinds.{extensionOpens, baseOpens, standardRepresentation, receivedBy, toOpens, fromOpens, receiverOpens, agentName, addressesOpen, address, resolversOpen, extraKey, anyText, anyBytes, encryptedOpens, encryptedItem, ownKey, ownValue, behaviourOpens}
+use Rattle.meaning.specs.Kinds.{extensionOpens, baseOpens, receivedBy, toOpens, fromOpens, receiverOpens, agentName, addressesOpen, address, resolversOpen, extraKey, anyText, anyBytes, encryptedOpens, encryptedItem, ownKey, ownValue, behaviourOpens}
 
 -- where a row stands
 pub record Rank : Type 0 where
@@ -23,32 +23,25 @@ abbrev pub holdsDeeper : ℕ → Bool
 holdsDeeper kind =
     isEnvelope kind || eqb kind receivedBy || eqb kind toOpens || eqb kind fromOpens || eqb kind receiverOpens || eqb kind agentName || eqb kind resolversOpen
 
--- kinds from a first to a last
-pub record Span : Type 0 where
-  pub first : ℕ
-  pub last : ℕ
+-- a value of an extra or of transport behaviour
+abbrev pub isValue : ℕ → Bool
+isValue kind = eqb kind anyText || eqb kind anyBytes
 
-abbrev pub span : ℕ → ℕ → Span
-span a b = record { first = a; last = b }
-
-abbrev pub within : Span → ℕ → Bool
-within s kind = leb (s .first) kind && leb kind (s .last)
-
--- the kinds that belong to a row of this kind where they stand at its own level: to an envelope all but an envelope's; to an agent its addresses,
--- resolvers and extras; to addresses an address; to an extra key and to transport behaviour the value; to an encrypted list an item;
--- "an own .. key includes its value"; to any other row none, since no kind is 0
-abbrev pub beside : ℕ → Span
-beside kind =
-    pick (isEnvelope kind) (span standardRepresentation behaviourOpens)
-    (pick (eqb kind agentName) (span addressesOpen anyBytes)
-    (pick (eqb kind addressesOpen) (span address address)
-    (pick (eqb kind extraKey || eqb kind behaviourOpens) (span anyText anyBytes)
-    (pick (eqb kind encryptedOpens) (span encryptedItem encryptedItem)
-    (pick (eqb kind ownKey) (span ownValue ownValue) (span 1 0))))))
+-- what belongs to a row where it stands at the row's own level. To an envelope: all above an envelope's kind. To an agent: all above an agent's,
+-- which are its addresses, resolvers and extras. To addresses an address, to an encrypted list an item, to an extra key and to transport behaviour
+-- the value; "an own .. key includes its value"
+abbrev pub beside : ℕ → ℕ → Bool
+beside owner kind =
+    pick (isEnvelope owner) (ltb baseOpens kind)
+    (pick (eqb owner agentName) (ltb agentName kind)
+    (pick (eqb owner addressesOpen) (eqb kind address)
+    (pick (eqb owner extraKey || eqb owner behaviourOpens) (isValue kind)
+    (pick (eqb owner encryptedOpens) (eqb kind encryptedItem)
+    (pick (eqb owner ownKey) (eqb kind ownValue) false)))))
 
 -- whether the second row belongs to the first, where all rows between them do
 unfoldable pub belongs : Rank → Rank → Bool
-belongs r s = holdsDeeper (r .kind) && ltb (r .level) (s .level) || eqb (s .level) (r .level) && within (beside (r .kind)) (s .kind)
+belongs r s = holdsDeeper (r .kind) && ltb (r .level) (s .level) || eqb (s .level) (r .level) && beside (r .kind) (s .kind)
 
 -- how many of the rows behind a row belong to it: those before the first that does not
 unfoldable pub belonging : Rank → List Rank → ℕ
