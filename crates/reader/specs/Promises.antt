@@ -1,11 +1,12 @@
 -- What the public entries promise: the whole result and the final state of the lent rows, for every edition number, input and lent slice.
-use Prim.Native.Nat.{ℕ, _-_, _≤_}
+use Prim.Native.Nat.{ℕ, _+_, _-_, _≤_}
 use mathlib.Core.List.{List}
 use mathlib.Core.Path.{_≡_}
 use lib.ListN.{length, take, drop}
-use Rattle.meaning.specs.Headers.{Placed, accepted, read}
+use Rattle.meaning.specs.Headers.{Placed, accepted, envelopeMost, read}
 use Rattle.meaning.specs.Memory.{readAnswer, readRows}
 use Rattle.meaning.specs.Payload.{payloadStart, payloadEnd, payloadBytes}
+use Rattle.laws.specs.Pouring.{headerMost}
 use Rattle.laws.specs.Finishing.{finish}
 use Rattle.table.specs.declared.reply.Reply.{Reply}
 use Rattle.table.specs.Reply.{replyOf}
@@ -40,3 +41,4 @@ pub record AcceptedHeader (edition : ℕ) (input : List ℕ) (place n : ℕ) : T
   pub is : read edition input ≡ accepted place rows
   pub count : length rows ≡ n
   pub within : place ≤ length input
+  pub few : n ≤ headerMost + envelopeMost

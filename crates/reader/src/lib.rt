@@ -1,6 +1,7 @@
 // The reader: a header as rows in lent memory, and the payload behind it.
 use read_envelopes::header::read_header;
 use read_rows::Stage;
+use skips::lay::lay_skips;
 use table::refusals::EDITION_UNKNOWN;
 use table::refusals::ROWS_SHORT;
 use table::reply::Reply;
@@ -20,7 +21,7 @@ pub struct Part {
 
 // Takes an edition's number and the input. Fills `rows` with the rows of the header at the input's front, and answers 0, the place
 // behind the header and the count of rows. A refusal is answered by number and place, and changes no row.
-// Two passes of the same functions: the first, over no rows, validates and counts; the second fills.
+// Two passes of the same functions: the first, over no rows, validates and counts; the second fills. A third, over the rows, lays their skip numbers.
 pub fn read(edition: u32, input: &[u8], rows: &mut [u32]) -> Reply
     ensures { λ r. ⌜ ReadPromise edition (now (input .entry)) (now (rows .entry)) r (now (rows .exit)) ⌝ }
 {
@@ -47,7 +48,8 @@ fn survey(edition: u32, input: &[u8], rows: &mut [u32]) -> Stage
     read_header(input, rows, told)
 }
 
-// The second pass, over a header that is accepted and has n rows. "14: all well, but rows exceed the room": then no row changes.
+// The second pass, over a header that is accepted and has n rows, and then their skip numbers. "14: all well, but rows exceed the room": then no row
+// changes.
 fn fill(edition: u32, input: &[u8], rows: &mut [u32], place: usize, n: usize) -> Reply
     requires { ⌜ AcceptedHeader edition (now input) place n ⌝ }
     ensures { λ r. ⌜ ReadPromise edition (now (input .entry)) (now (rows .entry)) r (now (rows .exit)) ⌝ }
@@ -60,6 +62,7 @@ fn fill(edition: u32, input: &[u8], rows: &mut [u32], place: usize, n: usize) ->
         };
     }
     survey(edition, input, rows);
+    lay_skips(rows, n);
     Reply {
         answer: 0,
         place: place,
