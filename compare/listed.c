@@ -9,7 +9,7 @@
 #include <stdlib.h>
 #include <string.h>
 
-enum { MOST_LINE = 65536, MOST_TEXT = 1 << 22, MOST_COMMAND = 4096, EDITION_B = 1, EDITION_D = 2, ROW_NUMBERS = 4 };
+enum { MOST_LINE = 65536, MOST_TEXT = 1 << 22, MOST_COMMAND = 4096, EDITION_B = 1, EDITION_D = 2, ROW_NUMBERS = 5 };
 
 struct tally {
     unsigned long passed;

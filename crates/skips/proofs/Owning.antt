@@ -1,10 +1,10 @@
 -- What a kind has among its rows, as the code tells it: by each kind, and for all others.
-use Prim.Native.Nat.{ℕ}
+use Prim.Native.Nat.{ℕ, _+_, _*_, _<_}
 use mathlib.Core.Bool.{Bool, true, false, _&&_, _||_}
 use mathlib.Core.Path.{_≡_, refl, ap, sym, _∙_}
 use lib.Dec.{eqb, ltb}
 use native.Mathlib.Omega.{arith}
-use borrow.Author.Tests.{eq-eqb, ne-eqb, le-ltb}
+use borrow.Author.Tests.{eq-eqb, ne-eqb, ltb-true, ltb-false, lt-ltb, le-ltb, eqb-true, eqb-false}
 use Rattle.meaning.specs.Basics.{pick}
 use Rattle.meaning.specs.Skips.{Rank, rank, beside, holdsDeeper, isEnvelope, isValue, belongs}
 use Rattle.skips.specs.Owners.{aboveTest, besideTest, owns}
@@ -101,15 +101,18 @@ module _ (at : ℕ) (s : Rank) where
 
 -- The tests
 
-pub same-level : (above at kind level : ℕ) → level ≡ at → ltb above kind ≡ aboveTest above at (rank kind level)
-same-level above at kind level q = rw (q, eq-eqb at at refl, le-ltb at at (omega arith)) refl
-
-pub other-level : (above at kind level : ℕ) → (level ≡ at → ⊥) → ltb at level ≡ aboveTest above at (rank kind level)
-other-level above at kind level q = rw (ne-eqb level at q) (or-false (ltb at level))
+-- rows by where they stand: first the level decides, then the kind
+pub stands-above : (above at kind level : ℕ) → above < 4294967296 → kind < 4294967296 → ltb (4294967296 * at + above) (4294967296 * level + kind) ≡ aboveTest above at (rank kind level)
+stands-above above at kind level a k = by (ltb at level) (eqb level at) refl refl
   where
-    or-false : (b : Bool) → b ≡ b || false
-    or-false true = refl
-    or-false false = refl
+    same : level ≡ at → (z : Bool) → ltb above kind ≡ z → ltb (4294967296 * at + above) (4294967296 * level + kind) ≡ z
+    same e true r = let l = ltb-true above kind r in lt-ltb (4294967296 * at + above) (4294967296 * level + kind) (omega (arith, e, l))
+    same e false r = let l = ltb-false above kind r in le-ltb (4294967296 * at + above) (4294967296 * level + kind) (omega (arith, e, l))
+
+    by : (x y : Bool) → ltb at level ≡ x → eqb level at ≡ y → ltb (4294967296 * at + above) (4294967296 * level + kind) ≡ (x || y && ltb above kind)
+    by true y p q = let l = ltb-true at level p in lt-ltb (4294967296 * at + above) (4294967296 * level + kind) (omega (arith, l, a, k))
+    by false true p q = same (eqb-true level at q) (ltb above kind) refl
+    by false false p q = let l = ltb-false at level p in let d = eqb-false level at q in le-ltb (4294967296 * at + above) (4294967296 * level + kind) (omega (arith, l, d, a, k))
 
 and-true : (b : Bool) → b ≡ b && true
 and-true true = refl

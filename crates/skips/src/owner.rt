@@ -19,7 +19,7 @@ use table::kinds::RESOLVERS_OPEN;
 use table::kinds::TO_OPENS;
 ghost use mathlib.Core.Path.{_≡_};
 ghost use mathlib.Core.Bool.{_&&_, _||_};
-ghost use Prim.Native.Nat.{ℕ};
+ghost use Prim.Native.Nat.{ℕ, _+_, _*_, _<_};
 ghost use lib.Dec.{eqb, ltb};
 ghost use Rattle.meaning.specs.Skips.{Rank, rank, belongs};
 ghost use Rattle.skips.specs.Owners.{owns};
@@ -62,10 +62,14 @@ pub fn owner_of(kind: u32) -> Owner
 pub fn is_above(above: u32, at: u32, kind: u32, level: u32) -> bool
     ensures { λ r. ⌜ r ≡ (ltb at level || eqb level at && ltb above kind) ⌝ }
 {
-    if level == at {
-        return above < kind;
-    }
-    at < level
+    standing(above, at) < standing(kind, level)
+}
+
+// Where a row stands, as one number: first its level decides, then its kind.
+fn standing(kind: u32, level: u32) -> u64
+    ensures { λ r. ⌜ (r ≡ 4294967296 * level + kind) × (kind < 4294967296) ⌝ }
+{
+    4294967296 * (level as u64) + (kind as u64)
 }
 
 // Takes an owner's level, and the kind and level of a row. Answers whether it is beside the owner and of one of two kinds.

@@ -1,14 +1,20 @@
--- `owner::is_above`: at the owner's level the kind decides, else the level alone.
-use borrow.Author.Tests.{eq-eqb, ne-eqb}
-use Rattle.skips.proofs.Owning.{same-level, other-level}
+-- `owner::is_above`: where both stand, as one number each.
+use native.Mathlib.Omega.{arith}
+use borrow.Author.Needs.{needs}
+use Rattle.skips.proofs.Owning.{stands-above}
 use Rattle.skips.proofs.owner.is_above.Statement.{statement}
 use Rattle.skips.proofs.owner.is_above.Tie as tie
 
-returns : tie.Need-returns
-returns c = let a = c .before .args in same-level (a .above) (a .at) (a .kind) (a .level) (c .if1 .taken)
+standing-requires : tie.Need-standing-requires
+standing-requires c κs = search needs
 
-returns-2 : tie.Need-returns-2
-returns-2 c = let a = c .before .args in other-level (a .above) (a .at) (a .kind) (a .level) (c .if1 .left)
+standing-requires-2 : tie.Need-standing-requires-2
+standing-requires-2 c κs = search needs
+
+returns : tie.Need-returns
+returns c =
+    let a = c .before .before .args in
+    rw (c .before .standing .ensures .0, c .standing2 .ensures .0) (stands-above (a .above) (a .at) (a .kind) (a .level) (c .before .standing .ensures .1) (c .standing2 .ensures .1))
 
 pub is-above-spec : {M : Type 1} → statement M
-is-above-spec = tie.close (tie.spec returns returns-2)
+is-above-spec = tie.close (tie.spec standing-requires standing-requires-2 returns)
