@@ -11,7 +11,8 @@ use Rattle.meaning.specs.Editions.{shared, own, moves}
 use Rattle.meaning.specs.Reading.{takeValue, find, look, stepMove, step, run, inside}
 use Rattle.meaning.specs.Headers.{envelope, header, read}
 use Rattle.meaning.specs.Writing.{valid, writeValue, wayOf, fit, fitRow, closeWithin, close, planOf, writeRows}
-use Rattle.meaning.specs.Memory.{row, cellsOf, laidOver, write, readAnswer, readRows, writeAnswer, writeOutput}
+use Rattle.meaning.specs.Skips.{belongs, belonging, heldAgainst}
+use Rattle.meaning.specs.Memory.{row, cellsOf, ranksOf, skipsOf, skipsHeld, laidOver, write, readAnswer, readRows, writeAnswer, writeOutput}
 use Rattle.meaning.specs.Plain.{digitsWithin, digitsOf, packed, decodeNumber, numberDecoded, numberBytes, numberEncoded, dateOf, decodeDate, dateDecoded, dateInRange, dateEncoded}
 use Rattle.meaning.specs.Cases.{hex, aDate, baseWith, inMemory, baseRows, replyIs, outcomeIs}
 use Rattle.laws.specs.Logic.{areBytes}
@@ -40,7 +41,7 @@ lent n = replicate n 0
 
 -- read in 3 rows, up to byte 15
 abbrev isRead : ℕ → Bool
-isRead edition = replyIs 0 15 3 (readAnswer edition aHeader (lent 12))
+isRead edition = replyIs 0 15 3 (readAnswer edition aHeader (lent 15))
 
 -- written into just the room that it needs
 abbrev isWritten : ℕ → List ℕ → ℕ → ℕ → Bool
@@ -62,5 +63,5 @@ pub premises : T (
     areBytes aHeader && isRead 1 && isRead 2 && isWritten 1 (inMemory (baseRows 5 9 [])) 15 3 && isWritten 2 (inMemory (baseRows 5 9 [])) 15 3 && plainTable (inMemory (baseRows 5 9 [])) aHeader &&
     isWritten 1 encrypted 17 4 && not (plainTable encrypted aHeader) && isWritten 2 forwarded 15 3 && not (plainTable forwarded aHeader) && areCoded
     )
-unfolding textByte takeText textOk turn takeNumber numberOk lastDay passes takeDate dateOk highFirst tooWide takeBytes blockOf takeBlock blockOk shared own moves takeValue find look stepMove step run inside envelope header read valid writeValue wayOf fit fitRow closeWithin close planOf writeRows cellsOf laidOver write readAnswer readRows writeAnswer writeOutput digitsWithin digitsOf packed decodeNumber numberDecoded numberBytes numberEncoded decodeDate dateDecoded dateInRange dateEncoded
+unfolding textByte takeText textOk turn takeNumber numberOk lastDay passes takeDate dateOk highFirst tooWide takeBytes blockOf takeBlock blockOk shared own moves takeValue find look stepMove step run inside envelope header read valid writeValue wayOf fit fitRow closeWithin close planOf writeRows belongs belonging heldAgainst cellsOf ranksOf skipsOf skipsHeld laidOver write readAnswer readRows writeAnswer writeOutput digitsWithin digitsOf packed decodeNumber numberDecoded numberBytes numberEncoded decodeDate dateDecoded dateInRange dateEncoded
 premises = tt

@@ -1,5 +1,4 @@
 // The row behind all that belongs to a row, where the skip numbers of the rows behind it are right: each hop passes over a row and its rows.
-use crate::owner::is_above;
 use crate::owner::is_beside;
 use table::rows::kind_at;
 use table::rows::level_at;
@@ -34,10 +33,17 @@ pub fn above_end(rows: &[u32], n: usize, i: usize, above: u32) -> usize
     let at = level_at(rows, i);
     let mut j = i + 1;
     while j < n {
-        if is_above(above, at, kind_at(rows, j), level_at(rows, j)) {
+        let level = level_at(rows, j);
+        if level == at {
+            if kind_at(rows, j) <= above {
+                return j;
+            }
             j = skip_at(rows, j);
         } else {
-            return j;
+            if level < at {
+                return j;
+            }
+            j = skip_at(rows, j);
         }
     }
     j
