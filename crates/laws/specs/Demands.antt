@@ -17,7 +17,7 @@ use Rattle.meaning.specs.Memory.{row, tableOf, cellsOf, ranksOf, skipsOf, skips
 use Rattle.laws.specs.Logic.{areBytes}
 use Rattle.laws.specs.Views.{AllIn, view-part}
 use Rattle.laws.specs.Envelopes.{header-read, header-crosses, CrossHeader}
-use Rattle.laws.specs.Plans.{written-writes, written-right, writes-written}
+use Rattle.laws.specs.Plans.{written-writes, writes-written}
 use Rattle.laws.specs.RightSkips.{table-right, LowestWrong, wrong-means}
 use Rattle.laws.specs.WrittenBytes.{written-are-bytes}
 use Rattle.laws.specs.PlainRows.{other, allPlain}
@@ -33,7 +33,7 @@ use Rattle.laws.specs.RowCounts.{table-few, length-meant}
 use Rattle.laws.specs.WriterRefusals.{WriterRefusal, writer-refusal}
 use Rattle.laws.specs.PlainNumbers.{number-coded-decoded, number-decoded-coded}
 use Rattle.laws.specs.PlainDates.{date-coded-decoded, date-decoded-coded}
-use Rattle.laws.specs.Ties.{only-stuck, whole-front, numberOf, SameMeaning, plainCell, plainTable, read-known, write-known, accepted-known, written-known, read-as, write-as, cells-placed, whole-of, whole-written, same-meaning, plain-cells, seven-or-nine}
+use Rattle.laws.specs.Ties.{only-stuck, written-right, whole-front, numberOf, SameMeaning, plainCell, plainTable, read-known, write-known, accepted-known, written-known, read-as, write-as, cells-placed, whole-of, whole-written, same-meaning, plain-cells, seven-or-nine}
 use Rattle.laws.specs.Fifteen.{IsTable, plan-table, BeginsTable, NoneWith, stuck-means}
 
 -- 1. "Read then written: the same bytes."

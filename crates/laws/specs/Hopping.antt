@@ -32,17 +32,17 @@ givenAt m i = getD m (i * rowWidth + 4) 0
 unfoldable pub skipAt : List ℕ → ℕ → ℕ → ℕ
 skipAt m n i = skipOf i (rankAt m i) (ranksAt m n (suc i))
 
-ranks-length : (m : List ℕ) (i k : ℕ) → length (ranksFor m i k) ≡ k
+pub ranks-length : (m : List ℕ) (i k : ℕ) → length (ranksFor m i k) ≡ k
 ranks-length m i zero = refl
 ranks-length m i (suc k) = ap suc (ranks-length m (suc i) k)
 
-ranks-next : (m : List ℕ) (n i : ℕ) → i < n → ranksAt m n i ≡ rankAt m i ∷ ranksAt m n (suc i)
+pub ranks-next : (m : List ℕ) (n i : ℕ) → i < n → ranksAt m n i ≡ rankAt m i ∷ ranksAt m n (suc i)
 ranks-next m n i h = let q : n - i ≡ suc (n - suc i) = omega arith in ap (ranksFor m i) q
 
 ranks-none : (m : List ℕ) (n i : ℕ) → n ≤ i → ranksAt m n i ≡ []
 ranks-none m n i h = let q : n - i ≡ 0 = omega arith in ap (ranksFor m i) q
 
-ranks-drop : (m : List ℕ) (i k b : ℕ) → b ≤ k → drop b (ranksFor m i k) ≡ ranksFor m (i + b) (k - b)
+pub ranks-drop : (m : List ℕ) (i k b : ℕ) → b ≤ k → drop b (ranksFor m i k) ≡ ranksFor m (i + b) (k - b)
 ranks-drop m i k zero h = let p : i ≡ i + 0 = omega arith in let q : k ≡ k - 0 = omega arith in ap (λ (x : ℕ). ranksFor m x k) p ∙ ap (ranksFor m (i + 0)) q
 ranks-drop m i zero (suc b) h = absurd (omega arith)
 ranks-drop m i (suc k) (suc b) h =

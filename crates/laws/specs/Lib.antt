@@ -41,6 +41,7 @@ pub mod CodedNumbers
 pub mod PlainNumbers
 pub mod PlainDates
 pub mod Ties
+pub mod Walks
 pub mod Demands
 pub mod Tolerant
 pub mod Notes

@@ -64,7 +64,7 @@ inner-test : T (allRooms innerMoves)
 unfolding moves shared own
 inner-test = tt
 
-inner-kind : (e : Edition) (row : Row) (st st′ : State) (bs : List ℕ) → fitRow e st row ≡ fits st′ bs → 3 ≤ row .kind
+pub inner-kind : (e : Edition) (row : Row) (st st′ : State) (bs : List ℕ) → fitRow e st row ≡ fits st′ bs → 3 ≤ row .kind
 inner-kind e row =
     fit-holds e row (λ st st′ bs. 3 ≤ row .kind)
     (λ st st′ m bs i p.
@@ -234,16 +234,6 @@ written-is e room cs skips = planned-is e room cs skips (wholePlan e cs) (parse 
 -- what is written is a table of envelopes
 pub written-writes : (e : Edition) (room : ℕ) (cs : List Cell) (skips : Skips) (w : List ℕ) → writeRows e room cs skips ≡ written w → (table : List Row) × (n : ℕ) × (cs ≡ map cell table) × Writes e n table w × (n ≤ envelopesMost) × (length w ≤ room)
 written-writes e room cs skips w q = subst (WrittenIs e room cs) q (written-is e room cs skips)
-
--- .. and its skip numbers are right
-pub written-right : (e : Edition) (room : ℕ) (cs : List Cell) (skips : Skips) (w : List ℕ) → writeRows e room cs skips ≡ written w → skips ≡ right
-unfolding writeRows
-written-right e room cs skips w = at (wholePlan e cs) skips
-  where
-    at : (p : Plan) (skips : Skips) → planned room skips p ≡ written w → skips ≡ right
-    at p right q = refl
-    at (stuck i) (wrongAt j) q = let z : _≡_ {A = ℕ} 0 1 = cc q in absurd (omega arith)
-    at (plan bs vs) (wrongAt j) q = let z : _≡_ {A = ℕ} 0 1 = cc q in absurd (omega arith)
 
 -- The other way: every table of envelopes is written
 

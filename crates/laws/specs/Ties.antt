@@ -13,7 +13,7 @@ use Rattle.meaning.specs.Basics.{pick, every}
 use Rattle.meaning.specs.Told.{Edition, Label, B, D, known, unknown, labelOf, Strictness, strict, Told, toldBy, told}
 use Rattle.meaning.specs.Reading.{Row}
 use Rattle.meaning.specs.Headers.{Placed, meant, accepted, header, envelopesMost, labelled, readBy}
-use Rattle.meaning.specs.Writing.{Cell, cell, broken, Envelope, headerOf, Plan, stuck, plan, Limit, fine, exceeds, limits, written, unwritten, limited, planned, writeRows, writtenUnder}
+use Rattle.meaning.specs.Writing.{Cell, cell, broken, Envelope, headerOf, Plan, stuck, plan, Limit, fine, exceeds, limits, written, unwritten, limited, planned, wholePlan, writeRows, writtenUnder}
 use Rattle.meaning.specs.Skips.{Skips, right, wrongAt}
 use Rattle.meaning.specs.Memory.{numbersOf, rowsFrom, tableOf, cellOf, cellsOf, skipsOf, skipsHeld, write}
 use Rattle.laws.specs.Logic.{either, areBytes}
@@ -145,3 +145,13 @@ only-stuck room i right (plan bs vs) r = absurd (limits-never (limits envelopesM
     limits-never : (o : Limit) → limited room vs o ≡ unwritten 15 i → ⊥
     limits-never fine q = room-never (leb (length (headerOf vs)) room) q
     limits-never (exceeds j) q = let z : _≡_ {A = ℕ} 5 15 = cc q in absurd (omega arith)
+
+-- what is written has right skip numbers
+pub written-right : (e : Edition) (room : ℕ) (cs : List Cell) (skips : Skips) (w : List ℕ) → writeRows e room cs skips ≡ written w → skips ≡ right
+unfolding writeRows
+written-right e room cs skips w = at (wholePlan e cs) skips
+  where
+    at : (p : Plan) (skips : Skips) → planned room skips p ≡ written w → skips ≡ right
+    at p right q = refl
+    at (stuck i) (wrongAt j) q = let z : _≡_ {A = ℕ} 0 1 = cc q in absurd (omega arith)
+    at (plan bs vs) (wrongAt j) q = let z : _≡_ {A = ℕ} 0 1 = cc q in absurd (omega arith)
