@@ -26,11 +26,12 @@ pub fn lay_skips(rows: &mut [u32], n: usize)
     requires { ⌜ (n ≤ roomOf (now rows)) × (n ≤ u32Most) ⌝ }
     ensures { λ _. ⌜ now (rows .exit) ≡ skipsLaid (now (rows .entry)) n n ⌝ }
 {
-    let mut i = n;
-    while 0 < i {
-        i -= 1;
+    let mut next = n;
+    while 0 < next {
+        let i = next - 1;
         let skip = behind(rows, n, i);
         put_skip(rows, i, skip);
+        next = i;
     }
 }
 
