@@ -14,6 +14,11 @@ struct second_reply archive_read(uint32_t edition, const uint8_t *input, size_t 
     return reply_of(gamulisyan_read(edition, input, length, rows, rows_length));
 }
 
+struct second_reply archive_read_tolerant(uint32_t edition, const uint8_t *input, size_t length, uint32_t *rows, size_t rows_length)
+{
+    return reply_of(gamulisyan_read_tolerant(edition, input, length, rows, rows_length));
+}
+
 struct second_reply archive_write(uint32_t edition, const uint32_t *rows, size_t rows_length, const uint8_t *pool, size_t pool_length,
                                   uint8_t *output, size_t output_length)
 {

@@ -1,6 +1,7 @@
 /* Put before the programs of the instances and of the recorded cases: what the archive has, they run over the archive instead of
    the second program. A listing stays the second program's, for the archive has none. */
 #define second_read archive_read
+#define second_read_tolerant archive_read_tolerant
 #define second_write archive_write
 #define second_payload archive_payload
 #define second_number_decode archive_number_decode

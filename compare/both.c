@@ -56,29 +56,52 @@ static int count(struct tally *tally, int same)
     return same;
 }
 
-struct answer both_read(struct tally *tally, uint32_t edition, const uint8_t *input, size_t length, size_t numbers, uint32_t *rows)
+typedef struct gamulisyan_answer archive_reader(uint32_t, const uint8_t *, size_t, uint32_t *, size_t);
+typedef struct second_reply second_reader(uint32_t, const uint8_t *, size_t, uint32_t *, size_t);
+
+static struct answer both_read_by(archive_reader *archive_read, second_reader *second_read_by, struct tally *tally, uint32_t edition,
+                                  const uint8_t *input, size_t length, size_t numbers, uint32_t *rows)
 {
     size_t size = numbers * sizeof(uint32_t);
     lend(lent_rows[0], size);
     lend(lent_rows[1], size);
     uint32_t *first = (uint32_t *)(void *)(lent_rows[0] + GUARD);
     uint32_t *other = (uint32_t *)(void *)(lent_rows[1] + GUARD);
-    struct gamulisyan_answer a = gamulisyan_read(edition, input, length, first, numbers);
-    struct second_reply b = second_read(edition, input, length, other, numbers);
+    struct gamulisyan_answer a = archive_read(edition, input, length, first, numbers);
+    struct second_reply b = second_read_by(edition, input, length, other, numbers);
     struct answer archive = {a.answer, a.place, a.rows};
     struct answer second = {b.answer, (size_t)b.place, (size_t)b.rows};
-    struct gamulisyan_part part = gamulisyan_payload(edition, input, length);
-    struct second_part other_part = second_payload(edition, input, length);
     size_t used = archive.answer == GAMULISYAN_ACCEPTED ? archive.rows * ROW_NUMBERS * sizeof(uint32_t) : 0;
     if (!count(tally, same_answers(archive, second) && memcmp(lent_rows[0], lent_rows[1], GUARD + size + GUARD) == 0
-                          && untouched(lent_rows[0], used, size) && part.start == other_part.start && part.end - part.start == other_part.length)) {
-        printf("read differs: edition %u, %zu numbers lent\n", edition, numbers);
+                          && untouched(lent_rows[0], used, size))) {
+        printf("%s differs: edition %u, %zu numbers lent\n", archive_read == gamulisyan_read ? "read" : "read_tolerant", edition, numbers);
         print_answers(archive, second);
         print_bytes("input", input, length);
     }
     if (rows != NULL)
         memcpy(rows, first, used);
     return archive;
+}
+
+static void both_payload(struct tally *tally, uint32_t edition, const uint8_t *input, size_t length)
+{
+    struct gamulisyan_part part = gamulisyan_payload(edition, input, length);
+    struct second_part other = second_payload(edition, input, length);
+    if (count(tally, part.start == other.start && part.end - part.start == other.length))
+        return;
+    printf("payload differs: edition %u, archive %zu %zu, second %zu %zu\n", edition, part.start, part.end, other.start, other.start + other.length);
+    print_bytes("input", input, length);
+}
+
+struct answer both_read(struct tally *tally, uint32_t edition, const uint8_t *input, size_t length, size_t numbers, uint32_t *rows)
+{
+    both_payload(tally, edition, input, length);
+    return both_read_by(gamulisyan_read, second_read, tally, edition, input, length, numbers, rows);
+}
+
+struct answer both_read_tolerant(struct tally *tally, uint32_t edition, const uint8_t *input, size_t length, size_t numbers, uint32_t *rows)
+{
+    return both_read_by(gamulisyan_read_tolerant, second_read_tolerant, tally, edition, input, length, numbers, rows);
 }
 
 struct answer both_write(struct tally *tally, uint32_t edition, const uint32_t *rows, size_t numbers, const uint8_t *pool, size_t pool_length,

@@ -22,6 +22,7 @@ enum { MOST_ROWS = 1 << 16, ROW_NUMBERS = 4 };
 
 /* Each answers what the archive did; `rows` and `output`, unless null, then hold what an accepted call left there. */
 struct answer both_read(struct tally *tally, uint32_t edition, const uint8_t *input, size_t length, size_t numbers, uint32_t *rows);
+struct answer both_read_tolerant(struct tally *tally, uint32_t edition, const uint8_t *input, size_t length, size_t numbers, uint32_t *rows);
 struct answer both_write(struct tally *tally, uint32_t edition, const uint32_t *rows, size_t numbers, const uint8_t *pool, size_t pool_length,
                          size_t room, uint8_t *output);
 void both_number(struct tally *tally, uint64_t value, const uint8_t *bytes, size_t length, size_t room);

@@ -9,10 +9,11 @@
 #include <stdlib.h>
 #include <string.h>
 
-enum { EDITION_B = 1, EDITION_D = 2, ACCEPTED = 0, KIND = 0, LEVEL = 1, START = 2, LENGTH = 3 };
+enum { EDITION_B = 1, EDITION_D = 2, ACCEPTED = 0, LENGTH_FORM_WIDE = 11, KIND = 0, LEVEL = 1, START = 2, LENGTH = 3 };
 
 static uint8_t header_bytes[MOST_HEADER];
 static uint8_t written_bytes[MOST_HEADER];
+static uint8_t short_bytes[MOST_HEADER];
 static uint32_t table[MOST_ROWS * ROW_NUMBERS];
 static uint32_t table_again[MOST_ROWS * ROW_NUMBERS];
 static uint32_t damaged[MOST_ROWS * ROW_NUMBERS + ROW_NUMBERS];
@@ -61,6 +62,37 @@ static void check_demands(struct tally *tally, uint32_t edition, const struct he
     demand(tally, again.answer == ACCEPTED && again.rows == read.rows && means_the_same(table, header->bytes, table_again, written_bytes, read.rows), "written then read",
            edition, header->bytes, header->length);
     check_crossing(tally, EDITION_B + EDITION_D - edition, header, wrote, read.rows);
+}
+
+/* Written from the rows of a tolerant reading the header has its shortest forms: a strict reading takes it, as the same table, and a second
+   time no byte changes. */
+static void check_short_form(struct tally *tally, uint32_t edition, const struct header *header, struct answer read)
+{
+    size_t numbers = read.rows * ROW_NUMBERS;
+    struct answer wrote = both_write(tally, edition, table, numbers, header->bytes, header->length, read.place, written_bytes);
+    struct header brief = {short_bytes, wrote.place};
+    demand(tally, wrote.answer == ACCEPTED && wrote.place <= read.place, "written from a tolerant reading", edition, header->bytes, header->length);
+    if (wrote.answer != ACCEPTED)
+        return;
+    memcpy(brief.bytes, written_bytes, brief.length);
+    struct answer again = both_read(tally, edition, brief.bytes, brief.length, numbers, table_again);
+    demand(tally, again.answer == ACCEPTED && again.place == brief.length && again.rows == read.rows
+                      && means_the_same(table, header->bytes, table_again, brief.bytes, read.rows), "the strict reader takes it", edition, header->bytes, header->length);
+    if (again.answer != ACCEPTED)
+        return;
+    memcpy(table, table_again, numbers * sizeof *table);
+    check_demands(tally, edition, &brief, again);
+}
+
+/* The tolerant reading: where the strict one does not give 11, the same; else accepted, or refused behind that place; never 11. */
+static void check_tolerant(struct tally *tally, uint32_t edition, const struct header *header, struct answer strictly, size_t numbers)
+{
+    struct answer read = both_read_tolerant(tally, edition, header->bytes, header->length, numbers, strictly.answer == LENGTH_FORM_WIDE ? table : NULL);
+    int same = read.answer == strictly.answer && read.place == strictly.place && read.rows == strictly.rows;
+    int later = read.answer != LENGTH_FORM_WIDE && (read.answer == ACCEPTED || strictly.place < read.place);
+    demand(tally, strictly.answer == LENGTH_FORM_WIDE ? later : same, "tolerant beside strict", edition, header->bytes, header->length);
+    if (strictly.answer == LENGTH_FORM_WIDE && read.answer == ACCEPTED)
+        check_short_form(tally, edition, header, read);
 }
 
 /* Rows dropped, doubled, moved, with other kinds, levels, starts and lengths; or a slice that is not whole rows. */
@@ -145,9 +177,12 @@ static void check_header(struct source *source, struct tally *tally, uint32_t ed
 {
     size_t most = header->length > 4096 ? MOST_ROWS / 16 : 256;
     struct answer read = both_read(tally, edition, header->bytes, header->length, most * ROW_NUMBERS, table);
+    check_tolerant(tally, edition, header, read, most * ROW_NUMBERS);
     if (random_once_in(source, 8)) {
         uint32_t label = (uint32_t)random_below(source, 4);
-        both_read(tally, label, header->bytes, header->length, random_below(source, 64), NULL);
+        size_t numbers = random_below(source, 64);
+        both_read(tally, label, header->bytes, header->length, numbers, NULL);
+        both_read_tolerant(tally, label, header->bytes, header->length, numbers, NULL);
     }
     if (read.answer != ACCEPTED)
         return;

@@ -123,9 +123,12 @@ void put_date(struct source *source, uint32_t edition, struct header *header)
         put_designator(source, header);
 }
 
+/* In its shortest form, or as often in a wider one. */
 void put_block_of(struct source *source, struct header *header, size_t length)
 {
     unsigned width = length < 256 ? 1 : length < 65536 ? 2 : 4;
+    while (width < 4 && random_once_in(source, 2))
+        width *= 2;
     put(header, width == 1 ? 0x16 : width == 2 ? 0x17 : 0x19);
     put_number(header, length, width);
     while (length-- > 0)

@@ -1,8 +1,9 @@
-//! The archive's eight entries for Rust, as `include/gamulisyan.h` declares them, and `read` and `write` over slices.
+//! The archive's nine entries for Rust, as `include/gamulisyan.h` declares them, and `read`, `read_tolerant` and `write` over slices.
 //! Copy this file; docs/RUST.md says how to link it.
 #![allow(dead_code)]
 
 pub const ACCEPTED: u32 = 0;
+pub const LENGTH_FORM_WIDE: u32 = 11;
 pub const ROWS_SHORT: u32 = 14;
 pub const EDITION_B: u32 = 1;
 pub const EDITION_D: u32 = 2;
@@ -62,6 +63,7 @@ pub struct Dated {
 #[link(name = "gamulisyan", kind = "static")]
 extern "C" {
     pub fn gamulisyan_read(edition: u32, input: *const u8, length: usize, rows: *mut u32, numbers: usize) -> Answer;
+    pub fn gamulisyan_read_tolerant(edition: u32, input: *const u8, length: usize, rows: *mut u32, numbers: usize) -> Answer;
     pub fn gamulisyan_write(
         edition: u32,
         rows: *const u32,
@@ -84,18 +86,30 @@ pub type Row = [u32; 4];
 
 const USUAL_ROWS: usize = 32;
 
-fn read_into(edition: u32, input: &[u8], rows: &mut [Row]) -> Answer {
+/// `gamulisyan_read` or `gamulisyan_read_tolerant`.
+type Reader = unsafe extern "C" fn(u32, *const u8, usize, *mut u32, usize) -> Answer;
+
+fn read_into(reader: Reader, edition: u32, input: &[u8], rows: &mut [Row]) -> Answer {
     // the entry asks nothing of its caller but two valid slices, and rows of four numbers lie one behind the other
-    unsafe { gamulisyan_read(edition, input.as_ptr(), input.len(), rows.as_mut_ptr().cast(), rows.len() * 4) }
+    unsafe { reader(edition, input.as_ptr(), input.len(), rows.as_mut_ptr().cast(), rows.len() * 4) }
 }
 
 /// The rows of the header at the front of `input`, and the header's length; or the refusal.
 pub fn read(edition: u32, input: &[u8]) -> Result<(Vec<Row>, usize), Answer> {
+    read_by(gamulisyan_read, edition, input)
+}
+
+/// The same, where a byte block's length may stand wider than it needs: 11 is never the refusal.
+pub fn read_tolerant(edition: u32, input: &[u8]) -> Result<(Vec<Row>, usize), Answer> {
+    read_by(gamulisyan_read_tolerant, edition, input)
+}
+
+fn read_by(reader: Reader, edition: u32, input: &[u8]) -> Result<(Vec<Row>, usize), Answer> {
     let mut rows = vec![[0; 4]; USUAL_ROWS];
-    let mut read = read_into(edition, input, &mut rows);
+    let mut read = read_into(reader, edition, input, &mut rows);
     if read.answer == ROWS_SHORT {
         rows.resize(read.rows, [0; 4]);
-        read = read_into(edition, input, &mut rows);
+        read = read_into(reader, edition, input, &mut rows);
     }
     if read.answer != ACCEPTED {
         return Err(read);
@@ -149,6 +163,17 @@ mod tests {
         assert_eq!(write(EDITION_B, &rows, &M, &mut output), Ok(15));
         assert_eq!(output, M[..15]);
         assert_eq!(write(EDITION_B, &rows, &M, &mut output[..14]), Err(Answer { answer: 16, place: 15, rows: 0 }));
+    }
+
+    #[test]
+    fn takes_a_wide_length() {
+        let wide = *b"\xFE\x00\x15\x12\x20\x31\x11\x16\x19\x15\x37\x62\x59\x20\x0B\x19\x00\x00\x00\x00\x01";
+        assert_eq!(read(EDITION_D, &wide), Err(Answer { answer: LENGTH_FORM_WIDE, place: 15, rows: 0 }));
+        let (rows, length) = read_tolerant(EDITION_D, &wide).unwrap();
+        assert_eq!((rows.len(), length), (5, 21));
+        let mut output = [0; 18];
+        assert_eq!(write(EDITION_D, &rows, &wide, &mut output), Ok(18));
+        assert_eq!(read(EDITION_D, &output).unwrap().0.len(), 5);
     }
 
     #[test]

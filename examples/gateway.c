@@ -1,5 +1,6 @@
 /* gateway b|d [FILE]: an example of the archive's use. Reads the header at the front of FILE, or of standard input, in the
-   edition given; prints whom it is for; writes it again from its rows, and holds the bytes against those that it read.
+   edition given; prints whom it is for; writes it again from its rows, and holds the bytes against those that it read. A header
+   that is refused only because a length stands too wide is read tolerantly, and then written with its shortest lengths.
 
    Build it at the top of the repository, on x86-64:
        rt staticlib gamulisyan
@@ -76,15 +77,27 @@ static uint32_t *lend_rows(uint32_t *rows, size_t count)
     return room_for(rows, count * GAMULISYAN_ROW_NUMBERS * sizeof *rows);
 }
 
+/* gamulisyan_read or gamulisyan_read_tolerant */
+typedef struct gamulisyan_answer reader(uint32_t edition, const uint8_t *input, size_t length, uint32_t *rows, size_t numbers);
+
 /* Answer 14 says how many rows are needed: with those the same call cannot be short again. */
-static struct gamulisyan_answer read_rows(uint32_t edition, struct bytes input, uint32_t **rows)
+static struct gamulisyan_answer read_rows_by(reader *read_header, uint32_t edition, struct bytes input, uint32_t **rows)
 {
-    *rows = lend_rows(NULL, USUAL_ROWS);
-    struct gamulisyan_answer read = gamulisyan_read(edition, input.at, input.length, *rows, USUAL_ROWS * GAMULISYAN_ROW_NUMBERS);
+    *rows = lend_rows(*rows, USUAL_ROWS);
+    struct gamulisyan_answer read = read_header(edition, input.at, input.length, *rows, USUAL_ROWS * GAMULISYAN_ROW_NUMBERS);
     if (read.answer != GAMULISYAN_ROWS_SHORT)
         return read;
     *rows = lend_rows(*rows, read.rows);
-    return gamulisyan_read(edition, input.at, input.length, *rows, read.rows * GAMULISYAN_ROW_NUMBERS);
+    return read_header(edition, input.at, input.length, *rows, read.rows * GAMULISYAN_ROW_NUMBERS);
+}
+
+static struct gamulisyan_answer read_rows(uint32_t edition, struct bytes input, uint32_t **rows)
+{
+    struct gamulisyan_answer read = read_rows_by(gamulisyan_read, edition, input, rows);
+    if (read.answer != GAMULISYAN_LENGTH_FORM_WIDE)
+        return read;
+    printf("a length at %zu stands too wide\n", read.place);
+    return read_rows_by(gamulisyan_read_tolerant, edition, input, rows);
 }
 
 static struct row row_at(const uint32_t *rows, size_t place)
@@ -139,20 +152,29 @@ static int say_refusal(const char *call, struct gamulisyan_answer answer)
     return REFUSED;
 }
 
-/* The input is the pool that its own rows view, and its header's length is the room that they need. */
+/* The payload's view reads strictly. Behind a header that was read tolerantly the payload begins at the answer's place. */
+static size_t payload_length(uint32_t edition, struct bytes input, struct gamulisyan_answer read)
+{
+    struct gamulisyan_part payload = gamulisyan_payload(edition, input.at, input.length);
+    return payload.end > 0 ? payload.end - payload.start : input.length - read.place;
+}
+
+/* The input is the pool that its own rows view, and its header's length is room enough for them. */
 static int write_again(uint32_t edition, struct bytes input, const uint32_t *rows, struct gamulisyan_answer read)
 {
     uint8_t *output = room_for(NULL, read.place);
     struct gamulisyan_answer written =
         gamulisyan_write(edition, rows, read.rows * GAMULISYAN_ROW_NUMBERS, input.at, input.length, output, read.place);
-    int same = written.answer == GAMULISYAN_ACCEPTED && written.place == read.place && memcmp(output, input.at, read.place) == 0;
+    int same = written.place == read.place && memcmp(output, input.at, read.place) == 0;
     free(output);
     if (written.answer != GAMULISYAN_ACCEPTED)
         return say_refusal("writing", written);
-    struct gamulisyan_part payload = gamulisyan_payload(edition, input.at, input.length);
-    printf("header %zu bytes, written again %s\n", read.place, same ? "the same" : "with other bytes");
-    printf("payload %zu bytes\n", payload.end - payload.start);
-    return same ? 0 : REFUSED;
+    if (same)
+        printf("header %zu bytes, written again the same\n", read.place);
+    else
+        printf("header %zu bytes, written again in %zu\n", read.place, written.place);
+    printf("payload %zu bytes\n", payload_length(edition, input, read));
+    return 0;
 }
 
 static int pass_on(uint32_t edition, struct bytes input)

@@ -1,5 +1,5 @@
 /* Gamulisyan: the proved coder of the FIPA bit-efficient message envelope, editions B (1) and D (2).
-   Document 01 rules every answer. The caller lends all memory; a pointer with length 0 may be null.
+   Documents 01 and 02 rule every answer. The caller lends all memory; a pointer with length 0 may be null.
    A refused call changes nothing lent; an accepted one only the bytes or rows that it reports. What a call may change must not
    overlap what it reads. */
 #ifndef GAMULISYAN_H
@@ -121,6 +121,12 @@ struct gamulisyan_dated {
    needed, to be lent by a second call. Leaves the rows read at the front of `rows`, their starts being places in the input, and
    after a refusal nothing. */
 struct gamulisyan_answer gamulisyan_read(uint32_t edition, const uint8_t *input, size_t length, uint32_t *rows, size_t numbers);
+
+/* The same, for headers whose sender writes the length of a byte block in more bytes than it needs: such a length is taken, and 11 is never
+   the answer. Where gamulisyan_read does not answer 11, this gives the same answer and rows; where it does, this accepts the header or
+   refuses it for a fault behind that place. Written from its rows, a header has the shortest lengths, which gamulisyan_read takes. An
+   envelope's own length is held as strictly as there. */
+struct gamulisyan_answer gamulisyan_read_tolerant(uint32_t edition, const uint8_t *input, size_t length, uint32_t *rows, size_t numbers);
 
 /* Takes rows, `numbers` again counting uint32_t, the pool whose bytes they view (for rows just read: their input) and an output
    lent. Answers 0, the bytes written and the rows; or a refusal, checked in this order: 1; 15 at the row that is wrong; 5 at

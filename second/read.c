@@ -7,6 +7,7 @@
 
 struct reader {
     uint32_t edition;
+    bool tolerant; /* of wide length forms */
     const uint8_t *input;
     size_t length;
     size_t end;   /* of the envelope being read, as declared */
@@ -125,7 +126,7 @@ static bool read_any(struct reader *reader, uint32_t level)
 {
     size_t code = reader->place;
     struct any_value value;
-    if (!pass(reader, second_any_front(bytes_ahead(reader), count_ahead(reader), &value)))
+    if (!pass(reader, second_any_front(reader->tolerant, bytes_ahead(reader), count_ahead(reader), &value)))
         return false;
     add_row(reader, value.kind, level, code + value.start, value.length);
     return true;
@@ -336,9 +337,9 @@ static bool read_envelope(struct reader *reader, unsigned earlier, bool *base)
     return head && read_parameters(reader);
 }
 
-static struct reader read_header(uint32_t edition, const uint8_t *input, size_t length, uint32_t *rows)
+static struct reader read_header(uint32_t edition, bool tolerant, const uint8_t *input, size_t length, uint32_t *rows)
 {
-    struct reader reader = {.edition = edition, .input = input, .length = length, .rows = rows};
+    struct reader reader = {.edition = edition, .tolerant = tolerant, .input = input, .length = length, .rows = rows};
     if (!edition_known(edition)) {
         refuse(&reader, NO_SUCH_EDITION, 0);
         return reader;
@@ -350,10 +351,10 @@ static struct reader read_header(uint32_t edition, const uint8_t *input, size_t 
     return reader;
 }
 
-struct second_reply second_read(uint32_t edition, const uint8_t *input, size_t length,
-                                uint32_t *rows, size_t rows_length)
+static struct second_reply read_into(uint32_t edition, bool tolerant, const uint8_t *input, size_t length,
+                                     uint32_t *rows, size_t rows_length)
 {
-    struct reader counted = read_header(edition, input, length, NULL);
+    struct reader counted = read_header(edition, tolerant, input, length, NULL);
     struct second_reply reply = {.answer = counted.answer, .place = counted.place};
     if (counted.answer != ACCEPTED)
         return reply;
@@ -361,13 +362,25 @@ struct second_reply second_read(uint32_t edition, const uint8_t *input, size_t l
     if (counted.row_count > rows_length / ROW_NUMBERS)
         reply.answer = ROOM_EXCEEDED;
     else
-        read_header(edition, input, length, rows);
+        read_header(edition, tolerant, input, length, rows);
     return reply;
+}
+
+struct second_reply second_read(uint32_t edition, const uint8_t *input, size_t length,
+                                uint32_t *rows, size_t rows_length)
+{
+    return read_into(edition, false, input, length, rows, rows_length);
+}
+
+struct second_reply second_read_tolerant(uint32_t edition, const uint8_t *input, size_t length,
+                                         uint32_t *rows, size_t rows_length)
+{
+    return read_into(edition, true, input, length, rows, rows_length);
 }
 
 struct second_part second_payload(uint32_t edition, const uint8_t *input, size_t length)
 {
-    struct reader header = read_header(edition, input, length, NULL);
+    struct reader header = read_header(edition, false, input, length, NULL);
     if (header.answer != ACCEPTED)
         return (struct second_part){.start = 0, .length = 0};
     return (struct second_part){.start = header.place, .length = length - header.place};

@@ -18,13 +18,28 @@ static unsigned hex_digit(char digit)
     return digit <= '9' ? (unsigned)(digit - '0') : (unsigned)(digit - 'a' + 10);
 }
 
+/* One piece's digits, up to its end; `text` then stands behind them. */
+static size_t piece_bytes(const char **text, uint8_t *bytes)
+{
+    size_t length = 0;
+    for (; strchr("+*", (*text)[0]) == NULL; *text += 2)
+        bytes[length++] = (uint8_t)(hex_digit((*text)[0]) << 4 | hex_digit((*text)[1]));
+    return length;
+}
+
 size_t hex_bytes(const char *text, uint8_t *bytes)
 {
     size_t length = 0;
     if (is_none(text))
         return 0;
-    for (; text[0] != '\0' && text[1] != '\0'; text += 2)
-        bytes[length++] = (uint8_t)(hex_digit(text[0]) << 4 | hex_digit(text[1]));
+    for (bool more = true; more; more = *text++ == '+') {
+        uint8_t *piece = bytes + length;
+        size_t size = piece_bytes(&text, piece);
+        uint64_t times = *text == '*' ? number(text + 1) : 1;
+        text += strcspn(text, "+");
+        for (; times > 0; times--, length += size)
+            memmove(bytes + length, piece, size);
+    }
     return length;
 }
 

@@ -7,7 +7,7 @@
 #include <stdint.h>
 #include <stdio.h>
 
-enum { MOST_FIELDS = 9, MOST_LINE = 65536 };
+enum { MOST_FIELDS = 11, MOST_LINE = 65536 };
 
 /* They lie in the file's current line. */
 struct fields {
@@ -29,6 +29,8 @@ void open_recorded(struct recorded *recorded, const char *folder, const char *na
 bool next_case(struct recorded *recorded, struct fields *fields);
 
 uint64_t number(const char *text);
+
+/* The bytes of hex digits; `41*65000` is a piece so many times, and pieces are joined by `+`. Answers how many they are. */
 size_t hex_bytes(const char *text, uint8_t *bytes);
 
 /* The numbers of a comma list, as they lie in memory; answers the bytes they take. */

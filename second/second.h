@@ -1,4 +1,4 @@
-/* Reader and writer of the FIPA bit-efficient message envelope, editions B (1) and D (2), as document 01 rules it.
+/* Reader and writer of the FIPA bit-efficient message envelope, editions B (1) and D (2), as documents 01 and 02 rule it.
    The caller lends all memory. A refused call changes nothing lent; an accepted one only its rows or bytes. */
 #ifndef SECOND_H
 #define SECOND_H
@@ -40,6 +40,10 @@ struct second_date {
 /* `rows_length` counts u32 numbers; four make a row, and the room is the whole rows among them. */
 struct second_reply second_read(uint32_t edition, const uint8_t *input, size_t length,
                                 uint32_t *rows, size_t rows_length);
+
+/* The same, but a byte block's length may stand in a wider form than it needs: FORM_TOO_WIDE is never the answer. */
+struct second_reply second_read_tolerant(uint32_t edition, const uint8_t *input, size_t length,
+                                         uint32_t *rows, size_t rows_length);
 
 struct second_reply second_write(uint32_t edition, const uint32_t *rows, size_t rows_length,
                                  const uint8_t *pool, size_t pool_length,

@@ -292,7 +292,7 @@ static struct second_answer any_text_front(const uint8_t *bytes, size_t length, 
     return answered(end.answer, 1 + end.place);
 }
 
-static struct second_answer any_block_front(const uint8_t *bytes, size_t length, size_t width,
+static struct second_answer any_block_front(bool tolerant, const uint8_t *bytes, size_t length, size_t width,
                                             struct any_value *value)
 {
     size_t start = 1 + width;
@@ -301,7 +301,7 @@ static struct second_answer any_block_front(const uint8_t *bytes, size_t length,
     uint32_t size = second_high_first(bytes + 1, width);
     size_t shortest;
     second_block_code(size, &shortest);
-    if (shortest < width)
+    if (!tolerant && shortest < width)
         return answered(FORM_TOO_WIDE, 0);
     if (size > length - start)
         return answered(BYTE_NEEDED, length);
@@ -309,7 +309,7 @@ static struct second_answer any_block_front(const uint8_t *bytes, size_t length,
     return answered(ACCEPTED, start + size);
 }
 
-struct second_answer second_any_front(const uint8_t *bytes, size_t length, struct any_value *value)
+struct second_answer second_any_front(bool tolerant, const uint8_t *bytes, size_t length, struct any_value *value)
 {
     if (length == 0)
         return answered(BYTE_NEEDED, 0);
@@ -317,11 +317,11 @@ struct second_answer second_any_front(const uint8_t *bytes, size_t length, struc
     case CODE_ANY_TEXT:
         return any_text_front(bytes, length, value);
     case CODE_BLOCK_1:
-        return any_block_front(bytes, length, 1, value);
+        return any_block_front(tolerant, bytes, length, 1, value);
     case CODE_BLOCK_2:
-        return any_block_front(bytes, length, 2, value);
+        return any_block_front(tolerant, bytes, length, 2, value);
     case CODE_BLOCK_4:
-        return any_block_front(bytes, length, 4, value);
+        return any_block_front(tolerant, bytes, length, 4, value);
     default:
         return answered(CODE_NOT_ALLOWED, 0);
     }

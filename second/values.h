@@ -39,7 +39,8 @@ struct second_answer second_date_front(struct date_form form, const uint8_t *byt
 bool second_date_form(uint32_t edition, uint8_t code, struct date_form *form);
 bool second_date_code(uint32_t edition, struct date_form form, uint8_t *code);
 
-struct second_answer second_any_front(const uint8_t *bytes, size_t length, struct any_value *value);
+/* Tolerant of a length in a wider form than it needs, or not. */
+struct second_answer second_any_front(bool tolerant, const uint8_t *bytes, size_t length, struct any_value *value);
 
 /* The code of a block with the shortest length form, and how many length bytes that form has. */
 uint8_t second_block_code(uint32_t length, size_t *width);

@@ -1,4 +1,4 @@
-/* Runs the recorded cases of one folder: read.tsv, write.tsv, number.tsv, date.tsv, days.tsv and breaks.tsv. Each case is given its own lent
+/* Runs the recorded cases of one folder: read.tsv, write.tsv, number.tsv, date.tsv, days.tsv, breaks.tsv and tolerant.tsv. Each case is given its own lent
    memory between guards, and the whole of it is compared afterwards. */
 #include "second.h"
 
@@ -10,7 +10,7 @@
 #include <stdlib.h>
 #include <string.h>
 
-enum { GUARD = 64, MOST_LENT = 1048576, PATTERN = 0xA5 };
+enum { GUARD = 64, MOST_LENT = 1048576 + 4096, PATTERN = 0xA5 };
 
 /* Words, so that rows may be lent from it too. */
 struct lent {
@@ -241,6 +241,53 @@ static bool check_named(const struct fields *fields, struct bench *bench)
     return check_date(fields, bench);
 }
 
+/* the rows of one reading, and nothing else of what was lent */
+static bool tolerant_rows(const struct fields *fields, struct bench *bench, struct second_reply got, size_t length)
+{
+    size_t expected = list_bytes(fields->text[9], bench->expected);
+    return got.answer == number(fields->text[6]) && got.place == number(fields->text[7]) && got.rows == number(fields->text[8])
+           && holds_only(&bench->source, bench->given, length) && holds_only(&bench->target, bench->expected, expected);
+}
+
+/* the bytes that are written from the rows, with the input as pool; a strict reading takes them, and they are written once more */
+static bool written_short(const struct fields *fields, struct bench *bench, struct second_reply got, size_t length)
+{
+    uint32_t edition = (uint32_t)number(fields->text[0]);
+    size_t bytes = hex_bytes(fields->text[10], bench->expected);
+    uint32_t *rows = as_rows(inside(&bench->target));
+    size_t numbers = got.rows * ROW_NUMBERS;
+    uint8_t *output = lend(&bench->pool, bytes);
+    struct second_reply wrote = second_write(edition, rows, numbers, inside(&bench->source), length, output, bytes);
+    if (wrote.answer != ACCEPTED || wrote.place != bytes || !holds_only(&bench->pool, bench->expected, bytes))
+        return false;
+    struct second_reply strictly = second_read(edition, bench->expected, bytes, rows, numbers);
+    struct second_reply again = second_write(edition, rows, numbers, bench->expected, bytes, output, bytes);
+    return strictly.answer == ACCEPTED && strictly.place == bytes && again.answer == ACCEPTED && again.place == bytes
+           && holds_only(&bench->pool, bench->expected, bytes);
+}
+
+/* edition, numbers lent, input; read: answer, place, rows; read tolerantly: answer, place, rows, rows themselves; the bytes written from these */
+static bool check_tolerant(const struct fields *fields, struct bench *bench)
+{
+    uint32_t edition = (uint32_t)number(fields->text[0]);
+    size_t room = number(fields->text[1]);
+    size_t length = hex_bytes(fields->text[2], bench->given);
+    uint8_t *input = lend_copy(&bench->source, bench->given, length);
+    uint32_t *rows = as_rows(lend(&bench->target, room * sizeof *rows));
+    struct second_reply strictly = second_read(edition, input, length, rows, room);
+    bool alike = strictly.answer != FORM_TOO_WIDE;
+    rows = as_rows(lend(&bench->target, room * sizeof *rows));
+    struct second_reply got = second_read_tolerant(edition, input, length, rows, room);
+    if (strictly.answer == number(fields->text[3]) && strictly.place == number(fields->text[4]) && strictly.rows == number(fields->text[5])
+        && tolerant_rows(fields, bench, got, length)
+        && (!alike || (got.answer == strictly.answer && got.place == strictly.place && got.rows == strictly.rows))
+        && (got.answer != ACCEPTED || written_short(fields, bench, got, length)))
+        return true;
+    printf("  got %" PRIu32 "\t%" PRIu64 "\t%" PRIu64 "\tand %" PRIu32 "\t%" PRIu64 "\t%" PRIu64, strictly.answer, strictly.place, strictly.rows,
+           got.answer, got.place, got.rows);
+    return false;
+}
+
 struct tally {
     unsigned passed;
     unsigned failed;
@@ -275,6 +322,7 @@ int main(int count, char **arguments)
     check_file(arguments[1], "date.tsv", check_date, &bench, &tally);
     check_file(arguments[1], "days.tsv", check_named, &bench, &tally);
     check_file(arguments[1], "breaks.tsv", check_named, &bench, &tally);
+    check_file(arguments[1], "tolerant.tsv", check_tolerant, &bench, &tally);
     printf("%u passed, %u failed\n", tally.passed, tally.failed);
     return tally.failed == 0 ? 0 : 1;
 }

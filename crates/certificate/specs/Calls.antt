@@ -11,10 +11,10 @@ use lib.Dec.{T, leb}
 use lib.ListN.{length, take, drop, take-append-drop}
 use lib.Seq.{length-take-le}
 use Rattle.meaning.specs.Basics.{pick}
-use Rattle.meaning.specs.Told.{Edition}
-use Rattle.meaning.specs.Headers.{Placed, Answer, refused, accepted, read}
+use Rattle.meaning.specs.Told.{Edition, Strictness, strict}
+use Rattle.meaning.specs.Headers.{Placed, Answer, refused, accepted, readBy, read}
 use Rattle.meaning.specs.Writing.{Written, written, unwritten}
-use Rattle.meaning.specs.Memory.{tableOf, cellsOf, roomOf, laidOver, Reply, readReply, readMemory, readAnswer, readRows, writeReply, writeMemory, write, writeAnswer, writeOutput}
+use Rattle.meaning.specs.Memory.{tableOf, cellsOf, roomOf, laidOver, Reply, readReply, readMemory, answerBy, rowsBy, writeReply, writeMemory, write, writeAnswer, writeOutput}
 use Rattle.meaning.specs.Payload.{partStart, partEnd, partBytes, payloadStart, payloadEnd, payloadBytes}
 use Rattle.laws.specs.Logic.{areBytes}
 use Rattle.laws.specs.PlainRows.{other}
@@ -23,7 +23,7 @@ use Rattle.laws.specs.Demands.{read-then-written, ReadsSame, written-then-read,
 use Rattle.listing.specs.Listed.{table-length}
 use Rattle.table.specs.declared.reply.Reply as declared
 use Rattle.reader.specs.declared.Part.{Part}
-use Rattle.reader.specs.Promises.{ReadPromise, PartPromise, PayloadPromise}
+use Rattle.reader.specs.Promises.{ReadsBy, ReadPromise, PartPromise, PayloadPromise}
 use Rattle.writer.specs.Promise.{WritePromise}
 use Rattle.certificate.specs.OneAnswer.{one-read}
 use Rattle.certificate.specs.Lent.{firstRows, behindRows, rows-read, rows-behind, bytes-written, accepted-call, fills, refuses, lays, written-call, same-count}
@@ -46,7 +46,7 @@ read-write-same-bytes {edition} {input} {rows = rows} {output = output} {a = a} 
     let table : firstRows (a .rows) rows ≡ tableOf found = rows-read f in
     let again = read-then-written edition input place found t is (length output) (omega (arith, f .ends)) in
     let l = lays q (ap (λ (x : List ℕ). write edition x input (length output)) table ∙ again) in
-    let shape = accepted-shape edition input place found t is in
+    let shape = accepted-shape strict edition input place found t is in
     record {
       answers = l .answers;
       ends = l .ends ∙ length-take-le place input (shape .0) ∙ sym (f .ends);
@@ -124,7 +124,7 @@ label-never-lies e {rows} {pool} {output} {out} {before} {after} {a} {b} t p z p
 
 pub payload-changes-nothing : {edition : ℕ} {input before after later : List ℕ} {a b : declared.Reply} → T (areBytes input)
     → ReadPromise edition input before a after → a .answer ≡ 0 → (payload : List ℕ) → ReadPromise edition (take (a .place) input ++ payload) before b later → (a ≡ b) × (after ≡ later)
-unfolding readAnswer readRows
+unfolding answerBy rowsBy
 payload-changes-nothing {edition} {input} {before} {a = a} t p z payload q =
     let (place, rows, is, f) = accepted-call p z in
     let ends : take (a .place) input ++ payload ≡ take place input ++ payload = ap (λ (n : ℕ). take n input ++ payload) (f .ends) in
@@ -144,9 +144,9 @@ payload-behind-header {input = input} {a = a} p z q r =
 
 -- 6. "A refused call changes nothing lent." Whatever refuses it: 14 and 16, for want of room, too.
 
-pub refused-read-changes-nothing : {edition : ℕ} {input before after : List ℕ} {a : declared.Reply} → ReadPromise edition input before a after → (a .answer ≡ 0 → ⊥) → after ≡ before
-unfolding readAnswer readRows
-refused-read-changes-nothing {edition} {input} {before} {after} {a} p some = at (read edition input) (ap (λ (r : Reply). r .answer) (p .answers)) (p .rows)
+pub refused-read-changes-nothing : {w : Strictness} {edition : ℕ} {input before after : List ℕ} {a : declared.Reply} → ReadsBy w edition input before a after → (a .answer ≡ 0 → ⊥) → after ≡ before
+unfolding answerBy rowsBy
+refused-read-changes-nothing {w} {edition} {input} {before} {after} {a} p some = at (readBy w edition input) (ap (λ (r : Reply). r .answer) (p .answers)) (p .rows)
   where
     fits : (rows : List Placed) (room : Bool) → a .answer ≡ pick room 0 14 → after ≡ pick room (laidOver before (tableOf rows)) before → after ≡ before
     fits rows true r m = absurd (some r)

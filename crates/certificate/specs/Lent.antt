@@ -10,9 +10,10 @@ use lib.Dec.{leb}
 use lib.ListN.{length, take, drop}
 use lib.Seq.{take-at, drop-at}
 use Rattle.meaning.specs.Basics.{pick}
-use Rattle.meaning.specs.Headers.{Placed, Answer, refused, accepted, read}
+use Rattle.meaning.specs.Told.{Strictness}
+use Rattle.meaning.specs.Headers.{Placed, Answer, refused, accepted, readBy}
 use Rattle.meaning.specs.Writing.{Written, written, unwritten}
-use Rattle.meaning.specs.Memory.{rowWidth, tableOf, cellsOf, roomOf, laidOver, Reply, reply, readReply, readMemory, readAnswer, readRows, writeReply, writeMemory, write, writeAnswer, writeOutput}
+use Rattle.meaning.specs.Memory.{rowWidth, tableOf, cellsOf, roomOf, laidOver, Reply, reply, readReply, readMemory, answerBy, rowsBy, writeReply, writeMemory, write, writeAnswer, writeOutput}
 use Rattle.meaning.specs.Plain.{Decoded, decoded, undecoded, Outcome, outcome, decodeOutcome, encodeOutcome, encodeMemory}
 use Rattle.laws.specs.Rows.{rows-whole}
 use Rattle.laws.specs.Plans.{written-writes}
@@ -22,7 +23,7 @@ use Rattle.laws.specs.Demands.{refused-shape, unwritten-shape}
 use Rattle.listing.specs.Listed.{table-length}
 use Rattle.coders.specs.declared.encode.Encoded.{Encoded}
 use Rattle.table.specs.declared.reply.Reply as declared
-use Rattle.reader.specs.Promises.{ReadPromise}
+use Rattle.reader.specs.Promises.{ReadsBy}
 use Rattle.writer.specs.Promise.{WritePromise}
 
 -- the rows at the front of lent memory, as numbers
@@ -69,30 +70,30 @@ module _ {place : ℕ} {rows : List Placed} {before after : List ℕ} {a : decla
 pub bytes-written : {bytes rows before after : List ℕ} {a : declared.Reply} → Laid bytes rows before a after → take (a .place) after ≡ bytes
 bytes-written {bytes} {before = before} {a = a} l = ap (take (a .place)) (l .leaves) ∙ laid-front before bytes (sym (l .ends))
 
--- The reader
+-- The reader, strict or tolerant
 
-module _ {edition : ℕ} {input before after : List ℕ} {a : declared.Reply} (p : ReadPromise edition input before a after) where
+module _ {w : Strictness} {edition : ℕ} {input before after : List ℕ} {a : declared.Reply} (p : ReadsBy w edition input before a after) where
   abbrev AcceptedCall : Type 0
-  AcceptedCall = (place : ℕ) × (rows : List Placed) × (read edition input ≡ accepted place rows) × Filled place rows before a after
+  AcceptedCall = (place : ℕ) × (rows : List Placed) × (readBy w edition input ≡ accepted place rows) × Filled place rows before a after
 
   pub accepted-call : a .answer ≡ 0 → AcceptedCall
-  unfolding readAnswer readRows
-  accepted-call z = at (read edition input) refl (p .answers) (p .rows)
+  unfolding answerBy rowsBy
+  accepted-call z = at (readBy w edition input) refl (p .answers) (p .rows)
     where
-      fits : (place : ℕ) (rows : List Placed) → read edition input ≡ accepted place rows → (room : Bool)
+      fits : (place : ℕ) (rows : List Placed) → readBy w edition input ≡ accepted place rows → (room : Bool)
           → reply (a .answer) (a .place) (a .rows) ≡ reply (pick room 0 14) place (length rows) → after ≡ pick room (laidOver before (tableOf rows)) before → AcceptedCall
       fits place rows q true r m = (place, rows, q, record { answers = z; ends = ap (λ (x : Reply). x .place) r; count = ap (λ (x : Reply). x .rows) r; leaves = m })
       fits place rows q false r m = let x : a .answer ≡ 14 = ap (λ (x : Reply). x .answer) r in absurd (omega arith)
 
-      at : (found : Answer) → read edition input ≡ found → reply (a .answer) (a .place) (a .rows) ≡ readReply (roomOf before) found → after ≡ readMemory before found → AcceptedCall
+      at : (found : Answer) → readBy w edition input ≡ found → reply (a .answer) (a .place) (a .rows) ≡ readReply (roomOf before) found → after ≡ readMemory before found → AcceptedCall
       at (refused refusal place) q r m =
-          let h = refused-shape edition input refusal place q .0 in let x : a .answer ≡ refusal = ap (λ (x : Reply). x .answer) r in
+          let h = refused-shape w edition input refusal place q .0 in let x : a .answer ≡ refusal = ap (λ (x : Reply). x .answer) r in
           absurd (omega arith)
       at (accepted place rows) q r m = fits place rows q (leb (length rows) (roomOf before)) r m
 
   -- a header that is accepted fills its rows, where they have room
-  pub fills : {place : ℕ} {rows : List Placed} → read edition input ≡ accepted place rows → length rows ≤ roomOf before → Filled place rows before a after
-  unfolding readAnswer readRows
+  pub fills : {place : ℕ} {rows : List Placed} → readBy w edition input ≡ accepted place rows → length rows ≤ roomOf before → Filled place rows before a after
+  unfolding answerBy rowsBy
   fills {place} {rows} q room =
       let r : reply (a .answer) (a .place) (a .rows) ≡ reply 0 place (length rows) = p .answers ∙ ap (readReply (roomOf before)) q ∙ ap (λ (b : Bool). reply (pick b 0 14) place (length rows)) (le-leb (length rows) (roomOf before) room) in
       record {
@@ -103,8 +104,8 @@ module _ {edition : ℕ} {input before after : List ℕ} {a : declared.Reply} (p
       }
 
   -- a header that is refused changes nothing lent
-  pub refuses : {refusal place : ℕ} → read edition input ≡ refused refusal place → (a .answer ≡ refusal) × (a .place ≡ place) × (a .rows ≡ 0) × (after ≡ before)
-  unfolding readAnswer readRows
+  pub refuses : {refusal place : ℕ} → readBy w edition input ≡ refused refusal place → (a .answer ≡ refusal) × (a .place ≡ place) × (a .rows ≡ 0) × (after ≡ before)
+  unfolding answerBy rowsBy
   refuses {refusal} {place} q =
       let r : reply (a .answer) (a .place) (a .rows) ≡ reply refusal place 0 = p .answers ∙ ap (readReply (roomOf before)) q in
       (ap (λ (x : Reply). x .answer) r, ap (λ (x : Reply). x .place) r, ap (λ (x : Reply). x .rows) r, p .rows ∙ ap (readMemory before) q)

@@ -2,5 +2,6 @@
 pub mod OneAnswer
 pub mod Lent
 pub mod Calls
+pub mod Tolerant
 pub mod Coders
 pub mod Premises

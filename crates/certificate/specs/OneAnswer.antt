@@ -5,6 +5,7 @@ use mathlib.Core.List.{List}
 use mathlib.Core.Path.{_≡_, ap, sym, _∙_}
 use native.Mathlib.Omega.{arith}
 use lib.ListN.{length, replicate, length-replicate}
+use Rattle.meaning.specs.Told.{Strictness}
 use Rattle.meaning.specs.Memory.{Reply}
 use Rattle.meaning.specs.Plain.{Outcome, Date as PlainDate}
 use Rattle.meaning.specs.Listing.{inputMost}
@@ -15,7 +16,7 @@ use Rattle.coders.specs.declared.encode.Encoded.{Encoded}
 use Rattle.coders.specs.Plain.{NumberDecodes, NumberEncodes, DateDecodes, DateEncodes, plainOf}
 use Rattle.table.specs.declared.reply.Reply as declared
 use Rattle.reader.specs.declared.Part.{Part}
-use Rattle.reader.specs.Promises.{ReadPromise, PartPromise, PayloadPromise}
+use Rattle.reader.specs.Promises.{ReadsBy, PartPromise, PayloadPromise}
 use Rattle.writer.specs.Promise.{WritePromise}
 use Rattle.listing.specs.declared.Piece.{Piece}
 use Rattle.listing.specs.Pieces.{NextPiece}
@@ -26,8 +27,8 @@ use Rattle.lister.specs.Promise.{TablePromise, LongPromise}
 same : {A : Type 0} {x y named : A} → x ≡ named → y ≡ named → x ≡ y
 same p q = p ∙ sym q
 
--- reading a header: answer, place and count of rows, and the lent rows
-pub one-read : {edition : ℕ} {input before after later : List ℕ} {a b : declared.Reply} → ReadPromise edition input before a after → ReadPromise edition input before b later → (a ≡ b) × (after ≡ later)
+-- reading a header, strictly or tolerantly: answer, place and count of rows, and the lent rows
+pub one-read : {w : Strictness} {edition : ℕ} {input before after later : List ℕ} {a b : declared.Reply} → ReadsBy w edition input before a after → ReadsBy w edition input before b later → (a ≡ b) × (after ≡ later)
 one-read p q = (ap (λ (r : Reply). record { answer = r .answer; place = r .place; rows = r .rows }) (same (p .answers) (q .answers)), same (p .rows) (q .rows))
 
 -- writing a table: answer, place and count of rows, and the lent output

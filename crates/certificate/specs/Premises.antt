@@ -7,23 +7,26 @@ use mathlib.Core.Path.{refl}
 use lib.Dec.{T}
 use lib.ListN.{replicate}
 use Rattle.meaning.specs.Bytes.{textByte, takeText, textOk, turn, takeNumber, numberOk, lastDay, passes, takeDate, dateOk, highFirst, tooWide, takeBytes, blockOf, takeBlock, blockOk}
+use Rattle.meaning.specs.Told.{Strictness, tolerant}
 use Rattle.meaning.specs.Editions.{shared, own, moves}
 use Rattle.meaning.specs.Reading.{takeValue, find, look, stepMove, step, run, inside}
-use Rattle.meaning.specs.Headers.{envelope, header, read}
+use Rattle.meaning.specs.Headers.{envelope, header, readBy}
 use Rattle.meaning.specs.Writing.{valid, writeValue, wayOf, fit, fitRow, closeWithin, close, planOf, writeRows}
-use Rattle.meaning.specs.Memory.{row, cellsOf, laidOver, write, readAnswer, readRows, writeAnswer, writeOutput}
+use Rattle.meaning.specs.Memory.{row, cellsOf, laidOver, write, answerBy, rowsBy, readAnswer, writeAnswer, writeOutput}
 use Rattle.meaning.specs.Plain.{digitsWithin, digitsOf, packed, decodeNumber, numberDecoded, numberBytes, numberEncoded, dateOf, decodeDate, dateDecoded, dateInRange, dateEncoded}
 use Rattle.meaning.specs.Cases.{hex, aDate, baseWith, inMemory, baseRows, replyIs, outcomeIs}
+use Rattle.meaning.specs.Widths.{sizedBase}
 use Rattle.laws.specs.Logic.{areBytes}
 use Rattle.laws.specs.Ties.{plainTable}
 use Rattle.table.specs.declared.reply.Reply as declared
-use Rattle.reader.specs.Promises.{ReadPromise}
+use Rattle.reader.specs.Promises.{ReadsBy}
 use Rattle.writer.specs.Promise.{WritePromise}
 
-pub some-read : (edition : ℕ) (input before : List ℕ) → (a : declared.Reply) × (after : List ℕ) × ReadPromise edition input before a after
-some-read edition input before =
-    let r = readAnswer edition input before in
-    (record { answer = r .answer; place = r .place; rows = r .rows }, readRows edition input before, record { answers = refl; rows = refl })
+-- strictly or tolerantly
+pub some-read : (w : Strictness) (edition : ℕ) (input before : List ℕ) → (a : declared.Reply) × (after : List ℕ) × ReadsBy w edition input before a after
+some-read w edition input before =
+    let r = answerBy w edition input before in
+    (record { answer = r .answer; place = r .place; rows = r .rows }, rowsBy w edition input before, record { answers = refl; rows = refl })
 
 pub some-write : (edition : ℕ) (rows pool before : List ℕ) → (a : declared.Reply) × (after : List ℕ) × WritePromise edition rows pool before a after
 some-write edition rows pool before =
@@ -42,6 +45,13 @@ lent n = replicate n 0
 abbrev isRead : ℕ → Bool
 isRead edition = replyIs 0 15 3 (readAnswer edition aHeader (lent 12))
 
+-- a block of no bytes behind 19 and four zeros: 11 strictly, and 0 tolerantly
+abbrev wideHeader : List ℕ
+wideHeader = sizedBase (hex 0x1_0b_19_00_00_00_00)
+
+abbrev isReadTolerantly : ℕ → Bool
+isReadTolerantly edition = replyIs 11 15 0 (readAnswer edition wideHeader (lent 20)) && replyIs 0 21 5 (answerBy tolerant edition wideHeader (lent 20))
+
 -- written into just the room that it needs
 abbrev isWritten : ℕ → List ℕ → ℕ → ℕ → Bool
 isWritten edition rows bytes count = replyIs 0 bytes count (writeAnswer edition rows aHeader (lent bytes))
@@ -59,8 +69,8 @@ areCoded =
     outcomeIs 0 2 (numberEncoded 42 2) && outcomeIs 0 2 (numberDecoded (hex 0x1_53_00)) && outcomeIs 0 9 (dateEncoded 5 (dateOf aDate) 9) && outcomeIs 0 9 (dateDecoded 5 aDate)
 
 pub premises : T (
-    areBytes aHeader && isRead 1 && isRead 2 && isWritten 1 (inMemory (baseRows 5 9 [])) 15 3 && isWritten 2 (inMemory (baseRows 5 9 [])) 15 3 && plainTable (inMemory (baseRows 5 9 [])) aHeader &&
+    areBytes aHeader && isRead 1 && isRead 2 && isReadTolerantly 1 && isReadTolerantly 2 && isWritten 1 (inMemory (baseRows 5 9 [])) 15 3 && isWritten 2 (inMemory (baseRows 5 9 [])) 15 3 && plainTable (inMemory (baseRows 5 9 [])) aHeader &&
     isWritten 1 encrypted 17 4 && not (plainTable encrypted aHeader) && isWritten 2 forwarded 15 3 && not (plainTable forwarded aHeader) && areCoded
     )
-unfolding textByte takeText textOk turn takeNumber numberOk lastDay passes takeDate dateOk highFirst tooWide takeBytes blockOf takeBlock blockOk shared own moves takeValue find look stepMove step run inside envelope header read valid writeValue wayOf fit fitRow closeWithin close planOf writeRows cellsOf laidOver write readAnswer readRows writeAnswer writeOutput digitsWithin digitsOf packed decodeNumber numberDecoded numberBytes numberEncoded decodeDate dateDecoded dateInRange dateEncoded
+unfolding textByte takeText textOk turn takeNumber numberOk lastDay passes takeDate dateOk highFirst tooWide takeBytes blockOf takeBlock blockOk shared own moves takeValue find look stepMove step run inside envelope header readBy valid writeValue wayOf fit fitRow closeWithin close planOf writeRows cellsOf laidOver write answerBy rowsBy writeAnswer writeOutput digitsWithin digitsOf packed decodeNumber numberDecoded numberBytes numberEncoded decodeDate dateDecoded dateInRange dateEncoded
 premises = tt

@@ -1,6 +1,6 @@
 // The entries under the names that C and Rust programs link, each with its whole promise; nothing else. `include/gamulisyan.h` declares them
 // and says what each takes, answers, refuses and leaves.
-ghost use Rattle.reader.specs.Promises.{ReadPromise, PartPromise};
+ghost use Rattle.reader.specs.Promises.{ReadPromise, TolerantPromise, PartPromise};
 ghost use Rattle.writer.specs.Promise.{WritePromise};
 ghost use Rattle.coders.specs.Plain.{NumberDecodes, NumberEncodes, DateDecodes, DateEncodes, plainOf};
 ghost use Rattle.gamulisyan.specs.Version.{version};
@@ -17,6 +17,13 @@ pub extern "C" fn gamulisyan_read(edition: u32, input: &[u8], rows: &mut [u32]) 
     ensures { λ r. ⌜ ReadPromise edition (now (input .entry)) (now (rows .entry)) r (now (rows .exit)) ⌝ }
 {
     reader::read(edition, input, rows)
+}
+
+#[no_mangle]
+pub extern "C" fn gamulisyan_read_tolerant(edition: u32, input: &[u8], rows: &mut [u32]) -> Reply
+    ensures { λ r. ⌜ TolerantPromise edition (now (input .entry)) (now (rows .entry)) r (now (rows .exit)) ⌝ }
+{
+    reader::read_tolerant(edition, input, rows)
 }
 
 #[no_mangle]

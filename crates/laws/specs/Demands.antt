@@ -3,14 +3,14 @@ use Prim.Native.Nat.{ℕ, _+_, _≤_}
 use mathlib.Core.List.{List, [], _∷_, _++_, map}
 use mathlib.Core.Bool.{Bool, true, false, _&&_, not}
 use mathlib.Core.Logic.{_⊎_, inl, inr}
-use mathlib.Core.Path.{_≡_, ap, sym, _∙_, subst}
+use mathlib.Core.Path.{_≡_, refl, ap, sym, _∙_, subst}
 use native.Mathlib.Omega.{arith}
 use lib.Dec.{T}
 use lib.ListN.{length, take, drop, length-append}
 use Rattle.meaning.specs.Basics.{every}
-use Rattle.meaning.specs.Told.{Edition, Label, B, D, known, unknown, labelOf, told}
+use Rattle.meaning.specs.Told.{Edition, Label, B, D, known, unknown, labelOf, Strictness, strict, toldBy, told}
 use Rattle.meaning.specs.Reading.{Row}
-use Rattle.meaning.specs.Headers.{Placed, meant, refused, accepted, header, envelopesMost, labelled, read}
+use Rattle.meaning.specs.Headers.{Placed, meant, refused, accepted, header, envelopesMost, labelled, readBy, read}
 use Rattle.meaning.specs.Writing.{Cell, cell, wholePlan, written, unwritten, writeRows}
 use Rattle.meaning.specs.Memory.{row, tableOf, cellsOf, write}
 use Rattle.laws.specs.Logic.{areBytes}
@@ -26,25 +26,42 @@ use Rattle.meaning.specs.Headers.{Answer, envelope}
 use Rattle.meaning.specs.Writing.{Written, valid, writeValue, wayOf, fit, fitRow, closeWithin, close, planOf}
 use Rattle.meaning.specs.Plain.{decoded, decodeNumber, numberValue, numberBytes, Date, dateOf, dateBytes, decodeDate, dateInRange}
 use Rattle.meaning.specs.Cases.{hex, baseWith, inMemory, baseRows}
-use Rattle.laws.specs.Refusals.{refused-shape as header-refused}
+use Rattle.laws.specs.Refusals.{not-zero, refused-shape as header-refused}
 use Rattle.laws.specs.RowCounts.{table-few, length-meant}
 use Rattle.laws.specs.WriterRefusals.{WriterRefusal, writer-refusal}
 use Rattle.laws.specs.PlainNumbers.{number-coded-decoded, number-decoded-coded}
 use Rattle.laws.specs.PlainDates.{date-coded-decoded, date-decoded-coded}
-use Rattle.laws.specs.Ties.{only-stuck, whole-front, numberOf, SameMeaning, plainCell, plainTable, read-known, write-known, accepted-known, written-known, read-as, write-as, cells-placed, whole-of, same-meaning, plain-cells, seven-or-nine}
+use Rattle.laws.specs.Ties.{only-stuck, whole-front, numberOf, SameMeaning, plainCell, plainTable, read-known, write-known, accepted-known, written-known, read-as, write-as, cells-placed, whole-of, whole-written, same-meaning, plain-cells, seven-or-nine}
 use Rattle.laws.specs.Fifteen.{BeginsTable, NoneWith, stuck-means}
 
 -- 1. "Read then written: the same bytes."
 -- Every accepted input's rows, written under the same edition with the input as pool and room for the bytes, give the bytes up to the payload.
 
+-- whatever the strictness: the rows' own header, which is no longer, and after a strict reading is the one that was read
+pub record RowsWritten (strictness : Strictness) (edition : ℕ) (input : List ℕ) (place : ℕ) (rows : List Placed) : Type 0 where
+  pub bytes : List ℕ
+  pub is : (room : ℕ) → length bytes ≤ room → write edition (tableOf rows) input room ≡ written bytes
+  pub shorter : length bytes ≤ place
+  pub exact : strictness ≡ strict → bytes ≡ take place input
+
+pub rows-written : (strictness : Strictness) (edition : ℕ) (input : List ℕ) (place : ℕ) (rows : List Placed) → T (areBytes input) → readBy strictness edition input ≡ accepted place rows
+    → RowsWritten strictness edition input place rows
+rows-written strictness edition input place rows t q =
+    let (e, k, a) = accepted-known strictness edition input place rows q in
+    let w = whole-of (toldBy strictness e) input place rows t a in
+    let cells : cellsOf input (tableOf rows) ≡ map cell (map meant rows) = ap (λ (x : List ℕ). cellsOf x (tableOf rows)) (w .parts) ∙ cells-placed (w .bytes) (w .payload) rows (w .views) in
+    record {
+      bytes = w .brief;
+      is = λ room h. write-as edition e (tableOf rows) input room k ∙ ap (writeRows e room) cells ∙ writes-written e (w .count) (map meant rows) (w .brief) room (w .written) (w .few) h;
+      shorter = omega (arith, w .place, w .shorter);
+      exact = λ s. w .exact s ∙ sym (whole-front (toldBy strictness e) input place rows w);
+    }
+
 pub read-then-written : (edition : ℕ) (input : List ℕ) (place : ℕ) (rows : List Placed) → T (areBytes input) → read edition input ≡ accepted place rows
     → (room : ℕ) → place ≤ room → write edition (tableOf rows) input room ≡ written (take place input)
 read-then-written edition input place rows t q room h =
-    let (e, k, a) = accepted-known edition input place rows q in
-    let w = whole-of e input place rows t a in
-    let cells : cellsOf input (tableOf rows) ≡ map cell (map meant rows) = ap (λ (x : List ℕ). cellsOf x (tableOf rows)) (w .parts) ∙ cells-placed (w .bytes) (w .payload) rows (w .views) in
-    write-as edition e (tableOf rows) input room k ∙ ap (writeRows e room) cells
-    ∙ writes-written e (w .count) (map meant rows) (w .bytes) room (w .written) (w .few) (omega (arith, w .place)) ∙ ap written (sym (whole-front e input place rows w))
+    let w = rows-written strict edition input place rows t q in
+    w .is room (omega (arith, w .shorter)) ∙ ap written (w .exact refl)
 
 -- 2. "Written then read: the same table."
 -- Every written header, with any payload behind it, is accepted under the same edition, and the table read means the same.
@@ -58,7 +75,14 @@ written-then-read edition rows pool room bytes t q payload =
     let (e, k, a) = written-known edition rows pool room bytes q in
     let (table, n, c, w, few, fits) = written-writes e room (cellsOf pool rows) bytes a in
     let (read-rows, f, m) = header-read (told e) w envelopesMost few 0 in
-    (read-rows, read-as edition e (bytes ++ payload) k ∙ f payload ∙ ap (λ (x : ℕ). accepted x read-rows) (omega arith), same-meaning e bytes payload rows pool table read-rows (written-are-bytes e pool rows t c w) c m (f []))
+    (read-rows, read-as strict edition e (bytes ++ payload) k ∙ f payload ∙ ap (λ (x : ℕ). accepted x read-rows) (omega arith), same-meaning e bytes payload rows pool table read-rows (written-are-bytes e pool rows t c w) c m (f []))
+
+-- what is written holds bytes
+pub written-are-bytes-of : (edition : ℕ) (rows pool : List ℕ) (room : ℕ) (bytes : List ℕ) → T (areBytes pool) → write edition rows pool room ≡ written bytes → T (areBytes bytes)
+written-are-bytes-of edition rows pool room bytes t q =
+    let (e, k, a) = written-known edition rows pool room bytes q in
+    let (table, n, c, w, few, fits) = written-writes e room (cellsOf pool rows) bytes a in
+    written-are-bytes e pool rows t c w
 
 -- 3. "The label can't lie": "A table written under one edition and read under the other is the same table, or is refused with 7 or 9: never a different table."
 -- The same if the table is plain; refused if it is not. A table is one or the other.
@@ -77,21 +101,21 @@ label-cannot-lie e rows pool room bytes t q payload =
     at table p c u (inl (a, (read-rows, f, m))) =
         inl (
           p ∙ a,
-          (read-rows, read-known (other e) (bytes ++ payload) ∙ f payload ∙ ap (λ (x : ℕ). accepted x read-rows) (omega arith), same-meaning (other e) bytes payload rows pool table read-rows u c m (f [])),
+          (read-rows, read-known strict (other e) (bytes ++ payload) ∙ f payload ∙ ap (λ (x : ℕ). accepted x read-rows) (omega arith), same-meaning (other e) bytes payload rows pool table read-rows u c m (f [])),
         )
     at table p c u (inr (a, f)) =
         let (refusal, place, r, k) = f payload in
-        inr (p ∙ a, (refusal, place, read-known (other e) (bytes ++ payload) ∙ r, seven-or-nine refusal k))
+        inr (p ∙ a, (refusal, place, read-known strict (other e) (bytes ++ payload) ∙ r, seven-or-nine refusal k))
 
 -- 4. "Payload bytes and their number never alter an accepted answer."
 
 pub payload-alters-nothing : (edition : ℕ) (input : List ℕ) (place : ℕ) (rows : List Placed) → T (areBytes input) → read edition input ≡ accepted place rows → (payload : List ℕ) → read edition (take place input ++ payload) ≡ accepted place rows
 payload-alters-nothing edition input place rows t q payload =
-    let (e, k, a) = accepted-known edition input place rows q in
-    let w = whole-of e input place rows t a in
-    let (read-rows, f, m) = header-read (told e) (w .written) envelopesMost (w .few) 0 in
+    let (e, k, a) = accepted-known strict edition input place rows q in
+    let w = whole-of (told e) input place rows t a in
+    let (read-rows, f, m) = header-read (told e) (whole-written w) envelopesMost (w .few) 0 in
     let same : accepted (0 + length (w .bytes)) read-rows ≡ accepted place rows = sym (f (w .payload)) ∙ ap (header envelopesMost (told e) 0) (sym (w .parts)) ∙ a in
-    read-as edition e (take place input ++ payload) k ∙ ap (λ (x : List ℕ). header envelopesMost (told e) 0 (x ++ payload)) (whole-front e input place rows w) ∙ f payload ∙ same
+    read-as strict edition e (take place input ++ payload) k ∙ ap (λ (x : List ℕ). header envelopesMost (told e) 0 (x ++ payload)) (whole-front (told e) input place rows w) ∙ f payload ∙ same
 
 -- 5. "15: rows up to here begin no table of this edition, or start plus length passes the pool, or rows or slice end early"
 -- The rows before the one that 15 names begin a table, its limits aside; with that row none do; where it names the row count, they are no table.
@@ -108,13 +132,14 @@ abbrev pub ViewsHeader : List ℕ → ℕ → List Placed → Type 0
 ViewsHeader input place [] = Unit {0}
 ViewsHeader input place (r ∷ rows) = ((r .start + length (r .view) ≤ place) × (take (length (r .view)) (drop (r .start) input) ≡ r .view)) × ViewsHeader input place rows
 
-pub accepted-shape : (edition : ℕ) (input : List ℕ) (place : ℕ) (rows : List Placed) → T (areBytes input) → read edition input ≡ accepted place rows → (place ≤ length input) × (length rows ≤ place) × ViewsHeader input place rows
-accepted-shape edition input place rows t q =
-    let (e, k, a) = accepted-known edition input place rows q in
-    let w = whole-of e input place rows t a in
+pub accepted-shape : (strictness : Strictness) (edition : ℕ) (input : List ℕ) (place : ℕ) (rows : List Placed) → T (areBytes input) → readBy strictness edition input ≡ accepted place rows
+    → (place ≤ length input) × (length rows ≤ place) × ViewsHeader input place rows
+accepted-shape strictness edition input place rows t q =
+    let (e, k, a) = accepted-known strictness edition input place rows q in
+    let w = whole-of (toldBy strictness e) input place rows t a in
     let few = table-few e (w .written) in (
       omega (arith, w .place, ap length (w .parts), length-append (w .bytes) (w .payload)),
-      omega (arith, w .place, length-meant rows),
+      omega (arith, w .place, w .shorter, length-meant rows),
       subst (λ (x : List ℕ). ViewsHeader x place rows) (sym (w .parts)) (views-header (w .bytes) (w .payload) place rows (omega (arith, w .place)) (w .views)),
     )
   where
@@ -124,13 +149,15 @@ accepted-shape edition input place rows t q =
 
 -- Refused: the number is never 0 and the place never past the input. The writer's refusals name a row, or for 16 the bytes needed (`WriterRefusal`).
 
-pub refused-shape : (edition : ℕ) (input : List ℕ) (refusal place : ℕ) → read edition input ≡ refused refusal place → (1 ≤ refusal) × (place ≤ length input)
-unfolding read
-refused-shape edition input refusal place q = at (labelOf edition) q
+pub refused-shape : (strictness : Strictness) (edition : ℕ) (input : List ℕ) (refusal place : ℕ) → readBy strictness edition input ≡ refused refusal place → (1 ≤ refusal) × (place ≤ length input)
+unfolding readBy
+refused-shape strictness edition input refusal place q = at (labelOf edition) q
   where
-    at : (l : Label) → labelled input l ≡ refused refusal place → (1 ≤ refusal) × (place ≤ length input)
+    at : (l : Label) → labelled strictness input l ≡ refused refusal place → (1 ≤ refusal) × (place ≤ length input)
     at unknown r = let a : 1 ≡ refusal = cc r in let b : 0 ≡ place = cc r in (omega arith, omega arith)
-    at (known e) r = header-refused envelopesMost (told e) input refusal place r
+    at (known e) r =
+        let (i, l) = header-refused envelopesMost (toldBy strictness e) input refusal place r in
+        (not-zero (toldBy strictness e) refusal i, l)
 
 pub unwritten-shape : (edition : ℕ) (rows pool : List ℕ) (room refusal place : ℕ) → write edition rows pool room ≡ unwritten refusal place → WriterRefusal edition rows pool room refusal place
 unwritten-shape edition rows pool room refusal place q = writer-refusal edition rows pool room refusal place q
@@ -173,5 +200,5 @@ pub premises : T (
     wasAccepted (read 1 aHeader) && wasAccepted (read 2 aHeader) && wasWritten (write 1 (inMemory (baseRows 5 9 [])) aHeader 15) && wasWritten (write 2 (inMemory (baseRows 5 9 [])) aHeader 15) &&
     plainTable (inMemory (baseRows 5 9 [])) aHeader && wasWritten (write 1 encrypted aHeader 17) && not (plainTable encrypted aHeader) && wasWritten (write 2 forwarded aHeader 15) && not (plainTable forwarded aHeader)
     )
-unfolding textByte takeText textOk turn takeNumber numberOk lastDay passes takeDate dateOk highFirst tooWide takeBytes blockOf takeBlock blockOk shared own moves takeValue find look stepMove step run inside envelope header read valid writeValue wayOf fit fitRow closeWithin close planOf writeRows cellsOf write
+unfolding textByte takeText textOk turn takeNumber numberOk lastDay passes takeDate dateOk highFirst tooWide takeBytes blockOf takeBlock blockOk shared own moves takeValue find look stepMove step run inside envelope header readBy valid writeValue wayOf fit fitRow closeWithin close planOf writeRows cellsOf write
 premises = tt

@@ -14,6 +14,7 @@ pub mod Rooms
 pub mod AgentRooms
 pub mod Finishing
 pub mod Frames
+pub mod Shortest
 pub mod Fits
 pub mod WrittenRead
 pub mod PlainRows
@@ -29,6 +30,7 @@ pub mod Completing
 pub mod Fifteen
 pub mod WrittenBytes
 pub mod Refusals
+pub mod Tolerance
 pub mod RowCounts
 pub mod WriterRefusals
 pub mod CodedNumbers
@@ -36,5 +38,6 @@ pub mod PlainNumbers
 pub mod PlainDates
 pub mod Ties
 pub mod Demands
+pub mod Tolerant
 pub mod Notes
 pub mod Days

@@ -31,15 +31,15 @@ text-leaves rule b s (took v rest) w =
     let q : suc (length s) ≡ length (ended v) + length rest = ap length (w .0) ∙ length-append (ended v) rest in
     omega (arith, length-append v (0 ∷ []))
 
-abbrev Counts : ℕ → Count → Type 0
+abbrev pub Counts : ℕ → Count → Type 0
 Counts n (counted k s) = length s ≤ n
 Counts n short = Unit {0}
 
-counts-up : (n k : ℕ) (r : Count) → n ≤ k → Counts n r → Counts k r
+pub counts-up : (n k : ℕ) (r : Count) → n ≤ k → Counts n r → Counts k r
 counts-up n k (counted m s) h i = omega arith
 counts-up n k short h i = tt
 
-high-counts : (w n : ℕ) (s : List ℕ) → Counts (length s) (highFirst w n s)
+pub high-counts : (w n : ℕ) (s : List ℕ) → Counts (length s) (highFirst w n s)
 unfolding highFirst
 high-counts zero n s = omega arith
 high-counts (suc w) n [] = tt
@@ -79,7 +79,7 @@ text-form-leaves told opens left c b s t = absurd t
 text-form-leaves told quiet left c b s t = absurd t
 
 -- a step leaves fewer than n bytes
-abbrev Shrinks : ℕ → Step → Type 0
+abbrev pub Shrinks : ℕ → Step → Type 0
 Shrinks n (fails refusal left) = Unit {0}
 Shrinks n (over s) = Unit {0}
 Shrinks n (next st rs rest) = length rest < n
@@ -107,7 +107,7 @@ move-shrinks told st b s (hit m) w =
     deep-shrinks (suc (length s)) 12 (suc (length s)) (stepTaken st m (takeValue told (m .form) (suc (length s)) (m .code) (valueFrom m b s))) (tooDeep m st)
     (taken-shrinks st m (length s) (takeValue told (m .form) (suc (length s)) (m .code) (valueFrom m b s)) (from-leaves told (st .room) m b s (hasCode noCode m) refl (w .0)))
 
-step-shrinks : (told : Told) (st : State) (s : List ℕ) → Shrinks (length s) (step told st s)
+pub step-shrinks : (told : Told) (st : State) (s : List ℕ) → Shrinks (length s) (step told st s)
 unfolding step
 step-shrinks told st [] = closed-shrinks 0 6 0 [] (isClosed (st .room))
 step-shrinks told st (b ∷ s) = move-shrinks told st b s (look b (moves (told .edition) (st .room))) (looked b (moves (told .edition) (st .room)))

@@ -115,12 +115,12 @@ roomNumber afterResolvers = 19
 roomNumber agentExtra = 20
 roomNumber closed = 21
 
-abbrev roomAt : ℕ → List Room → Room
+abbrev pub roomAt : ℕ → List Room → Room
 roomAt n [] = closed
 roomAt zero (r ∷ rs) = r
 roomAt (suc n) (r ∷ rs) = roomAt n rs
 
-room-again : (r : Room) → roomAt (roomNumber r) rooms ≡ r
+pub room-again : (r : Room) → roomAt (roomNumber r) rooms ≡ r
 room-again receivedBegins = refl
 room-again headRepresentation = refl
 room-again headDate = refl

@@ -10,12 +10,13 @@ use lib.ListN.{length, take, length-append}
 use lib.Seq.{take-append-seam}
 use borrow.Author.Tests.{le-leb}
 use Rattle.meaning.specs.Basics.{pick, every}
-use Rattle.meaning.specs.Told.{Edition, Label, B, D, known, unknown, labelOf, told}
+use Rattle.meaning.specs.Told.{Edition, Label, B, D, known, unknown, labelOf, Strictness, strict, Told, toldBy, told}
 use Rattle.meaning.specs.Reading.{Row}
-use Rattle.meaning.specs.Headers.{Placed, meant, accepted, header, envelopesMost, labelled, read}
+use Rattle.meaning.specs.Headers.{Placed, meant, accepted, header, envelopesMost, labelled, readBy}
 use Rattle.meaning.specs.Writing.{Cell, cell, broken, headerOf, Plan, stuck, plan, Limit, fine, exceeds, limits, written, unwritten, limited, planned, writeRows, writtenUnder}
 use Rattle.meaning.specs.Memory.{tableOf, cellOf, cellsOf, write}
 use Rattle.laws.specs.Logic.{either, areBytes}
+use Rattle.laws.specs.Envelopes.{Writes}
 use Rattle.laws.specs.Views.{PlacedIn, AllIn, view-part}
 use Rattle.laws.specs.HeaderWritten.{Whole, Again, header-written}
 use Rattle.laws.specs.PlainRows.{isPlain, allPlain}
@@ -37,10 +38,10 @@ plainCell broken = false
 abbrev pub plainTable : List ℕ → List ℕ → Bool
 plainTable rows pool = every plainCell (cellsOf pool rows)
 
-pub read-known : (e : Edition) (input : List ℕ) → read (numberOf e) input ≡ header envelopesMost (told e) 0 input
-unfolding read
-read-known B input = refl
-read-known D input = refl
+pub read-known : (w : Strictness) (e : Edition) (input : List ℕ) → readBy w (numberOf e) input ≡ header envelopesMost (toldBy w e) 0 input
+unfolding readBy
+read-known w B input = refl
+read-known w D input = refl
 
 pub write-known : (e : Edition) (rows pool : List ℕ) (room : ℕ) → write (numberOf e) rows pool room ≡ writeRows e room (cellsOf pool rows)
 unfolding write
@@ -48,11 +49,12 @@ write-known B rows pool room = refl
 write-known D rows pool room = refl
 
 -- an answer that is accepted is some edition's
-pub accepted-known : (edition : ℕ) (input : List ℕ) (place : ℕ) (rows : List Placed) → read edition input ≡ accepted place rows → (e : Edition) × (labelOf edition ≡ known e) × (header envelopesMost (told e) 0 input ≡ accepted place rows)
-unfolding read
-accepted-known edition input place rows q = at (labelOf edition) refl q
+pub accepted-known : (w : Strictness) (edition : ℕ) (input : List ℕ) (place : ℕ) (rows : List Placed) → readBy w edition input ≡ accepted place rows
+    → (e : Edition) × (labelOf edition ≡ known e) × (header envelopesMost (toldBy w e) 0 input ≡ accepted place rows)
+unfolding readBy
+accepted-known w edition input place rows q = at (labelOf edition) refl q
   where
-    at : (l : Label) → labelOf edition ≡ l → labelled input l ≡ accepted place rows → (e : Edition) × (labelOf edition ≡ known e) × (header envelopesMost (told e) 0 input ≡ accepted place rows)
+    at : (l : Label) → labelOf edition ≡ l → labelled w input l ≡ accepted place rows → (e : Edition) × (labelOf edition ≡ known e) × (header envelopesMost (toldBy w e) 0 input ≡ accepted place rows)
     at unknown k r = let z : _≡_ {A = ℕ} 0 1 = cc r in absurd (omega arith)
     at (known e) k r = (e, k, r)
 
@@ -64,9 +66,9 @@ written-known edition rows pool room bytes q = at (labelOf edition) refl q
     at unknown k r = let z : _≡_ {A = ℕ} 0 1 = cc r in absurd (omega arith)
     at (known e) k r = (e, k, r)
 
-pub read-as : (edition : ℕ) (e : Edition) (input : List ℕ) → labelOf edition ≡ known e → read edition input ≡ header envelopesMost (told e) 0 input
-unfolding read
-read-as edition e input k = ap (labelled input) k
+pub read-as : (w : Strictness) (edition : ℕ) (e : Edition) (input : List ℕ) → labelOf edition ≡ known e → readBy w edition input ≡ header envelopesMost (toldBy w e) 0 input
+unfolding readBy
+read-as w edition e input k = ap (labelled w input) k
 
 pub write-as : (edition : ℕ) (e : Edition) (rows pool : List ℕ) (room : ℕ) → labelOf edition ≡ known e → write edition rows pool room ≡ writeRows e room (cellsOf pool rows)
 unfolding write
@@ -86,15 +88,19 @@ cells-placed w payload (r ∷ rows) (h, i) = rw (cell-placed w payload r h, cell
 pub from-zero : (n : ℕ) → 0 + n ≡ n
 from-zero n = omega arith
 
-pub whole-of : (e : Edition) (input : List ℕ) (place : ℕ) (rows : List Placed) → T (areBytes input) → header envelopesMost (told e) 0 input ≡ accepted place rows → Whole envelopesMost e 0 input place rows
-whole-of e input place rows t q = subst (Again envelopesMost e 0 input) q (header-written envelopesMost (told e) 0 input t)
+pub whole-of : (told : Told) (input : List ℕ) (place : ℕ) (rows : List Placed) → T (areBytes input) → header envelopesMost told 0 input ≡ accepted place rows → Whole envelopesMost told 0 input place rows
+whole-of told input place rows t q = subst (Again envelopesMost told 0 input) q (header-written envelopesMost told 0 input t)
+
+-- a strict reading took the header that the writer gives
+pub whole-written : {k : ℕ} {e : Edition} {at : ℕ} {s : List ℕ} {p : ℕ} {rows : List Placed} (w : Whole k (told e) at s p rows) → Writes e (w .count) (map meant rows) (w .bytes)
+whole-written {e = e} {rows = rows} w = subst (Writes e (w .count) (map meant rows)) (w .exact refl) (w .written)
 
 -- the header's own views, whichever edition reads it
 pub same-meaning : (e : Edition) (bytes payload rows pool : List ℕ) (table : List Row) (read-rows : List Placed) → T (areBytes bytes) → cellsOf pool rows ≡ map cell table → map meant read-rows ≡ table
     → header envelopesMost (told e) 0 (bytes ++ []) ≡ accepted (0 + length bytes) read-rows → SameMeaning rows pool (tableOf read-rows) (bytes ++ payload)
 same-meaning e bytes payload rows pool table read-rows t c m q =
     let a : header envelopesMost (told e) 0 bytes ≡ accepted (0 + length bytes) read-rows = ap (header envelopesMost (told e) 0) (sym (append-nil bytes)) ∙ q in
-    let w = whole-of e bytes (0 + length bytes) read-rows t a in
+    let w = whole-of (told e) bytes (0 + length bytes) read-rows t a in
     let whole : w .bytes ≡ bytes = all-of (w .bytes) (w .payload) (w .parts) (omega (arith, w .place)) in
     let i : AllIn 0 bytes read-rows = subst (λ (x : List ℕ). AllIn 0 x read-rows) whole (w .views) in
     c ∙ ap (map cell) (sym m) ∙ sym (cells-placed bytes payload read-rows i)
@@ -116,8 +122,8 @@ seven-or-nine k t = at (either (eqb k 7) (eqb k 9) t)
     at (inr p) = inr (eqb→eq k 9 p)
 
 -- the header's bytes are the input up to the payload
-pub whole-front : (e : Edition) (input : List ℕ) (place : ℕ) (rows : List Placed) (w : Whole envelopesMost e 0 input place rows) → take place input ≡ w .bytes
-whole-front e input place rows w =
+pub whole-front : (told : Told) (input : List ℕ) (place : ℕ) (rows : List Placed) (w : Whole envelopesMost told 0 input place rows) → take place input ≡ w .bytes
+whole-front told input place rows w =
     ap (λ (x : ℕ). take x input) (w .place ∙ from-zero (length (w .bytes))) ∙ ap (take (length (w .bytes))) (w .parts) ∙ take-append-seam (w .bytes) (w .payload)
 
 -- 15 is given only where a plan is stuck

@@ -1,15 +1,15 @@
 -- A valid value that is written is taken back; and a value that was taken is valid, and was written so. By induction over the bytes.
 use Prim.Native.Nat.{ℕ, zero, suc, _+_, _*_, _/_, _%_, _≤_, _<_}
 use mathlib.Core.List.{List, [], _∷_, _++_, append-assoc}
-use mathlib.Core.Bool.{Bool, true, false}
+use mathlib.Core.Bool.{Bool, true, false, _&&_, not}
 use mathlib.Core.Path.{_≡_, refl, ap, sym, subst}
 use native.Mathlib.Omega.{arith}
-use lib.Dec.{T, eqb, leb, ltb, leb→le, ltb→lt, le→leb, lt→ltb, eqb→eq, eqb-refl}
+use lib.Dec.{T, eqb, leb, ltb, leb→le, ltb→lt, lt→ltb, eqb→eq, eqb-refl}
 use lib.ListN.{length}
-use borrow.Author.Tests.{ne-eqb, le-ltb, eqb-true, ltb-false}
+use borrow.Author.Tests.{ne-eqb, le-ltb, eqb-true}
 use Rattle.meaning.specs.Told.{known, Told}
 use Rattle.meaning.specs.Basics.{pick, isEmpty}
-use Rattle.meaning.specs.Bytes.{Taken, took, failed, prefixed, Rule, line, note, textByte, takeText, textOk, Check, passes, takeDate, dateOk, dateChecks, Turn, stop, more, wrong, turn, afterTurn, okTurn, takeNumber, numberOk, takeBytes, highFirst, counted, Width, oneByte, twoBytes, fourBytes, bytesOf, fewest, past, tooWide, lengthBytes, blockOf, takeBlock, blockOk}
+use Rattle.meaning.specs.Bytes.{Taken, took, failed, prefixed, Rule, line, note, textByte, takeText, textOk, Check, passes, takeDate, dateOk, dateChecks, Turn, stop, more, wrong, turn, afterTurn, okTurn, takeNumber, numberOk, takeBytes, highFirst, counted, Width, oneByte, twoBytes, fourBytes, bytesOf, fewest, past, shortestOnly, tooWide, lengthBytes, blockOf, takeBlock, blockOk}
 use Rattle.meaning.specs.Editions.{Form, text, date, number, block, itself, opens, quiet}
 use Rattle.meaning.specs.Reading.{takeValue}
 use Rattle.meaning.specs.Writing.{isOnly, valid, writeValue}
@@ -69,7 +69,7 @@ length-in fourBytes n rest h = ap (λ (k : ℕ). counted k rest) (omega arith)
 -- a length within its form is not too wide
 fits-width : (told : Told) (w : Width) (n : ℕ) → fewest w ≤ n → tooWide told w n ≡ false
 unfolding tooWide
-fits-width told w n h = le-ltb n (fewest w) h
+fits-width told w n h = ap (λ (b : Bool). b && shortestOnly (told .strictness)) (le-ltb n (fewest w) h)
 
 abbrev blockWrite : Width → List ℕ → List ℕ
 blockWrite w v = lengthBytes w (length v) ++ v
@@ -179,29 +179,27 @@ bytes-out zero s = (refl, refl)
 bytes-out (suc n) [] = tt
 bytes-out (suc n) (b ∷ s) = took-more n b s (takeBytes n s) (bytes-out n s)
 
--- a length that is not too wide is within its form
-wide-enough : (told : Told) (w : Width) (n : ℕ) → tooWide told w n ≡ false → fewest w ≤ n
-unfolding tooWide
-wide-enough told w n q = ltb-false n (fewest w) q
+-- the bytes of a block may stand behind a length of this width
+abbrev pub mayStand : Told → Width → List ℕ → Bool
+mayStand told w v = not (tooWide told w (length v)) && ltb (length v) (past w)
 
 -- the length n stands before the bytes s
-block-taken : (w : Width) (n : ℕ) (s : List ℕ) (g : Taken) → fewest w ≤ n → n < past w → Took n s g → Was (blockWrite w) (blockOk w) (lengthBytes w n ++ s) g
-unfolding blockOk
-block-taken w n s (failed refusal left) lo hi i = tt
-block-taken w n s (took v rest) lo hi i = (
+block-taken : (told : Told) (w : Width) (n : ℕ) (s : List ℕ) (g : Taken) → tooWide told w n ≡ false → n < past w → Took n s g → Was (blockWrite w) (mayStand told w) (lengthBytes w n ++ s) g
+block-taken told w n s (failed refusal left) lo hi i = tt
+block-taken told w n s (took v rest) lo hi i = (
   rw (append-assoc (lengthBytes w (length v)) v rest, i .1, ← i .0) refl,
-  both (leb (fewest w) (length v)) (ltb (length v) (past w)) (le→leb (fewest w) (length v) (omega (arith, i .1))) (lt→ltb (length v) (past w) (omega (arith, i .1))),
+  rw (i .1, lo) (lt→ltb n (past w) hi),
 )
 
-block-counted : (told : Told) (w : Width) (left n : ℕ) (s : List ℕ) (p : Bool) → tooWide told w n ≡ p → n < past w → Was (blockWrite w) (blockOk w) (lengthBytes w n ++ s) (pick p (failed 11 left) (takeBytes n s))
+block-counted : (told : Told) (w : Width) (left n : ℕ) (s : List ℕ) (p : Bool) → tooWide told w n ≡ p → n < past w → Was (blockWrite w) (mayStand told w) (lengthBytes w n ++ s) (pick p (failed 11 left) (takeBytes n s))
 block-counted told w left n s true ep hi = tt
-block-counted told w left n s false ep hi = block-taken w n s (takeBytes n s) (wide-enough told w n ep) hi (bytes-out n s)
+block-counted told w left n s false ep hi = block-taken told w n s (takeBytes n s) ep hi (bytes-out n s)
 
-block-at : (told : Told) (w : Width) (left n : ℕ) (s t : List ℕ) → t ≡ lengthBytes w n ++ s → n < past w → Was (blockWrite w) (blockOk w) t (blockOf told w left (counted n s))
+block-at : (told : Told) (w : Width) (left n : ℕ) (s t : List ℕ) → t ≡ lengthBytes w n ++ s → n < past w → Was (blockWrite w) (mayStand told w) t (blockOf told w left (counted n s))
 unfolding blockOf
 block-at told w left n s t e hi = rw e (block-counted told w left n s (tooWide told w n) refl hi)
 
-block-out : (told : Told) (w : Width) (left : ℕ) (s : List ℕ) → T (areBytes s) → Was (blockWrite w) (blockOk w) s (takeBlock told w left s)
+block-out : (told : Told) (w : Width) (left : ℕ) (s : List ℕ) → T (areBytes s) → Was (blockWrite w) (mayStand told w) s (takeBlock told w left s)
 unfolding takeBlock highFirst blockOf
 block-out told oneByte left [] t = tt
 block-out told oneByte left (a ∷ s) t =
@@ -232,8 +230,18 @@ block-out told fourBytes left (a ∷ (b ∷ (c ∷ (d ∷ s)))) t =
     let e₃ : n % 256 ≡ d = omega arith in
     block-at told fourBytes left n s (a ∷ (b ∷ (c ∷ (d ∷ s)))) (cc) (omega arith)
 
-pub value-out : (told : Told) (f : Form) (left c : ℕ) (s : List ℕ) → T (areBytes s) → Was (writeValue f) (valid f c) s (takeValue told f left c s)
-unfolding takeValue writeValue valid
+-- bytes that a reading takes as a value of this form: the writer's, and for a tolerant reading blocks in a wider form
+unfoldable pub allowed : Told → Form → ℕ → List ℕ → Bool
+allowed told (text rule) code v = valid (text rule) code v
+allowed told (date reach designated) code v = valid (date reach designated) code v
+allowed told number code v = valid number code v
+allowed told (block w) code v = mayStand told w v
+allowed told itself code v = valid itself code v
+allowed told opens code v = valid opens code v
+allowed told quiet code v = valid quiet code v
+
+pub value-out : (told : Told) (f : Form) (left c : ℕ) (s : List ℕ) → T (areBytes s) → Was (writeValue f) (allowed told f c) s (takeValue told f left c s)
+unfolding takeValue writeValue valid allowed
 value-out told (text rule) left c s t = text-out rule s
 value-out told (date reach designated) left c s t = date-out (dateChecks reach designated) [] s
 value-out told number left c s t = number-out 0 true s

@@ -10,12 +10,13 @@ use lib.Seq.{take-append-seam, drop-append-seam}
 use borrow.Author.Tests.{eqb-true}
 use Rattle.meaning.specs.Basics.{pick}
 use Rattle.meaning.specs.Bytes.{lengthBytes}
-use Rattle.meaning.specs.Told.{Edition, Told}
+use Rattle.meaning.specs.Told.{Told}
 use Rattle.meaning.specs.Editions.{State, Form, text, date, number, block, itself, opens, quiet, isQuiet, noCode}
 use Rattle.meaning.specs.Reading.{Seen, seen, reachBack, hasCode, Step, fails, over, next, step, done, onward, run, inside}
 use Rattle.meaning.specs.Headers.{Placed, placed}
 use Rattle.meaning.specs.Writing.{isOnly, valid, writeValue, lead}
 use Rattle.laws.specs.Logic.{areBytes, bytes-behind}
+use Rattle.laws.specs.Values.{allowed}
 use Rattle.laws.specs.Lookups.{isTextForm, uncoded-text}
 use Rattle.laws.specs.Steps.{quiet-seen, loud-seen}
 use Rattle.laws.specs.ReadWritten.{Stepping, Stepped, stepped, rows-inv}
@@ -50,37 +51,37 @@ module _ (k n c : ℕ) (v rest : List ℕ) where
   plainly-shown : (front : List ℕ) → SeenIn ((front ++ v) ++ rest) (seen k n (length rest + length v + 0) v)
   plainly-shown front = (front, rest, append-assoc front v rest, omega arith)
 
-  shown-as : (f : Form) (b : Bool) → (b ≡ true → T (isTextForm f)) → T (valid f c v) → isQuiet f ≡ false → Shown f b
-  unfolding writeValue valid
-  shown-as (text rule) b h ok q =
+  shown-as : (told : Told) (f : Form) (b : Bool) → (b ≡ true → T (isTextForm f)) → T (allowed told f c v) → isQuiet f ≡ false → Shown f b
+  unfolding writeValue valid allowed
+  shown-as told (text rule) b h ok q =
       let front = pick b [] (c ∷ []) in
       (front, 0 ∷ rest, append-assoc front (v ++ (0 ∷ [])) rest ∙ ap (λ (x : List ℕ). front ++ x) (append-assoc v (0 ∷ []) rest), omega arith)
-  shown-as (date reach designated) b h ok q = plainly-shown (pick b [] (c ∷ []))
-  shown-as number b h ok q = plainly-shown (pick b [] (c ∷ []))
-  shown-as (block w) b h ok q =
+  shown-as told (date reach designated) b h ok q = plainly-shown (pick b [] (c ∷ []))
+  shown-as told number b h ok q = plainly-shown (pick b [] (c ∷ []))
+  shown-as told (block w) b h ok q =
       let front = pick b [] (c ∷ []) in let lb = lengthBytes w (length v) in
       (front ++ lb, rest, ap (λ (x : List ℕ). x ++ rest) (sym (append-assoc front lb v)) ∙ append-assoc (front ++ lb) v rest, omega arith)
-  shown-as itself true h ok q = absurd (h refl)
-  shown-as itself false h ok q = let o = only-is c v ok in ([], rest, rw o refl, omega arith)
-  shown-as opens true h ok q = absurd (h refl)
-  shown-as opens false h ok q = nothing v ok
+  shown-as told itself true h ok q = absurd (h refl)
+  shown-as told itself false h ok q = let o = only-is c v ok in ([], rest, rw o refl, omega arith)
+  shown-as told opens true h ok q = absurd (h refl)
+  shown-as told opens false h ok q = nothing v ok
     where
       nothing : (v : List ℕ) → T (Rattle.meaning.specs.Basics.isEmpty v) → SeenIn (c ∷ rest) (seen k n (length rest + length v + 1) v)
       nothing [] ok = ([], c ∷ rest, refl, omega arith)
       nothing (x ∷ v) ok = absurd ok
-  shown-as quiet b h ok q = let z : _≡_ {A = ℕ} 0 1 = cc q in absurd (omega arith)
+  shown-as told quiet b h ok q = let z : _≡_ {A = ℕ} 0 1 = cc q in absurd (omega arith)
 
-step-seen : (e : Edition) (st st₁ : State) (s s₁ : List ℕ) (rs : List Seen) (w : Stepping e st s st₁ rs s₁) (b : Bool) → isQuiet (w .by .form) ≡ b → AllSeen s rs
-step-seen e st st₁ s s₁ rs w true q = subst (AllSeen s) (sym (quiet-seen (w .by .form) (w .by .kind) (st .level) (w .view) s₁ q) ∙ w .rows) tt
-step-seen e st st₁ s s₁ rs w false q =
+step-seen : (told : Told) (st st₁ : State) (s s₁ : List ℕ) (rs : List Seen) (w : Stepping told st s st₁ rs s₁) (b : Bool) → isQuiet (w .by .form) ≡ b → AllSeen s rs
+step-seen told st st₁ s s₁ rs w true q = subst (AllSeen s) (sym (quiet-seen (w .by .form) (w .by .kind) (st .level) (w .view) s₁ q) ∙ w .rows) tt
+step-seen told st st₁ s s₁ rs w false q =
     let m = w .by in
     subst (AllSeen s) (sym (loud-seen (m .form) (m .kind) (st .level) (w .view) s₁ q) ∙ w .rows) (
       subst (λ (x : List ℕ). SeenIn x (seen (m .kind) (st .level) (length s₁ + length (w .view) + reachBack (m .form)) (w .view))) (sym (w .out))
-          (shown-as (m .kind) (st .level) (m .code) (w .view) s₁ (m .form) (hasCode noCode m) (λ h. uncoded-text e (st .room) (w .member) (eqb-true (m .code) noCode h)) (w .ok) q),
+          (shown-as (m .kind) (st .level) (m .code) (w .view) s₁ told (m .form) (hasCode noCode m) (λ h. uncoded-text (told .edition) (st .room) (w .member) (eqb-true (m .code) noCode h)) (w .ok) q),
       tt,
     )
 
-seen-step : (n : ℕ) (told : Told) (st : State) (s : List ℕ) (rows : List Seen) (rest : List ℕ) (x : Step) → T (areBytes s) → Stepped (told .edition) st s x
+seen-step : (n : ℕ) (told : Told) (st : State) (s : List ℕ) (rows : List Seen) (rest : List ℕ) (x : Step) → T (areBytes s) → Stepped told st s x
     → ((st₁ : State) (s₁ : List ℕ) (ts : List Seen) → T (areBytes s₁) → run n told st₁ s₁ ≡ done ts rest → AllSeen s₁ ts) → onward x (run n told) ≡ done rows rest → AllSeen s rows
 seen-step n told st s rows rest (fails refusal left) t w ih q = let z : _≡_ {A = ℕ} 0 1 = cc in absurd (omega arith)
 seen-step n told st s rows rest (over u) t w ih q = let a : _≡_ {A = List Seen} [] rows = cc q in subst (AllSeen s) a tt
@@ -89,7 +90,7 @@ seen-step n told st s rows rest (next st₁ rs s₁) t w ih q =
     let front = lead (w .by) ++ writeValue (w .by .form) (w .view) in
     let u : T (areBytes s₁) = bytes-behind front s₁ (subst (λ (x : List ℕ). T (areBytes x)) (w .out) t) in
     let later : AllSeen s ts = subst (λ (x : List ℕ). AllSeen x ts) (sym (w .out)) (all-seen-behind front s₁ ts (ih st₁ s₁ ts u q₁)) in
-    subst (AllSeen s) (sym q₂) (all-seen-append s rs ts (step-seen (told .edition) st st₁ s s₁ rs w (isQuiet (w .by .form)) refl) later)
+    subst (AllSeen s) (sym q₂) (all-seen-append s rs ts (step-seen told st st₁ s s₁ rs w (isQuiet (w .by .form)) refl) later)
 
 seen-run : (n : ℕ) (told : Told) (rest : List ℕ) (st : State) (s : List ℕ) (rows : List Seen) → T (areBytes s) → run n told st s ≡ done rows rest → AllSeen s rows
 unfolding run

@@ -11,7 +11,8 @@ use lib.ListN.{length, take, drop, length-append, length-drop}
 use lib.Seq.{drop-drop}
 use Rattle.meaning.specs.Basics.{pick}
 use Rattle.meaning.specs.Headers.{Placed, Answer, refused, accepted, read}
-use Rattle.meaning.specs.Memory.{rowWidth, numbersOf, tableOf, roomOf, laidOver, Reply, reply, readReply, readMemory, readAnswer, readRows}
+use Rattle.meaning.specs.Told.{strict}
+use Rattle.meaning.specs.Memory.{rowWidth, numbersOf, tableOf, roomOf, laidOver, Reply, reply, readReply, readMemory, answerBy, rowsBy, readAnswer, readRows}
 use Rattle.meaning.specs.Listing.{inputMost, rowsLent, firstLine, rowLine, rowLines, listingOf, listing}
 use Rattle.laws.specs.Logic.{areBytes}
 use Rattle.laws.specs.Demands.{ViewsHeader, accepted-shape, refused-shape}
@@ -49,8 +50,8 @@ textOf r rows bytes = textAt (r .answer) (r .place) (r .rows) rows bytes 0 0
 
 reply-listed : (edition : ℕ) (input lent : List ℕ) → T (areBytes input) → (a : Answer) → read edition input ≡ a → textOf (readReply (roomOf lent) a) (readMemory lent a) input ≡ listingOf (roomOf lent) a
 unfolding textAt listingOf linesFrom laidOver
-reply-listed edition input lent t (refused refusal place) q = rw (refused-lines refusal 0 lent (refused-shape edition input refusal place q .0)) refl
-reply-listed edition input lent t (accepted place rs) q = fits (leb (length rs) (roomOf lent)) refl (accepted-shape edition input place rs t q .2)
+reply-listed edition input lent t (refused refusal place) q = rw (refused-lines refusal 0 lent (refused-shape strict edition input refusal place q .0)) refl
+reply-listed edition input lent t (accepted place rs) q = fits (leb (length rs) (roomOf lent)) refl (accepted-shape strict edition input place rs t q .2)
   where
     fits : (z : Bool) → leb (length rs) (roomOf lent) ≡ z → ViewsHeader input place rs
         → textOf (reply (pick z 0 14) place (length rs)) (pick z (laidOver lent (tableOf rs)) lent) input ≡ firstLine (reply (pick z 0 14) place (length rs)) ++ pick z (rowLines rs) []
@@ -59,7 +60,7 @@ reply-listed edition input lent t (accepted place rs) q = fits (leb (length rs) 
 
 module _ (edition : ℕ) (input lent : List ℕ) (t : T (areBytes input)) {answer place count : ℕ} {rows : List ℕ} (replies : reply answer place count ≡ readAnswer edition input lent) (lends : rows ≡ readRows edition input lent) where
   pub text-listed : textAt answer place count rows input 0 0 ≡ listingOf (roomOf lent) (read edition input)
-  unfolding readAnswer readRows
+  unfolding answerBy rowsBy
   text-listed = ap (λ (r : Reply). textOf r rows input) replies ∙ ap (λ (x : List ℕ). textOf (readAnswer edition input lent) x input) lends ∙ reply-listed edition input lent t (read edition input) refl
 
   -- "reads at most 65,536 bytes from standard input .., lends 4,096 rows"

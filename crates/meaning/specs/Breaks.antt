@@ -5,10 +5,10 @@ use mathlib.Core.Bool.{Bool, true, false, _&&_}
 use lib.Dec.{eqb}
 use lib.ListN.{length, take}
 use Rattle.meaning.specs.Basics.{pick, every}
-use Rattle.meaning.specs.Headers.{Placed, Answer, refused, accepted, read}
+use Rattle.meaning.specs.Headers.{read}
 use Rattle.meaning.specs.Memory.{tableOf, readReply, write}
 use Rattle.meaning.specs.Writing.{Written, written, unwritten}
-use Rattle.meaning.specs.Cases.{hex, aDate, replyIs, bytesAre, refuses, reads}
+use Rattle.meaning.specs.Cases.{hex, aDate, replyIs, rowsIn, bytesAre, refuses, reads}
 use Rattle.meaning.specs.Accepting.{withParameters}
 
 -- where a text of a kind stands: the edition, what is before it and behind its 00 among the parameters, its row, and whether it is a note
@@ -60,10 +60,6 @@ places =
 -- the text `a`, this byte
 abbrev inputWith : Place → ℕ → List ℕ
 inputWith p b = withParameters (p .before ++ (0x61 ∷ b ∷ 0x00 ∷ p .behind))
-
-abbrev rowsIn : Answer → List Placed
-rowsIn (refused refusal place) = []
-rowsIn (accepted place rs) = rs
 
 abbrev unwrittenAt : ℕ → Written → Bool
 unwrittenAt row (written bytes) = false

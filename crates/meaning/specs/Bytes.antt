@@ -6,7 +6,7 @@ use mathlib.Core.Bool.{Bool, true, false, _&&_, _||_, not}
 use lib.Dec.{eqb, leb, ltb}
 use lib.ListN.{length}
 use Rattle.meaning.specs.Basics.{pick, isEmpty}
-use Rattle.meaning.specs.Told.{Told}
+use Rattle.meaning.specs.Told.{Strictness, strict, tolerant, Told}
 
 -- "either a value with the place after it, or a refusal": the value and the bytes behind it, or the number and how many bytes are left at the fault
 pub data Taken : Type 0 where
@@ -190,9 +190,14 @@ past oneByte = 256
 past twoBytes = 65536
 past fourBytes = 4294967296
 
--- the one name for whether a wide length is refused, by what the reading is told
+-- order 10: "11 isn't given by the tolerant reading"
+abbrev pub shortestOnly : Strictness → Bool
+shortestOnly strict = true
+shortestOnly tolerant = false
+
+-- the one name for whether a wide length is refused, and the one place that looks at the strictness
 unfoldable pub tooWide : Told → Width → ℕ → Bool
-tooWide t w n = ltb n (fewest w)
+tooWide t w n = ltb n (fewest w) && shortestOnly (t .strictness)
 
 abbrev pub lengthBytes : Width → ℕ → List ℕ
 lengthBytes oneByte n = n ∷ []

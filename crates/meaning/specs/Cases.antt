@@ -50,6 +50,11 @@ abbrev pub tableIs : List ℕ → List ℕ → Answer → Bool
 tableIs input table (refused refusal place) = same table []
 tableIs input table (accepted place rs) = same table (tableOf rs) && viewsFrom input rs
 
+-- the rows of an answer
+abbrev pub rowsIn : Answer → List Placed
+rowsIn (refused refusal place) = []
+rowsIn (accepted place rs) = rs
+
 -- an instance's rows, as they stand in memory
 abbrev pub inMemory : List Numbers → List ℕ
 inMemory [] = []

@@ -7,7 +7,7 @@ use lib.ListN.{length, take, drop}
 use Rattle.meaning.specs.Basics.{pick}
 use Rattle.meaning.specs.Bytes.{Count, counted, short, highFirst}
 use Rattle.meaning.specs.Kinds.{extensionOpens, baseOpens}
-use Rattle.meaning.specs.Told.{Label, known, unknown, labelOf, Told, told}
+use Rattle.meaning.specs.Told.{Label, known, unknown, labelOf, Strictness, strict, tolerant, Told, toldBy}
 use Rattle.meaning.specs.Editions.{headRepresentation, receivedBegins, State, state}
 use Rattle.meaning.specs.Reading.{Row, Seen, Out, dry, fault, done, inside}
 
@@ -118,9 +118,17 @@ header (suc n) t at [] = refused 2 at
 header (suc n) t at (b ∷ s) = identified t at s (header n t) (identifierOf b)
 
 -- "1: edition not 1 or 2; before all else, 0"
-abbrev pub labelled : List ℕ → Label → Answer
-labelled input unknown = refused 1 0
-labelled input (known e) = header envelopesMost (told e) 0 input
+abbrev pub labelled : Strictness → List ℕ → Label → Answer
+labelled strictness input unknown = refused 1 0
+labelled strictness input (known e) = header envelopesMost (toldBy strictness e) 0 input
 
-unfoldable pub read : ℕ → List ℕ → Answer
-read edition input = labelled input (labelOf edition)
+unfoldable pub readBy : Strictness → ℕ → List ℕ → Answer
+readBy strictness edition input = labelled strictness input (labelOf edition)
+
+-- document 01's reading is the strict one
+abbrev pub read : ℕ → List ℕ → Answer
+read edition input = readBy strict edition input
+
+-- order 10: "a tolerant reading beside the strict one"
+abbrev pub readTolerant : ℕ → List ℕ → Answer
+readTolerant edition input = readBy tolerant edition input

@@ -18,4 +18,5 @@ pub mod Refusing
 pub mod Coding
 pub mod Days
 pub mod Breaks
+pub mod Widths
 pub mod Bounds

@@ -5,8 +5,8 @@ use mathlib.Core.List.{List, [], _∷_, _++_}
 use lib.Dec.{leb}
 use lib.ListN.{length, take, drop}
 use Rattle.meaning.specs.Basics.{pick}
-use Rattle.meaning.specs.Told.{labelOf}
-use Rattle.meaning.specs.Headers.{Placed, Answer, refused, accepted, read}
+use Rattle.meaning.specs.Told.{Strictness, strict, labelOf}
+use Rattle.meaning.specs.Headers.{Placed, Answer, refused, accepted, readBy}
 use Rattle.meaning.specs.Writing.{Cell, cell, broken, Written, written, unwritten, writtenUnder}
 
 -- "A row is four u32 numbers: kind, level, start, length": how many they are is said here, and in `cellOf` and `cellsOf` below
@@ -72,12 +72,18 @@ abbrev pub readMemory : List ℕ → Answer → List ℕ
 readMemory lent (refused refusal place) = lent
 readMemory lent (accepted place rs) = pick (leb (length rs) (roomOf lent)) (laidOver lent (tableOf rs)) lent
 
--- the reader: edition, input and lent rows to its answer, and to the lent rows after the call
-unfoldable pub readAnswer : ℕ → List ℕ → List ℕ → Reply
-readAnswer edition input lent = readReply (roomOf lent) (read edition input)
+-- the reader, strict or tolerant: edition, input and lent rows to its answer, and to the lent rows after the call
+unfoldable pub answerBy : Strictness → ℕ → List ℕ → List ℕ → Reply
+answerBy strictness edition input lent = readReply (roomOf lent) (readBy strictness edition input)
 
-unfoldable pub readRows : ℕ → List ℕ → List ℕ → List ℕ
-readRows edition input lent = readMemory lent (read edition input)
+unfoldable pub rowsBy : Strictness → ℕ → List ℕ → List ℕ → List ℕ
+rowsBy strictness edition input lent = readMemory lent (readBy strictness edition input)
+
+abbrev pub readAnswer : ℕ → List ℕ → List ℕ → Reply
+readAnswer edition input lent = answerBy strict edition input lent
+
+abbrev pub readRows : ℕ → List ℕ → List ℕ → List ℕ
+readRows edition input lent = rowsBy strict edition input lent
 
 -- "Accepted gives 0, bytes written, rows"
 abbrev pub writeReply : ℕ → Written → Reply

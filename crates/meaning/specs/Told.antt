@@ -13,9 +13,18 @@ pub data Label : Type 0 where
 abbrev pub labelOf : ℕ → Label
 labelOf n = pick (eqb n 1) (known B) (pick (eqb n 2) (known D) unknown)
 
+-- Order 10: document 01 requires the shortest length form of a block; "Add a tolerant reading beside the strict one"
+pub data Strictness : Type 0 where
+  strict tolerant : Strictness
+
 -- what a reading is told
 pub record Told : Type 0 where
   pub edition : Edition
+  pub strictness : Strictness
 
+abbrev pub toldBy : Strictness → Edition → Told
+toldBy strictness e = record { edition = e; strictness = strictness }
+
+-- document 01's reading is told the edition and no more: it is strict
 abbrev pub told : Edition → Told
-told e = record { edition = e }
+told e = toldBy strict e

@@ -8,9 +8,9 @@ use lib.Dec.{leb}
 use lib.ListN.{length, take, drop, length-drop}
 use lib.Seq.{take-all}
 use borrow.Author.Tests.{le-leb, lt-leb}
-use Rattle.meaning.specs.Told.{labelOf}
-use Rattle.meaning.specs.Headers.{Answer, refused, accepted, labelled, read}
-use Rattle.meaning.specs.Memory.{reply, roomOf, readAnswer, readRows}
+use Rattle.meaning.specs.Told.{labelOf, Strictness, strict}
+use Rattle.meaning.specs.Headers.{Answer, refused, accepted, labelled, readBy, read}
+use Rattle.meaning.specs.Memory.{reply, roomOf, answerBy, rowsBy}
 use Rattle.meaning.specs.Payload.{partStart, partEnd, partBytes, payloadStart, payloadEnd, payloadBytes}
 use Rattle.laws.specs.Rows.{putAll, put-all-over}
 use Rattle.laws.specs.Pouring.{filled, stopped}
@@ -20,30 +20,34 @@ use Rattle.table.specs.Reply.{replyOf}
 use Rattle.table.specs.declared.told.Edition.{Edition}
 use Rattle.table.specs.declared.told.Label.{Label}
 use Rattle.table.specs.declared.told.Label.the-variants.{Known, Unknown}
-use Rattle.table.specs.Told.{labelIs, toldOf}
+use Rattle.table.specs.declared.told.Strictness as declared
+use Rattle.table.specs.Told.{labelIs, strictnessOf, toldOf}
 use Rattle.read_rows.specs.declared.Stage.{Stage}
 use Rattle.read_rows.specs.declared.Stage.the-variants.{Go, Refused}
 use Rattle.read_envelopes.specs.Headers.{fillingOf, PlaceFits, HeaderRead}
-use Rattle.reader.specs.Promises.{ReadPromise, PartPromise, PayloadPromise, AcceptedHeader, Surveyed}
+use Rattle.reader.specs.Promises.{ReadsBy, PartPromise, PayloadPromise, AcceptedHeader, Surveyed}
 
 -- One pass
 
-read-labelled : (edition : ℕ) (input : List ℕ) (label : Label) → labelIs label ≡ labelOf edition → read edition input ≡ labelled input (labelIs label)
-unfolding read
-read-labelled edition input label h = ap (labelled input) (sym h)
+read-labelled : (w : Strictness) (edition : ℕ) (input : List ℕ) (label : Label) → labelIs label ≡ labelOf edition → readBy w edition input ≡ labelled w input (labelIs label)
+unfolding readBy
+read-labelled w edition input label h = ap (labelled w input) (sym h)
 
-module _ (edition : ℕ) (input m : List ℕ) (label : Label) (is : labelIs label ≡ labelOf edition) where
-  pub unknown-edition : {left : List ℕ} → label ≡ Unknown → Surveyed edition input m (Refused 1 0) left
+module _ (strictness : declared.Strictness) (edition : ℕ) (input m : List ℕ) (label : Label) (is : labelIs label ≡ labelOf edition) where
+  abbrev w : Strictness
+  w = strictnessOf strictness
+
+  pub unknown-edition : {left : List ℕ} → label ≡ Unknown → Surveyed w edition input m (Refused 1 0) left
   unfolding fillingOf PlaceFits
-  unknown-edition h = record { is = ap (λ (x : Answer). finish x 0 m) (read-labelled edition input label is ∙ ap (λ (x : Label). labelled input (labelIs x)) h); fits = tt }
+  unknown-edition h = record { is = ap (λ (x : Answer). finish x 0 m) (read-labelled w edition input label is ∙ ap (λ (x : Label). labelled w input (labelIs x)) h); fits = tt }
 
-  pub known-edition : {e : Edition} {left : List ℕ} {r : Stage} → label ≡ Known e → HeaderRead (toldOf (record { edition = e })) input m r left → Surveyed edition input m r left
-  known-edition h a = record { is = ap (λ (x : Answer). finish x 0 m) (read-labelled edition input label is ∙ ap (λ (x : Label). labelled input (labelIs x)) h) ∙ a .is; fits = a .fits }
+  pub known-edition : {e : Edition} {left : List ℕ} {r : Stage} → label ≡ Known e → HeaderRead (toldOf (record { edition = e; strictness = strictness })) input m r left → Surveyed w edition input m r left
+  known-edition h a = record { is = ap (λ (x : Answer). finish x 0 m) (read-labelled w edition input label is ∙ ap (λ (x : Label). labelled w input (labelIs x)) h) ∙ a .is; fits = a .fits }
 
 -- What the first pass found
 
-module _ (edition : ℕ) (input m left : List ℕ) where
-  accepted-by : (p n : ℕ) (a : Answer) → read edition input ≡ a → finish a 0 m ≡ filled p n left → p ≤ length input → AcceptedHeader edition input p n
+module _ (w : Strictness) (edition : ℕ) (input m left : List ℕ) where
+  accepted-by : (p n : ℕ) (a : Answer) → readBy w edition input ≡ a → finish a 0 m ≡ filled p n left → p ≤ length input → AcceptedHeader w edition input p n
   accepted-by p n (refused refusal place) h q w = absurd (let z : _≡_ {A = ℕ} 0 1 = cc in omega arith)
   accepted-by p n (accepted place rs) h q w =
       let u : place ≡ p = cc in
@@ -57,39 +61,40 @@ module _ (edition : ℕ) (input m left : List ℕ) where
       rw (u, v) refl
   refused-by refusal p (accepted place rs) q = absurd (let z : _≡_ {A = ℕ} 0 1 = cc in omega arith)
 
-  pub header-counted : {r : Stage} {p n : ℕ} → r ≡ Go p n → Surveyed edition input m r left → AcceptedHeader edition input p n
+  pub header-counted : {r : Stage} {p n : ℕ} → r ≡ Go p n → Surveyed w edition input m r left → AcceptedHeader w edition input p n
   unfolding fillingOf PlaceFits
   header-counted {p = p} {n = n} h a =
       let is = rw h at (a .is) in
       let fits = rw h at (a .fits) in
-      accepted-by p n (read edition input) refl is fits
+      accepted-by p n (readBy w edition input) refl is fits
 
-  header-refused : {r : Stage} {refusal p : ℕ} → r ≡ Refused refusal p → Surveyed edition input m r left → read edition input ≡ refused refusal p
+  header-refused : {r : Stage} {refusal p : ℕ} → r ≡ Refused refusal p → Surveyed w edition input m r left → readBy w edition input ≡ refused refusal p
   unfolding fillingOf
-  header-refused {refusal = refusal} {p = p} h a = let is = rw h at (a .is) in refused-by refusal p (read edition input) is
+  header-refused {refusal = refusal} {p = p} h a = let is = rw h at (a .is) in refused-by refusal p (readBy w edition input) is
 
-  pub refusal-answered : (before : List ℕ) {r : Stage} {refusal p : ℕ} {answer : Reply} → r ≡ Refused refusal p → Surveyed edition input m r left → replyOf answer ≡ reply refusal p 0 → ReadPromise edition input before answer before
-  unfolding readAnswer readRows
+  pub refusal-answered : (before : List ℕ) {r : Stage} {refusal p : ℕ} {answer : Reply} → r ≡ Refused refusal p → Surveyed w edition input m r left → replyOf answer ≡ reply refusal p 0 → ReadsBy w edition input before answer before
+  unfolding answerBy rowsBy
   refusal-answered before h a s = let q = header-refused h a in record { answers = s ∙ rw q refl; rows = rw q refl }
 
-  -- where the payload lies
-  pub no-part : {r : Stage} {refusal p : ℕ} → r ≡ Refused refusal p → Surveyed edition input m r left → PartPromise edition input (record { start = 0; end = 0 })
+-- where the payload lies, by the strict reading
+module _ (edition : ℕ) (input m left : List ℕ) where
+  pub no-part : {r : Stage} {refusal p : ℕ} → r ≡ Refused refusal p → Surveyed strict edition input m r left → PartPromise edition input (record { start = 0; end = 0 })
   unfolding payloadStart payloadEnd
-  no-part h a = let q = header-refused h a in record { starts = rw q refl; ends = rw q refl; forward = omega arith; inside = omega arith }
+  no-part h a = let q = header-refused strict edition input m left h a in record { starts = rw q refl; ends = rw q refl; forward = omega arith; inside = omega arith }
 
-  pub the-part : {r : Stage} {p n : ℕ} → r ≡ Go p n → Surveyed edition input m r left → PartPromise edition input (record { start = p; end = length input })
+  pub the-part : {r : Stage} {p n : ℕ} → r ≡ Go p n → Surveyed strict edition input m r left → PartPromise edition input (record { start = p; end = length input })
   unfolding payloadStart payloadEnd
   the-part h a =
-      let c = header-counted h a in
+      let c = header-counted strict edition input m left h a in
       let q = c .is in
       record { starts = rw q refl; ends = rw q refl; forward = c .within; inside = omega arith }
 
 -- The second pass, and what is promised
 
-module _ (edition : ℕ) (input m : List ℕ) (place n : ℕ) (a : AcceptedHeader edition input place n) where
+module _ (w : Strictness) (edition : ℕ) (input m : List ℕ) (place n : ℕ) (a : AcceptedHeader w edition input place n) where
   -- "14: all well, but rows exceed the room"
-  pub too-many : roomOf m < n → ReadPromise edition input m (record { answer = 14; place = place; rows = n }) m
-  unfolding readAnswer readRows
+  pub too-many : roomOf m < n → ReadsBy w edition input m (record { answer = 14; place = place; rows = n }) m
+  unfolding answerBy rowsBy
   too-many h =
       let c = a .count in
       let q : leb (length (a .rows)) (roomOf m) ≡ false = lt-leb (length (a .rows)) (roomOf m) (omega arith) in
@@ -100,8 +105,8 @@ module _ (edition : ℕ) (input m : List ℕ) (place n : ℕ) (a : AcceptedHeade
   filled-by left (Go p k) q = cc
   filled-by left (Refused refusal p) q = absurd (let z : _≡_ {A = ℕ} 0 1 = cc in omega arith)
 
-  pub all-filled : (left : List ℕ) (r : Stage) → n ≤ roomOf m → Surveyed edition input m r left → ReadPromise edition input m (record { answer = 0; place = place; rows = n }) left
-  unfolding readAnswer readRows
+  pub all-filled : (left : List ℕ) (r : Stage) → n ≤ roomOf m → Surveyed w edition input m r left → ReadsBy w edition input m (record { answer = 0; place = place; rows = n }) left
+  unfolding answerBy rowsBy
   all-filled left r h f =
       let c = a .count in
       let q : leb (length (a .rows)) (roomOf m) ≡ true = le-leb (length (a .rows)) (roomOf m) (omega arith) in
@@ -109,9 +114,9 @@ module _ (edition : ℕ) (input m : List ℕ) (place n : ℕ) (a : AcceptedHeade
       record { answers = rw (a .is, q, c) refl; rows = rw (a .is, q) (sym kept ∙ put-all-over (a .rows) m (omega arith)) }
 
 -- lent no rows, the first pass leaves them as they are
-pub nothing-lent : (edition : ℕ) (input m : List ℕ) (none : List ℕ) (r : Reply) (left : List ℕ) → length none ≡ 0 → ReadPromise edition input (none ++ m) r left → ReadPromise edition input m r left
-nothing-lent edition input m [] r left h a = a
-nothing-lent edition input m (x ∷ none) r left h a = absurd (omega arith)
+pub nothing-lent : (w : Strictness) (edition : ℕ) (input m : List ℕ) (none : List ℕ) (r : Reply) (left : List ℕ) → length none ≡ 0 → ReadsBy w edition input (none ++ m) r left → ReadsBy w edition input m r left
+nothing-lent w edition input m [] r left h a = a
+nothing-lent w edition input m (x ∷ none) r left h a = absurd (omega arith)
 
 -- The payload
 

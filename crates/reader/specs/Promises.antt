@@ -3,8 +3,9 @@ use Prim.Native.Nat.{ℕ, _-_, _≤_}
 use mathlib.Core.List.{List}
 use mathlib.Core.Path.{_≡_}
 use lib.ListN.{length, take, drop}
-use Rattle.meaning.specs.Headers.{Placed, accepted, read}
-use Rattle.meaning.specs.Memory.{readAnswer, readRows}
+use Rattle.meaning.specs.Told.{Strictness, strict, tolerant}
+use Rattle.meaning.specs.Headers.{Placed, accepted, readBy}
+use Rattle.meaning.specs.Memory.{answerBy, rowsBy}
 use Rattle.meaning.specs.Payload.{payloadStart, payloadEnd, payloadBytes}
 use Rattle.laws.specs.Finishing.{finish}
 use Rattle.table.specs.declared.reply.Reply.{Reply}
@@ -13,9 +14,17 @@ use Rattle.read_rows.specs.declared.Stage.{Stage}
 use Rattle.read_envelopes.specs.Headers.{fillingOf, PlaceFits}
 use Rattle.reader.specs.declared.Part.{Part}
 
-pub record ReadPromise (edition : ℕ) (input before : List ℕ) (answer : Reply) (after : List ℕ) : Type 0 where
-  pub answers : replyOf answer ≡ readAnswer edition input before
-  pub rows : after ≡ readRows edition input before
+pub record ReadsBy (strictness : Strictness) (edition : ℕ) (input before : List ℕ) (answer : Reply) (after : List ℕ) : Type 0 where
+  pub answers : replyOf answer ≡ answerBy strictness edition input before
+  pub rows : after ≡ rowsBy strictness edition input before
+
+-- document 01's reading
+abbrev pub ReadPromise : ℕ → List ℕ → List ℕ → Reply → List ℕ → Type 0
+ReadPromise edition input before answer after = ReadsBy strict edition input before answer after
+
+-- order 10: the tolerant reading
+abbrev pub TolerantPromise : ℕ → List ℕ → List ℕ → Reply → List ℕ → Type 0
+TolerantPromise edition input before answer after = ReadsBy tolerant edition input before answer after
 
 -- where the payload lies
 pub record PartPromise (edition : ℕ) (input : List ℕ) (part : Part) : Type 0 where
@@ -30,13 +39,13 @@ pub record PayloadPromise (edition : ℕ) (input part : List ℕ) : Type 0 where
   pub is-part : part ≡ take (payloadEnd edition input - payloadStart edition input) (drop (payloadStart edition input) input)
 
 -- what one pass over the header comes to, with the rows in lent memory
-pub record Surveyed (edition : ℕ) (input before : List ℕ) (r : Stage) (after : List ℕ) : Type 0 where
-  pub is : finish (read edition input) 0 before ≡ fillingOf after r
+pub record Surveyed (strictness : Strictness) (edition : ℕ) (input before : List ℕ) (r : Stage) (after : List ℕ) : Type 0 where
+  pub is : finish (readBy strictness edition input) 0 before ≡ fillingOf after r
   pub fits : PlaceFits input r
 
 -- what the first pass found: the header is accepted, with n rows
-pub record AcceptedHeader (edition : ℕ) (input : List ℕ) (place n : ℕ) : Type 0 where
+pub record AcceptedHeader (strictness : Strictness) (edition : ℕ) (input : List ℕ) (place n : ℕ) : Type 0 where
   pub rows : List Placed
-  pub is : read edition input ≡ accepted place rows
+  pub is : readBy strictness edition input ≡ accepted place rows
   pub count : length rows ≡ n
   pub within : place ≤ length input

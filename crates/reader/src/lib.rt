@@ -7,9 +7,11 @@ use table::reply::Reply;
 use table::reply::refused;
 use table::rows::room;
 use table::told::Label;
+use table::told::Strictness;
 use table::told::Told;
 use table::told::label_of;
-ghost use Rattle.reader.specs.Promises.{ReadPromise, PartPromise, PayloadPromise, AcceptedHeader, Surveyed};
+ghost use Rattle.table.specs.Told.{strictnessOf};
+ghost use Rattle.reader.specs.Promises.{ReadsBy, ReadPromise, TolerantPromise, PartPromise, PayloadPromise, AcceptedHeader, Surveyed};
 
 // A part of the input: its first place, and the place behind its last byte.
 #[repr(C)]
@@ -20,21 +22,34 @@ pub struct Part {
 
 // Takes an edition's number and the input. Fills `rows` with the rows of the header at the input's front, and answers 0, the place
 // behind the header and the count of rows. A refusal is answered by number and place, and changes no row.
-// Two passes of the same functions: the first, over no rows, validates and counts; the second fills.
 pub fn read(edition: u32, input: &[u8], rows: &mut [u32]) -> Reply
     ensures { λ r. ⌜ ReadPromise edition (now (input .entry)) (now (rows .entry)) r (now (rows .exit)) ⌝ }
 {
-    let counted = survey(edition, input, &mut rows[..0]);
+    read_by(edition, Strictness::Strict, input, rows)
+}
+
+// The same, tolerantly: a block's length may stand in a wider form than it needs, and 11 is never the answer.
+pub fn read_tolerant(edition: u32, input: &[u8], rows: &mut [u32]) -> Reply
+    ensures { λ r. ⌜ TolerantPromise edition (now (input .entry)) (now (rows .entry)) r (now (rows .exit)) ⌝ }
+{
+    read_by(edition, Strictness::Tolerant, input, rows)
+}
+
+// Either of the two. Two passes of the same functions: the first, over no rows, validates and counts; the second fills.
+fn read_by(edition: u32, strictness: Strictness, input: &[u8], rows: &mut [u32]) -> Reply
+    ensures { λ r. ⌜ ReadsBy (strictnessOf strictness) edition (now (input .entry)) (now (rows .entry)) r (now (rows .exit)) ⌝ }
+{
+    let counted = survey(edition, strictness, input, &mut rows[..0]);
     match counted {
         Stage::Refused { refusal, at } => refused(refusal, at),
-        Stage::Go(at, n) => fill(edition, input, rows, at, n),
+        Stage::Go(at, n) => fill(edition, strictness, input, rows, at, n),
     }
 }
 
 // One pass over the header. Answers the place behind it and how many rows it has, or the refusal: "1: edition not 1 or 2; before all else, 0."
 // The rows are put where `rows` has room for them: over no rows they are counted, over enough they are filled.
-fn survey(edition: u32, input: &[u8], rows: &mut [u32]) -> Stage
-    ensures { λ r. ⌜ Surveyed edition (now (input .entry)) (now (rows .entry)) r (now (rows .exit)) ⌝ }
+fn survey(edition: u32, strictness: Strictness, input: &[u8], rows: &mut [u32]) -> Stage
+    ensures { λ r. ⌜ Surveyed (strictnessOf strictness) edition (now (input .entry)) (now (rows .entry)) r (now (rows .exit)) ⌝ }
 {
     let label = label_of(edition);
     let Label::Known(known) = label else {
@@ -43,14 +58,24 @@ fn survey(edition: u32, input: &[u8], rows: &mut [u32]) -> Stage
             at: 0,
         };
     };
-    let told = Told { edition: known };
+    let told = Told {
+        edition: known,
+        strictness: strictness,
+    };
     read_header(input, rows, told)
 }
 
 // The second pass, over a header that is accepted and has n rows. "14: all well, but rows exceed the room": then no row changes.
-fn fill(edition: u32, input: &[u8], rows: &mut [u32], place: usize, n: usize) -> Reply
-    requires { ⌜ AcceptedHeader edition (now input) place n ⌝ }
-    ensures { λ r. ⌜ ReadPromise edition (now (input .entry)) (now (rows .entry)) r (now (rows .exit)) ⌝ }
+fn fill(
+    edition: u32,
+    strictness: Strictness,
+    input: &[u8],
+    rows: &mut [u32],
+    place: usize,
+    n: usize,
+) -> Reply
+    requires { ⌜ AcceptedHeader (strictnessOf strictness) edition (now input) place n ⌝ }
+    ensures { λ r. ⌜ ReadsBy (strictnessOf strictness) edition (now (input .entry)) (now (rows .entry)) r (now (rows .exit)) ⌝ }
 {
     if room(rows.len()) < n {
         return Reply {
@@ -59,7 +84,7 @@ fn fill(edition: u32, input: &[u8], rows: &mut [u32], place: usize, n: usize) ->
             rows: n,
         };
     }
-    survey(edition, input, rows);
+    survey(edition, strictness, input, rows);
     Reply {
         answer: 0,
         place: place,
@@ -73,7 +98,7 @@ pub fn payload_part(edition: u32, input: &[u8]) -> Part
     ensures { λ r. ⌜ PartPromise edition (now (input .entry)) r ⌝ }
 {
     let mut none = [0u32; 1];
-    let r = survey(edition, input, &mut none[..0]);
+    let r = survey(edition, Strictness::Strict, input, &mut none[..0]);
     let Stage::Go(first, _) = r else {
         return Part { start: 0, end: 0 };
     };

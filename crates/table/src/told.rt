@@ -8,9 +8,16 @@ pub enum Edition {
     D,
 }
 
+// Order 10: whether the shortest length form of a block is required, or any will do.
+pub enum Strictness {
+    Strict,
+    Tolerant,
+}
+
 // What a reading is told.
 pub struct Told {
     pub edition: Edition,
+    pub strictness: Strictness,
 }
 
 // What an edition's number says.

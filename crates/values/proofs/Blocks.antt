@@ -1,15 +1,15 @@
 -- Bytes behind their length: the length byte by byte, and the block all at once.
 use Prim.Native.Nat.{ℕ, zero, suc, _+_, _-_, _*_, _≤_, _<_}
 use mathlib.Core.List.{List}
-use mathlib.Core.Bool.{Bool, true, false}
+use mathlib.Core.Bool.{Bool, true, false, _&&_}
 use mathlib.Core.Path.{_≡_, refl, ap, sym, _∙_}
 use native.Mathlib.Numerals.{add-one}
 use native.Mathlib.Omega.{arith}
 use borrow.Author.Tests.{ltb-true, ltb-false, le-ltb}
 use lib.Dec.{ltb}
 use lib.ListN.{length, getD}
-use Rattle.meaning.specs.Bytes.{Count, counted, short, highFirst, Width, oneByte, twoBytes, fourBytes, bytesOf, tooWide, takeBytes, blockOf, takeBlock}
-use Rattle.meaning.specs.Told.{Told}
+use Rattle.meaning.specs.Bytes.{Count, counted, short, highFirst, Width, oneByte, twoBytes, fourBytes, bytesOf, fewest, tooWide, takeBytes, blockOf, takeBlock}
+use Rattle.meaning.specs.Told.{strict, tolerant, Told}
 use Rattle.meaning.specs.Kinds.{anyBytes}
 use Rattle.laws.specs.From.{from, from-length, from-end, from-cons}
 use Rattle.laws.specs.HighFirst.{high-few, high-one, high-two, high-four}
@@ -100,21 +100,35 @@ module _ (s : List ℕ) (end at width : ℕ) (l : end ≤ length s) (b : at < en
         answered (rw (length-is, h, sym is ∙ q) (take-all s end l value after 0 (omega arith) ∙ ap (λ (x : ℕ). spans x (from s (after + value) end)) (omega arith)))
         (omega arith) (omega arith) (omega arith) (omega arith)
 
--- what each width refuses
-pub one-never : (t : Told) (w : Width) (width n : ℕ) → width ≡ 1 → bytesOf w ≡ width → false ≡ tooWide t w n
-unfolding tooWide
-one-never t oneByte width n h q = sym (le-ltb n 0 (omega arith))
-one-never t twoBytes width n h q = absurd (omega arith)
-one-never t fourBytes width n h q = absurd (omega arith)
+-- the fewest of each width
+pub one-never : (w : Width) (width n : ℕ) → width ≡ 1 → bytesOf w ≡ width → false ≡ ltb n (fewest w)
+one-never oneByte width n h q = sym (le-ltb n 0 (omega arith))
+one-never twoBytes width n h q = absurd (omega arith)
+one-never fourBytes width n h q = absurd (omega arith)
 
-pub two-below : (t : Told) (w : Width) (width n : ℕ) → width ≡ 2 → bytesOf w ≡ width → ltb n 256 ≡ tooWide t w n
-unfolding tooWide
-two-below t oneByte width n h q = absurd (omega arith)
-two-below t twoBytes width n h q = refl
-two-below t fourBytes width n h q = absurd (omega arith)
+pub two-below : (w : Width) (width n : ℕ) → width ≡ 2 → bytesOf w ≡ width → ltb n 256 ≡ ltb n (fewest w)
+two-below oneByte width n h q = absurd (omega arith)
+two-below twoBytes width n h q = refl
+two-below fourBytes width n h q = absurd (omega arith)
 
-pub four-below : (t : Told) (w : Width) (width n : ℕ) → (width ≡ 1 → ⊥) → (width ≡ 2 → ⊥) → bytesOf w ≡ width → ltb n 65536 ≡ tooWide t w n
+pub four-below : (w : Width) (width n : ℕ) → (width ≡ 1 → ⊥) → (width ≡ 2 → ⊥) → bytesOf w ≡ width → ltb n 65536 ≡ ltb n (fewest w)
+four-below oneByte width n h k q = absurd (h (sym q))
+four-below twoBytes width n h k q = absurd (k (sym q))
+four-below fourBytes width n h k q = refl
+
+-- what each reading refuses
+pub wide-strictly : (t : Told) (w : Width) (n : ℕ) {r : Bool} → t .strictness ≡ strict → r ≡ ltb n (fewest w) → r ≡ tooWide t w n
 unfolding tooWide
-four-below t oneByte width n h k q = absurd (h (sym q))
-four-below t twoBytes width n h k q = absurd (k (sym q))
-four-below t fourBytes width n h k q = refl
+wide-strictly t w n h q = q ∙ sym (rw h (with-true (ltb n (fewest w))))
+  where
+    with-true : (b : Bool) → (b && true) ≡ b
+    with-true true = refl
+    with-true false = refl
+
+pub wide-tolerantly : (t : Told) (w : Width) (n : ℕ) → t .strictness ≡ tolerant → false ≡ tooWide t w n
+unfolding tooWide
+wide-tolerantly t w n h = sym (rw h (with-false (ltb n (fewest w))))
+  where
+    with-false : (b : Bool) → (b && false) ≡ false
+    with-false true = refl
+    with-false false = refl

@@ -10,10 +10,12 @@ use table::kinds::ANY_TEXT;
 use table::refusals::CODE_WRONG;
 use table::refusals::ENVELOPE_ENDS;
 use table::refusals::LENGTH_FORM_WIDE;
+use table::told::Strictness;
 use table::told::Told;
 ghost use mathlib.Core.Path.{_≡_};
 ghost use Prim.Native.Nat.{_+_, _-_, _≤_, _<_};
-ghost use Rattle.meaning.specs.Bytes.{Width, bytesOf, tooWide, takeBlock};
+ghost use lib.Dec.{ltb};
+ghost use Rattle.meaning.specs.Bytes.{Width, bytesOf, fewest, tooWide, takeBlock};
 ghost use Rattle.meaning.specs.Kinds.{anyBytes};
 ghost use Rattle.meaning.specs.Editions.{anyValues};
 ghost use Rattle.laws.specs.From.{from};
@@ -86,9 +88,20 @@ fn block(s: &[u8], end: usize, at: usize, width: usize, told: Told) -> Value
     }
 }
 
-// "The shortest length form is required": whether a length of n stands in too wide a form.
+// Whether a length of n stands in a form that the reading refuses.
 fn too_wide(width: usize, n: usize, told: Told) -> bool
     ensures { λ r. ⌜ ((w : Width) → bytesOf w ≡ width → r ≡ tooWide (toldOf told) w n) ⌝ }
+{
+    let strictness = told.strictness;
+    match strictness {
+        Strictness::Tolerant => false,
+        Strictness::Strict => wider_than_needed(width, n),
+    }
+}
+
+// "The shortest length form is required": whether fewer bytes would hold a length of n.
+fn wider_than_needed(width: usize, n: usize) -> bool
+    ensures { λ r. ⌜ ((w : Width) → bytesOf w ≡ width → r ≡ ltb n (fewest w)) ⌝ }
 {
     match width {
         1 => false,

@@ -16,7 +16,7 @@ enum-told c = search needs
 returns : tie.Need-returns
 returns c =
     let a = c .before .before .before .before .before .args in
-    unknown-edition (a .edition) (a .input .now) (a .rows .now) (c .before .before .label-of .result) (c .before .before .label-of .ensures) (c .enum-told .given .1)
+    unknown-edition (a .strictness) (a .edition) (a .input .now) (a .rows .now) (c .before .before .label-of .result) (c .before .before .label-of .ensures) (c .enum-told .given .1)
 
 read-header-requires : tie.Need-read-header-requires
 read-header-requires c κs = search needs
@@ -28,7 +28,7 @@ returns-2 : tie.Need-returns-2
 returns-2 c =
     let a = c .before .before .before .before .before .before .before .before .before .before .args in
     let label = c .before .before .before .before .before .before .before .label-of in
-    known-edition (a .edition) (a .input .now) (a .rows .now) (label .result) (label .ensures) (c .before .before .before .before .before .label .given .1) (c .before .before .read-header .ensures)
+    known-edition (a .strictness) (a .edition) (a .input .now) (a .rows .now) (label .result) (label .ensures) (c .before .before .before .before .before .label .given .1) (c .before .before .read-header .ensures)
 
 pub survey-spec : {M : Type 1} → statement M
 survey-spec =

@@ -1,16 +1,25 @@
--- `any::too_wide`: each width against its fewest.
-use Rattle.values.proofs.Blocks.{one-never, two-below, four-below}
+-- `any::too_wide`: a tolerant reading refuses no width, a strict one what is wider than needed.
+use borrow.Author.Needs.{needs}
+use mathlib.Core.Path.{ap}
+use Rattle.table.specs.Told.{strictnessOf}
+use Rattle.values.proofs.Blocks.{wide-strictly, wide-tolerantly}
 use Rattle.values.proofs.any.too_wide.Statement.{statement}
 use Rattle.values.proofs.any.too_wide.Tie as tie
 
+enum-told : tie.Need-enum-told
+enum-told c = search needs
+
+enum-told-2 : tie.Need-enum-told-2
+enum-told-2 c = search needs
+
+wider-than-needed-requires : tie.Need-wider-than-needed-requires
+wider-than-needed-requires c κs = search needs
+
 returns : tie.Need-returns
-returns c w q = one-never _ w (c .before .args .width) (c .before .args .n) (c .match .keys1) q
+returns c w q = wide-tolerantly _ w _ (ap strictnessOf (c .enum-told .given .1))
 
 returns-2 : tie.Need-returns-2
-returns-2 c w q = two-below _ w (c .before .args .width) (c .before .args .n) (c .match .keys2) q
-
-returns-3 : tie.Need-returns-3
-returns-3 c w q = four-below _ w (c .before .args .width) (c .before .args .n) (c .match .rest .0 .1) (c .match .rest .1) q
+returns-2 c w q = wide-strictly _ w _ (ap strictnessOf (c .before .enum-told2 .given .1)) (c .wider-than-needed .ensures w q)
 
 pub too-wide-spec : {M : Type 1} → statement M
-too-wide-spec = tie.close (tie.spec returns returns-2 returns-3)
+too-wide-spec = tie.close (tie.spec enum-told enum-told-2 wider-than-needed-requires returns returns-2)
