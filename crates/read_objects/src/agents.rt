@@ -145,7 +145,7 @@ fn name_and_addresses(
     texts::texts(s, end, first, rows, opened, ADDRESS, level)
 }
 
-// An agent's extras and its 01.
+// An agent's extras, most often none, and its 01.
 fn behind_resolvers(
     s: &[u8],
     end: usize,
@@ -159,6 +159,10 @@ fn behind_resolvers(
     ensures { λ r. ⌜ ((single : Bool) →
         StateRead (toldOf told) (now (s .entry)) end (state afterResolvers level single) at n (now (rows .entry)) r (go agentEnds (state afterResolvers level single)) (now (rows .exit))) ⌝ }
 {
+    if peek(s, end, at) == CLOSING {
+        let behind = at + 1;
+        return Stage::Go(behind, n);
+    }
     let edition = told.edition;
     let code = agent_extra(edition);
     texts::extras(s, end, at, rows, n, code, level, told)

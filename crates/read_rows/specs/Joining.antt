@@ -1,5 +1,5 @@
 -- How the stages' answers are put together: a refusal goes up, reading goes on from where a stage went to, an equation stands before or behind it.
-use Prim.Native.Nat.{ℕ, _≤_}
+use Prim.Native.Nat.{ℕ, _+_, _≤_, _<_}
 use mathlib.Core.List.{List}
 use mathlib.Core.Bool.{Bool, true, false}
 use mathlib.Core.Path.{_≡_, ap, _∙_}
@@ -9,7 +9,8 @@ use Rattle.meaning.specs.Basics.{pick}
 use Rattle.meaning.specs.Editions.{State, moves}
 use Rattle.meaning.specs.Reading.{look, none, isClosed, strange}
 use Rattle.laws.specs.Pouring.{Filling, stopped, Source, runAt, Ready, Peeked}
-use Rattle.laws.specs.ReadAt.{foreign}
+use Rattle.laws.specs.ReadAt.{foreign, passed-at}
+use Rattle.laws.specs.Shapes.{Extras}
 use Rattle.table.specs.Rows.{u32Most}
 use Rattle.values.specs.Stages.{Inside}
 use Rattle.read_rows.specs.declared.Stage.{Stage}
@@ -59,6 +60,13 @@ module _ {s : List ℕ} {end at n : ℕ} (h : Ready s end at n) where
 
   pub row-fits : (n ≤ u32Most) × (at ≤ u32Most) × (0 ≤ u32Most)
   row-fits = (omega (arith, h .small, h .before, h .few), omega (arith, h .small, h .before), omega arith)
+
+-- the 01 where an extra could stand
+pub no-extras : (i : Source) (at n : ℕ) (m : List ℕ) (b : ℕ) → Peeked (i .bytes) (i .end) at b → b ≡ 1 → n ≤ at → {q any d : State} {code level : ℕ} → Extras (i .told) q any d code level
+    → Ran i at (runAt i q at n m) (Go (at + 1) n) d m
+no-extras i at n m b a h few {q} e =
+    let k : at < i .end = a .inside (omega arith) in
+    arrives (e .leads) (going (passed-at i at n m b a 1 h (omega arith) q (e .out) (e .stop)) (omega arith) (omega arith) (omega arith))
 
 -- a byte that the room does not take
 pub foreign-byte : (i : Source) (at n : ℕ) (m : List ℕ) (b : ℕ) → Peeked (i .bytes) (i .end) at b → {least : ℕ} (q : State) {d : State} {k : List ℕ} {r : Stage} → r ≡ faultOf b at
