@@ -20,11 +20,11 @@ use Rattle.read_rows.specs.Stages.{after, Moved, Ran, faultOf}
 less-moved : (end least lower : ℕ) (r : Stage) → lower ≤ least → Moved least end r → Moved lower end r
 unfolding Moved
 less-moved end least lower (Go p n) h a = (omega arith, a .1, a .2)
-less-moved end least lower (Refused refusal p) h a = tt
+less-moved end least lower (Refused p refusal) h a = tt
 
 module _ {i : Source} where
   -- a refusal is handed up, whatever the state and the memory
-  pub handed : {least lower : ℕ} {o : Filling} {q d : State} {m k : List ℕ} {r : Stage} {refusal p : ℕ} → r ≡ Refused refusal p → Ran i least o r q m → Ran i lower o r d k
+  pub handed : {least lower : ℕ} {o : Filling} {q d : State} {m k : List ℕ} {r : Stage} {refusal p : ℕ} → r ≡ Refused p refusal → Ran i least o r q m → Ran i lower o r d k
   unfolding after Moved
   handed h a = record { goes = a .goes ∙ rw h; moved = rw h tt }
 
@@ -50,7 +50,7 @@ module _ {i : Source} where
   unfolding after Moved
   going h a b c = record { goes = h; moved = (a, b, c) }
 
-  pub refusing : {least : ℕ} {o : Filling} {q : State} {m : List ℕ} {refusal p : ℕ} → o ≡ stopped refusal p → Ran i least o (Refused refusal p) q m
+  pub refusing : {least : ℕ} {o : Filling} {q : State} {m : List ℕ} {refusal p : ℕ} → o ≡ stopped refusal p → Ran i least o (Refused p refusal) q m
   unfolding after Moved
   refusing h = record { goes = h; moved = tt }
 
@@ -73,6 +73,6 @@ pub foreign-byte : (i : Source) (at n : ℕ) (m : List ℕ) (b : ℕ) → Peeked
     → look b (moves (i .told .edition) (q .room)) ≡ none → isClosed (q .room) ≡ false → strange (q .room) ≡ 7 → Ran i least (runAt i q at n m) r d k
 foreign-byte i at n m b a {least} q {d} {k} h y c o = rw h (by (ltb b 256) (foreign i at n m b a q y c ∙ ap (λ (x : ℕ). pick (ltb b 256) (stopped x at) (stopped 6 at)) o))
   where
-    by : (z : Bool) → runAt i q at n m ≡ pick z (stopped 7 at) (stopped 6 at) → Ran i least (runAt i q at n m) (pick z (Refused 7 at) (Refused 6 at)) d k
+    by : (z : Bool) → runAt i q at n m ≡ pick z (stopped 7 at) (stopped 6 at) → Ran i least (runAt i q at n m) (pick z (Refused at 7) (Refused at 6)) d k
     by true e = refusing e
     by false e = refusing e
