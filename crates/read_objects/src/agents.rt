@@ -3,6 +3,7 @@
 use read_rows::Stage;
 use read_rows::look::CLOSING;
 use read_rows::look::fault;
+use read_rows::look::in_parts;
 use read_rows::look::peek;
 use read_rows::rows;
 use read_rows::texts;
@@ -165,5 +166,5 @@ fn behind_resolvers(
     }
     let edition = told.edition;
     let code = agent_extra(edition);
-    texts::extras(s, end, at, rows, n, code, level, told)
+    in_parts(texts::extras(s, end, at, rows, n, code, level, told))
 }

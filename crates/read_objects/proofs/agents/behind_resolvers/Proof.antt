@@ -30,14 +30,18 @@ extras-requires c κs =
     let entry = c .before .before .before .before .before .before in
     (entry .pre, λ q. agent-code (editionOf (entry .args .told .edition)) (sym (c .before .agent-extra .ensures) ∙ q))
 
+in-parts-requires : tie.Need-in-parts-requires
+in-parts-requires c κs = search needs
+
 same-length : tie.Need-same-length
 same-length c = search needs
 
 returns-2 : tie.Need-returns-2
 returns-2 c single =
-    let level = c .before .before .before .before .before .before .before .before .before .args .level in
-    c .before .before .extras .ensures (state afterResolvers level single) (state agentExtra level single) (go agentEnds (state afterResolvers level single)) (agent-extras _ level single (c .before .before .before .before .agent-extra .ensures))
+    let level = c .before .before .before .before .before .before .before .before .before .before .args .level in
+    rw (c .in-parts .ensures)
+    (c .before .before .before .extras .ensures (state afterResolvers level single) (state agentExtra level single) (go agentEnds (state afterResolvers level single)) (agent-extras _ level single (c .before .before .before .before .before .agent-extra .ensures)))
 
 pub behind-resolvers-spec : {M : Type 1} → statement M
 behind-resolvers-spec =
-    tie.close (tie.spec peek-requires add-behind returns agent-extra-requires extras-requires same-length returns-2)
+    tie.close (tie.spec peek-requires add-behind returns agent-extra-requires extras-requires in-parts-requires same-length returns-2)
