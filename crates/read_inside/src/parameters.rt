@@ -149,7 +149,7 @@ fn open_behaviour(s: &[u8], end: usize, at: usize, rows: &mut [u32], n: usize, t
     put_row(rows, n, BEHAVIOUR_OPENS, 0, at, 0);
     let first = at + 1;
     let opened = n + 1;
-    rows::any(s, end, first, rows, opened, 0, told)
+    rows::behaviour(s, end, first, rows, opened, told)
 }
 
 // "08 encrypted .. (B only)", from the code on; any other code b is refused, and 08 too in D.
