@@ -1,5 +1,6 @@
 /* Run by bench/run at the top of the repository: the archive and the second program on the same headers, in the same memory.
-     bench names                       a line for each input: its number, name, headers, bytes, rows; both programs checked
+     bench names                       a line for each input, and then for each anchor: its number, name, headers, bytes, rows;
+                                       both programs checked
      bench once INPUT PROGRAM CALL     the call once for each header of the input, for whoever counts instructions from outside
      bench time INPUT CALL             nanoseconds of the processor for a header, the archive's and the second program's
    PROGRAM is archive or second, CALL is read or write. Whatever is measured is checked: every call must be accepted, and rows
@@ -15,7 +16,7 @@
 #include <string.h>
 #include <time.h>
 
-enum { EDITION = GAMULISYAN_EDITION_D, ROW = GAMULISYAN_ROW_NUMBERS, MOST_NUMBERS = 1 << 20 };
+enum { EDITION = GAMULISYAN_EDITION_D, ROW = GAMULISYAN_ROW_NUMBERS, MOST_NUMBERS = 1 << 23 };
 
 /* Nanoseconds: of one batch, and of all of them. */
 enum { BATCH = 1000000, LONG_ENOUGH = 2000000000 };
@@ -147,7 +148,7 @@ static void check_both(void)
 
 static void print_names(void)
 {
-    for (unsigned input = 1; input <= INPUTS; input++) {
+    for (unsigned input = 1; input <= INPUTS + ANCHORS; input++) {
         const char *name = build_input(input, &headers);
         check_both();
         printf("%u\t%s\t%zu\t%zu\t%zu\n", input, name, headers.count, headers.places[headers.count], tables.places[headers.count] / ROW);

@@ -11,13 +11,14 @@ typedef uint64_t plugin_id;
 struct translated;
 struct instruction;
 typedef void on_translated(plugin_id, struct translated *);
-typedef void on_executed(unsigned processor, void *place);
+typedef void on_executed(unsigned processor, void *block);
 typedef void on_exit_of(plugin_id, void *);
 
-enum { NO_REGISTERS = 0 };
+enum { NO_REGISTERS = 0, ADD = 0 };
 
 void qemu_plugin_register_vcpu_tb_trans_cb(plugin_id, on_translated *);
-void qemu_plugin_register_vcpu_insn_exec_cb(struct instruction *, on_executed *, int flags, void *place);
+void qemu_plugin_register_vcpu_tb_exec_cb(struct translated *, on_executed *, int flags, void *block);
+void qemu_plugin_register_vcpu_insn_exec_inline(struct instruction *, int operation, void *number, uint64_t operand);
 void qemu_plugin_register_atexit_cb(plugin_id, on_exit_of *, void *);
 size_t qemu_plugin_tb_n_insns(const struct translated *);
 struct instruction *qemu_plugin_tb_get_insn(const struct translated *, size_t);
@@ -28,30 +29,44 @@ int qemu_plugin_version = 1;
 /* A call instruction has at most seven bytes: the return is that close behind it. */
 enum { LONGEST_CALL = 7 };
 
-static uint64_t entry, before, call, counted;
+/* Instructions that run one behind the other. A call and a return each end a block, so an entry and the place behind its call begin one. */
+struct block {
+    uint64_t first;
+    uint64_t last;
+};
+
+/* `executed` counts all instructions; `from` is what it was at the entry. */
+static uint64_t executed, from, entry, before, call, counted;
 static int inside;
 
-static void executed(unsigned processor, void *at)
+static void begins(unsigned processor, void *given)
 {
     (void)processor;
-    uint64_t place = (uint64_t)(uintptr_t)at;
-    if (!inside && place == entry) {
+    const struct block *block = given;
+    if (!inside && block->first == entry) {
         inside = 1;
         call = before;
-    } else if (inside && call < place && place <= call + LONGEST_CALL) {
+        from = executed;
+    } else if (inside && call < block->first && block->first <= call + LONGEST_CALL) {
         inside = 0;
+        counted += executed - from;
     }
-    counted += (uint64_t)inside;
-    before = place;
+    before = block->last;
 }
 
-static void translated(plugin_id id, struct translated *block)
+/* The emulator may run a block until the program ends, so none is given back. */
+static void translated(plugin_id id, struct translated *code)
 {
     (void)id;
-    for (size_t i = 0; i < qemu_plugin_tb_n_insns(block); i++) {
-        struct instruction *one = qemu_plugin_tb_get_insn(block, i);
-        qemu_plugin_register_vcpu_insn_exec_cb(one, executed, NO_REGISTERS, (void *)(uintptr_t)qemu_plugin_insn_vaddr(one));
-    }
+    struct block *block = malloc(sizeof *block);
+    if (block == NULL)
+        abort();
+    size_t instructions = qemu_plugin_tb_n_insns(code);
+    block->first = qemu_plugin_insn_vaddr(qemu_plugin_tb_get_insn(code, 0));
+    block->last = qemu_plugin_insn_vaddr(qemu_plugin_tb_get_insn(code, instructions - 1));
+    qemu_plugin_register_vcpu_tb_exec_cb(code, begins, NO_REGISTERS, block);
+    for (size_t i = 0; i < instructions; i++)
+        qemu_plugin_register_vcpu_insn_exec_inline(qemu_plugin_tb_get_insn(code, i), ADD, &executed, 1);
 }
 
 static void ended(plugin_id id, void *unused)

@@ -16,7 +16,7 @@ static size_t length_of(const struct headers *headers)
     return headers->places[headers->count + 1];
 }
 
-static void put(struct headers *headers, unsigned byte)
+void put(struct headers *headers, unsigned byte)
 {
     if (length_of(headers) == MOST_BYTES) {
         fputs("bench: an input is too long\n", stderr);
@@ -25,15 +25,14 @@ static void put(struct headers *headers, unsigned byte)
     headers->bytes[headers->places[headers->count + 1]++] = (uint8_t)byte;
 }
 
-static void put_bytes(struct headers *headers, const void *bytes, size_t length)
+void put_bytes(struct headers *headers, const void *bytes, size_t length)
 {
     const uint8_t *byte = bytes;
     while (length-- > 0)
         put(headers, *byte++);
 }
 
-/* The header ends here; the next begins. */
-static void end_header(struct headers *headers)
+void end_header(struct headers *headers)
 {
     headers->count++;
     headers->places[headers->count + 1] = headers->places[headers->count];
@@ -250,7 +249,9 @@ const char *build_input(unsigned number, struct headers *headers)
         return build_lines(headers, &source);
     case 5:
         return build_envelopes(headers);
-    default:
+    case INPUTS:
         return build_small(headers, &source);
+    default:
+        return build_anchor(number - INPUTS, headers);
     }
 }

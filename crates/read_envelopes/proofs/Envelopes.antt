@@ -31,7 +31,7 @@ stage-closes : (i : Source) (base : Bool) (least : ℕ) (more : ℕ → ℕ → 
     → closes base (i .end) more (after i (state closed 0 false) m r) ≡ behindEnvelope more m (endedBy base (i .end) r)
 unfolding after Moved behindEnvelope
 stage-closes i base least more m (Go p n) h v = ap (closes base (i .end) more) (closed-at i p n m (v .1) h) ∙ closes-by base (i .end) more p n m (eqb p (i .end)) refl
-stage-closes i base least more m (Refused refusal p) h v = refl
+stage-closes i base least more m (Refused p refusal) h v = refl
 
 ends-fits : (base : Bool) (end p n : ℕ) → n ≤ p → (z : Bool) → eqb p end ≡ z → EnvelopeEnds end (pick z (pick base (envelope.Base p n) (envelope.Extension p n)) (envelope.Refused 13 p))
 unfolding EnvelopeEnds
@@ -42,7 +42,7 @@ ends-fits base end p n h false q = tt
 stage-fits : (base : Bool) (least end : ℕ) (r : Stage) → Moved least end r → EnvelopeEnds end (endedBy base end r)
 unfolding Moved EnvelopeEnds
 stage-fits base least end (Go p n) v = ends-fits base end p n (v .2) (eqb p end) refl
-stage-fits base least end (Refused refusal p) v = tt
+stage-fits base least end (Refused p refusal) v = tt
 
 -- THE LAW OF AN ENVELOPE: its own row, its inside, and what comes behind it
 pub enveloped : (t : Told) (s : List ℕ) (at first end : ℕ) (base : Bool) (n : ℕ) (m : List ℕ) {k left : List ℕ} {r : Stage} {answer : Envelope} → 0 < end → end ≤ length s

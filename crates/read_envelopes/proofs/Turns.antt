@@ -27,7 +27,7 @@ module _ {t : Told} {s : List ℕ} {left at n : ℕ} {m kept : List ℕ} {r : En
   header-onward h q a = let is = rw h at (a .is) in q ∙ is
 
   module _ {before : List ℕ} where
-    pub header-refused : {refusal p : ℕ} → r ≡ envelope.Refused refusal p → finish (header envelopesMost t 0 s) 0 before ≡ headerAt t s left at n m → EnvelopeRead t s left at n m r kept → HeaderRead t s before (Refused refusal p) kept
+    pub header-refused : {refusal p : ℕ} → r ≡ envelope.Refused refusal p → finish (header envelopesMost t 0 s) 0 before ≡ headerAt t s left at n m → EnvelopeRead t s left at n m r kept → HeaderRead t s before (Refused p refusal) kept
     unfolding behindEnvelope fillingOf PlaceFits
     header-refused h q a = let is = rw h at (a .is) in record { is = q ∙ is; fits = tt }
 

@@ -21,7 +21,7 @@ closedBy base end p n = pick (eqb p end) (pick base (envelope.Base p n) (envelop
 
 abbrev pub endedBy : Bool → ℕ → Stage → Envelope
 endedBy base end (Go p n) = closedBy base end p n
-endedBy base end (Refused refusal p) = envelope.Refused refusal p
+endedBy base end (Refused p refusal) = envelope.Refused refusal p
 
 -- what each case of an envelope says
 unfoldable pub behindEnvelope : (ℕ → ℕ → List ℕ → Filling) → List ℕ → Envelope → Filling

@@ -6,6 +6,7 @@ use read_objects::received::read_received;
 use read_rows::Stage;
 use read_rows::look::CLOSING;
 use read_rows::look::fault;
+use read_rows::look::in_parts;
 use read_rows::look::peek;
 use read_rows::rows;
 use read_rows::texts;
@@ -87,7 +88,7 @@ fn read_parameter(
         0x06 => rows::number(s, end, at + 1, rows, n),
         0x07 => rows::text(s, end, at + 1, rows, n, PAYLOAD_ENCODING, Rule::Line, 0),
         0x09 => open_list(s, end, at, rows, n, RECEIVER_OPENS, told),
-        0x0a => read_received(s, end, at + 1, rows, n, told),
+        0x0a => in_parts(read_received(s, end, at + 1, rows, n, told)),
         0x0b => open_behaviour(s, end, at, rows, n, told),
         _ => encrypted_in_b(s, end, at, rows, n, b, told),
     }
@@ -106,6 +107,7 @@ fn own_parameter(s: &[u8], end: usize, at: usize, rows: &mut [u32], n: usize) ->
 }
 
 // "02 `to`, agent list"; "09 intended receiver, agent list", from the code on. The opening row has this kind.
+// The 01 of an empty list is looked for before anything is called.
 fn open_list(
     s: &[u8],
     end: usize,
@@ -121,6 +123,10 @@ fn open_list(
     put_row(rows, n, kind, 0, at, 0);
     let first = at + 1;
     let opened = n + 1;
+    if peek(s, end, first) == CLOSING {
+        let behind = first + 1;
+        return Stage::Go(behind, opened);
+    }
     read_list(s, end, first, rows, opened, 1, told)
 }
 
@@ -143,7 +149,7 @@ fn open_behaviour(s: &[u8], end: usize, at: usize, rows: &mut [u32], n: usize, t
     put_row(rows, n, BEHAVIOUR_OPENS, 0, at, 0);
     let first = at + 1;
     let opened = n + 1;
-    rows::any(s, end, first, rows, opened, 0, told)
+    rows::behaviour(s, end, first, rows, opened, told)
 }
 
 // "08 encrypted .. (B only)", from the code on; any other code b is refused, and 08 too in D.

@@ -3,6 +3,7 @@
 use read_rows::Stage;
 use read_rows::look::CLOSING;
 use read_rows::look::fault;
+use read_rows::look::in_parts;
 use read_rows::look::peek;
 use read_rows::rows;
 use read_rows::texts;
@@ -145,7 +146,7 @@ fn name_and_addresses(
     texts::texts(s, end, first, rows, opened, ADDRESS, level)
 }
 
-// An agent's extras and its 01.
+// An agent's extras, most often none, and its 01.
 fn behind_resolvers(
     s: &[u8],
     end: usize,
@@ -159,7 +160,11 @@ fn behind_resolvers(
     ensures { λ r. ⌜ ((single : Bool) →
         StateRead (toldOf told) (now (s .entry)) end (state afterResolvers level single) at n (now (rows .entry)) r (go agentEnds (state afterResolvers level single)) (now (rows .exit))) ⌝ }
 {
+    if peek(s, end, at) == CLOSING {
+        let behind = at + 1;
+        return Stage::Go(behind, n);
+    }
     let edition = told.edition;
     let code = agent_extra(edition);
-    texts::extras(s, end, at, rows, n, code, level, told)
+    in_parts(texts::extras(s, end, at, rows, n, code, level, told))
 }

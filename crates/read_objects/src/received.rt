@@ -1,6 +1,8 @@
 // "Received object: by (text), date, then optionally and in this order 02 from, 03 id, 04 via (texts), then in D extras, then 01."
 // Each function answers the place behind what it read with the rows then, or the first refusal.
 use read_rows::Stage;
+use read_rows::look::CLOSING;
+use read_rows::look::peek;
 use read_rows::rows;
 use read_rows::texts;
 use table::codes::received_extra;
@@ -11,7 +13,7 @@ use table::kinds::RECEIVED_VIA;
 use table::told::Told;
 use values::text::Rule;
 ghost use mathlib.Core.Bool.{false};
-ghost use Rattle.meaning.specs.Editions.{state, receivedBegins, afterDate, parameters};
+ghost use Rattle.meaning.specs.Editions.{state, receivedBegins, afterDate, afterVia, parameters};
 ghost use Rattle.laws.specs.Pouring.{Ready};
 ghost use Rattle.table.specs.Told.{toldOf};
 ghost use Rattle.read_rows.specs.Stages.{StateRead};
@@ -56,7 +58,19 @@ fn behind_date(s: &[u8], end: usize, at: usize, rows: &mut [u32], n: usize, told
     let Stage::Go(after_via, with_via) = via else {
         return via;
     };
+    behind_via(s, end, after_via, rows, with_via, told)
+}
+
+// A received object's extras, most often none, and its 01.
+fn behind_via(s: &[u8], end: usize, at: usize, rows: &mut [u32], n: usize, told: Told) -> Stage
+    requires { ⌜ Ready (now s) end at n ⌝ }
+    ensures { λ r. ⌜ StateRead (toldOf told) (now (s .entry)) end (state afterVia 1 false) at n (now (rows .entry)) r (state parameters 0 false) (now (rows .exit)) ⌝ }
+{
+    if peek(s, end, at) == CLOSING {
+        let behind = at + 1;
+        return Stage::Go(behind, n);
+    }
     let edition = told.edition;
     let code = received_extra(edition);
-    texts::extras(s, end, after_via, rows, with_via, code, 1, told)
+    texts::extras(s, end, at, rows, n, code, 1, told)
 }

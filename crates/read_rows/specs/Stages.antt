@@ -19,12 +19,12 @@ use Rattle.read_rows.specs.declared.Stage.the-variants.{Go, Refused}
 -- "either a value with the place after it, or a refusal": what each case of the enum says, in the state q with the memory m
 unfoldable pub after : Source → State → List ℕ → Stage → Filling
 after i q m (Go p n) = runAt i q p n m
-after i q m (Refused refusal p) = stopped refusal p
+after i q m (Refused p refusal) = stopped refusal p
 
 -- a stage goes forward, not past the declared end, and has no more rows than bytes
 unfoldable pub Moved : ℕ → ℕ → Stage → Type 0
 Moved least end (Go p n) = (least ≤ p) × (p ≤ end) × (n ≤ p)
-Moved least end (Refused refusal p) = Unit {0}
+Moved least end (Refused p refusal) = Unit {0}
 
 -- what a stage answers: from the filling o of its beginning, reading goes on as from r, in the state q with the memory m
 pub record Ran (i : Source) (least : ℕ) (o : Filling) (r : Stage) (q : State) (m : List ℕ) : Type 0 where
@@ -45,13 +45,13 @@ NumberRead t s end q at n m r d left = Ran (source t s end) (at + 1) (numberAt (
 
 -- "6: a byte is needed at the declared end"; "7: code not allowed here"
 abbrev pub faultOf : ℕ → ℕ → Stage
-faultOf b at = pick (ltb b 256) (Refused 7 at) (Refused 6 at)
+faultOf b at = pick (ltb b 256) (Refused at 7) (Refused at 6)
 
 -- A value, kept as a row
 
 abbrev pub goesOn : Value → ℕ → Stage
 goesOn (value.Is kind start len after) n = Go after (n + 1)
-goesOn (value.Refused refusal at) n = Refused refusal at
+goesOn (value.Refused refusal at) n = Refused at refusal
 
 abbrev pub keeps : Value → ℕ → ℕ → List ℕ → List ℕ
 keeps (value.Is kind start len after) n level m = put m n kind level start len

@@ -6,5 +6,5 @@ pub mod texts;
 // "either a value with the place after it, or a refusal": the place and the count of rows so far, or document 01's number and place.
 pub enum Stage {
     Go(usize, usize),
-    Refused { refusal: u32, at: usize },
+    Refused { at: usize, refusal: u32 },
 }

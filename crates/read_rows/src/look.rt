@@ -22,6 +22,19 @@ pub fn peek(s: &[u8], end: usize, at: usize) -> u32
     if at < end { s[at] as u32 } else { NO_BYTE }
 }
 
+// The same answer, put together again from its parts: what a call left in memory goes on in registers.
+pub fn in_parts(r: Stage) -> Stage
+    ensures { λ same. ⌜ same ≡ r ⌝ }
+{
+    match r {
+        Stage::Go(at, n) => Stage::Go(at, n),
+        Stage::Refused { at, refusal } => Stage::Refused {
+            at: at,
+            refusal: refusal,
+        },
+    }
+}
+
 // Takes what a look found where it cannot stand. Answers the refusal: "6: a byte is needed at the declared end"; "7: code not allowed here".
 pub fn fault(b: u32, at: usize) -> Stage
     ensures { λ r. ⌜ r ≡ faultOf b at ⌝ }

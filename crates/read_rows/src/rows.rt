@@ -60,6 +60,15 @@ pub fn any(
     keep(v, rows, n, level)
 }
 
+// The same of a transport behaviour, whose row has level 0.
+pub fn behaviour(s: &[u8], end: usize, at: usize, rows: &mut [u32], n: usize, told: Told) -> Stage
+    requires { ⌜ Ready (now s) end at n ⌝ }
+    ensures { λ r. ⌜ ((q d : State) → Shaped (toldOf told) q d 0 7 anyValues → StateRead (toldOf told) (now (s .entry)) end q at n (now (rows .entry)) r d (now (rows .exit))) ⌝ }
+{
+    let v = values::any::take_in_place(s, end, at, told);
+    keep(v, rows, n, 0)
+}
+
 // A representation.
 pub fn representation(s: &[u8], end: usize, at: usize, rows: &mut [u32], n: usize) -> Stage
     requires { ⌜ Ready (now s) end at n ⌝ }

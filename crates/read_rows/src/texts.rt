@@ -69,29 +69,8 @@ pub fn texts(
 }
 
 // Extras with this code, and the 01 behind them. A code above 256 is no byte: there are no extras.
-// Most often there are none, so the 01 is looked for before anything is called.
+// Most often there are none: whoever calls looks for the 01 first.
 pub fn extras(
-    s: &[u8],
-    end: usize,
-    at: usize,
-    rows: &mut [u32],
-    n: usize,
-    code: u32,
-    level: u32,
-    told: Told,
-) -> Stage
-    requires { ⌜ (Ready (now s) end at n) × (code ≡ 256 → ⊥) ⌝ }
-    ensures { λ r. ⌜ ((q any d : State) → Extras (toldOf told) q any d code level → StateRead (toldOf told) (now (s .entry)) end q at n (now (rows .entry)) r d (now (rows .exit))) ⌝ }
-{
-    if peek(s, end, at) == CLOSING {
-        let behind = at + 1;
-        return Stage::Go(behind, n);
-    }
-    some_extras(s, end, at, rows, n, code, level, told)
-}
-
-// .. extra by extra.
-fn some_extras(
     s: &[u8],
     end: usize,
     at: usize,

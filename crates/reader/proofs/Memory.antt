@@ -38,7 +38,7 @@ module _ (strictness : declared.Strictness) (edition : ℕ) (input m : List ℕ)
   abbrev w : Strictness
   w = strictnessOf strictness
 
-  pub unknown-edition : {left : List ℕ} → label ≡ Unknown → Surveyed w edition input m (Refused 1 0) left
+  pub unknown-edition : {left : List ℕ} → label ≡ Unknown → Surveyed w edition input m (Refused 0 1) left
   unfolding fillingOf PlaceFits
   unknown-edition h = record { is = ap (λ (x : Answer). finish x 0 m) (read-labelled w edition input label is ∙ ap (λ (x : Label). labelled w input (labelIs x)) h); fits = tt }
 
@@ -69,17 +69,17 @@ module _ (w : Strictness) (edition : ℕ) (input m left : List ℕ) where
       let fits = rw h at (a .fits) in
       accepted-by p n (readBy w edition input) refl is (fits .0) (fits .1)
 
-  header-refused : {r : Stage} {refusal p : ℕ} → r ≡ Refused refusal p → Surveyed w edition input m r left → readBy w edition input ≡ refused refusal p
+  header-refused : {r : Stage} {refusal p : ℕ} → r ≡ Refused p refusal → Surveyed w edition input m r left → readBy w edition input ≡ refused refusal p
   unfolding fillingOf
   header-refused {refusal = refusal} {p = p} h a = let is = rw h at (a .is) in refused-by refusal p (readBy w edition input) is
 
-  pub refusal-answered : (before : List ℕ) {r : Stage} {refusal p : ℕ} {answer : Reply} → r ≡ Refused refusal p → Surveyed w edition input m r left → replyOf answer ≡ reply refusal p 0 → ReadsBy w edition input before answer before
+  pub refusal-answered : (before : List ℕ) {r : Stage} {refusal p : ℕ} {answer : Reply} → r ≡ Refused p refusal → Surveyed w edition input m r left → replyOf answer ≡ reply refusal p 0 → ReadsBy w edition input before answer before
   unfolding answerBy rowsBy
   refusal-answered before h a s = let q = header-refused h a in record { answers = s ∙ rw q refl; rows = rw q refl }
 
 -- where the payload lies, by the strict reading
 module _ (edition : ℕ) (input m left : List ℕ) where
-  pub no-part : {r : Stage} {refusal p : ℕ} → r ≡ Refused refusal p → Surveyed strict edition input m r left → PartPromise edition input (record { start = 0; end = 0 })
+  pub no-part : {r : Stage} {refusal p : ℕ} → r ≡ Refused p refusal → Surveyed strict edition input m r left → PartPromise edition input (record { start = 0; end = 0 })
   unfolding payloadStart payloadEnd
   no-part h a = let q = header-refused strict edition input m left h a in record { starts = rw q refl; ends = rw q refl; forward = omega arith; inside = omega arith }
 
@@ -104,7 +104,7 @@ module _ (w : Strictness) (edition : ℕ) (input m : List ℕ) (place n : ℕ) (
   filled-by : (left : List ℕ) (r : Stage) → finish (accepted place (a .rows)) 0 m ≡ fillingOf left r → putAll (a .rows) 0 m ≡ left
   unfolding fillingOf
   filled-by left (Go p k) q = cc
-  filled-by left (Refused refusal p) q = absurd (let z : _≡_ {A = ℕ} 0 1 = cc in omega arith)
+  filled-by left (Refused p refusal) q = absurd (let z : _≡_ {A = ℕ} 0 1 = cc in omega arith)
 
   -- the rows, and then their skip numbers
   pub all-filled : (mid left : List ℕ) (r : Stage) → n ≤ roomOf m → Surveyed w edition input m r mid → left ≡ skipsLaid mid n n → ReadsBy w edition input m (record { answer = 0; place = place; rows = n }) left

@@ -16,16 +16,13 @@ use Rattle.values.specs.declared.number.Number.the-variants.{Counts, Fai
 use Rattle.values.specs.Numbers.{turned, Worth, Turned, Tally, counts, fails, tally, tallied, Ends, Counted}
 use Rattle.laws.specs.Logic.{both-hold}
 
--- one byte, with the digits d and e of its halves and whether they are digits
-module _ (number : ℕ) (first : Bool) (b : ℕ) {d e : ℕ} {x y : Bool} (hd : d ≡ digitOf (b / 16)) (he : e ≡ digitOf (b % 16)) (hx : x ≡ isDigit (b / 16)) (hy : y ≡ isDigit (b % 16)) where
+-- one byte, with the digit d of its upper half and whether it is one
+module _ (number : ℕ) (first : Bool) (b : ℕ) {d : ℕ} {x : Bool} (hd : d ≡ digitOf (b / 16)) (hx : x ≡ isDigit (b / 16)) where
   abbrev one : ℕ
   one = 10 * number + d
 
   abbrev odd : Bool
   odd = x && leb one numberMost
-
-  abbrev even : Bool
-  even = y && not (first && eqb (b / 16) 1) && leb (10 * one + e) numberMost
 
   pub odd-ends : (b ≡ 0 → ⊥) → odd ≡ true → b % 16 ≡ 0 → Turned number first b (Stop one)
   unfolding turn turned Worth numberValue
@@ -33,28 +30,33 @@ module _ (number : ℕ) (first : Bool) (b : ℕ) {d e : ℕ} {x y : Bool} (hd : 
       let q : (isDigit (b / 16) && leb (10 * number + digitOf (b / 16)) numberMost) ≡ true = rw (hd, hx) at p in
       record { is = simp (ne-eqb b 0 h, q, eq-eqb (b % 16) 0 z); worth = rw (hd, ne-eqb b 0 h, eq-eqb (b % 16) 0 z) refl }
 
-  pub even-goes : (b ≡ 0 → ⊥) → odd ≡ true → (b % 16 ≡ 0 → ⊥) → even ≡ true → Turned number first b (More (10 * one + e))
-  unfolding turn turned Worth numberValue
-  even-goes h p z r =
-      let q : (isDigit (b / 16) && leb (10 * number + digitOf (b / 16)) numberMost) ≡ true = rw (hd, hx) at p in
-      let t : (isDigit (b % 16) && not (first && eqb (b / 16) 1) && leb (10 * (10 * number + digitOf (b / 16)) + digitOf (b % 16)) numberMost) ≡ true = rw (hd, he, hy) at r in
-      record {
-        is = rw (hd, he) (simp (ne-eqb b 0 h, q, ne-eqb (b % 16) 0 z, t));
-        worth = (leb-true (10 * one + e) numberMost (both-hold (y && not (first && eqb (b / 16) 1)) (leb (10 * one + e) numberMost) r .1), λ v. rw (hd, he, ne-eqb b 0 h, ne-eqb (b % 16) 0 z) refl);
-      }
-
-  pub even-wrong : (b ≡ 0 → ⊥) → odd ≡ true → (b % 16 ≡ 0 → ⊥) → even ≡ false → Turned number first b Wrong
-  unfolding turn turned Worth
-  even-wrong h p z r =
-      let q : (isDigit (b / 16) && leb (10 * number + digitOf (b / 16)) numberMost) ≡ true = rw (hd, hx) at p in
-      let t : (isDigit (b % 16) && not (first && eqb (b / 16) 1) && leb (10 * (10 * number + digitOf (b / 16)) + digitOf (b % 16)) numberMost) ≡ false = rw (hd, he, hy) at r in
-      record { is = simp (ne-eqb b 0 h, q, ne-eqb (b % 16) 0 z, t); worth = tt }
-
   pub odd-wrong : (b ≡ 0 → ⊥) → odd ≡ false → Turned number first b Wrong
   unfolding turn turned Worth
   odd-wrong h p =
       let q : (isDigit (b / 16) && leb (10 * number + digitOf (b / 16)) numberMost) ≡ false = rw (hd, hx) at p in
       record { is = simp (ne-eqb b 0 h, q); worth = tt }
+
+  -- .. and the same of its lower half
+  module _ {e : ℕ} {y : Bool} (he : e ≡ digitOf (b % 16)) (hy : y ≡ isDigit (b % 16)) where
+    abbrev even : Bool
+    even = y && not (first && eqb (b / 16) 1) && leb (10 * one + e) numberMost
+
+    pub even-goes : (b ≡ 0 → ⊥) → odd ≡ true → (b % 16 ≡ 0 → ⊥) → even ≡ true → Turned number first b (More (10 * one + e))
+    unfolding turn turned Worth numberValue
+    even-goes h p z r =
+        let q : (isDigit (b / 16) && leb (10 * number + digitOf (b / 16)) numberMost) ≡ true = rw (hd, hx) at p in
+        let t : (isDigit (b % 16) && not (first && eqb (b / 16) 1) && leb (10 * (10 * number + digitOf (b / 16)) + digitOf (b % 16)) numberMost) ≡ true = rw (hd, he, hy) at r in
+        record {
+          is = rw (hd, he) (simp (ne-eqb b 0 h, q, ne-eqb (b % 16) 0 z, t));
+          worth = (leb-true (10 * one + e) numberMost (both-hold (y && not (first && eqb (b / 16) 1)) (leb (10 * one + e) numberMost) r .1), λ v. rw (hd, he, ne-eqb b 0 h, ne-eqb (b % 16) 0 z) refl);
+        }
+
+    pub even-wrong : (b ≡ 0 → ⊥) → odd ≡ true → (b % 16 ≡ 0 → ⊥) → even ≡ false → Turned number first b Wrong
+    unfolding turn turned Worth
+    even-wrong h p z r =
+        let q : (isDigit (b / 16) && leb (10 * number + digitOf (b / 16)) numberMost) ≡ true = rw (hd, hx) at p in
+        let t : (isDigit (b % 16) && not (first && eqb (b / 16) 1) && leb (10 * (10 * number + digitOf (b / 16)) + digitOf (b % 16)) numberMost) ≡ false = rw (hd, he, hy) at r in
+        record { is = simp (ne-eqb b 0 h, q, ne-eqb (b % 16) 0 z, t); worth = tt }
 
 -- "an even one with a byte 00"
 pub zero-ends : (number b : ℕ) (first : Bool) → b ≡ 0 → first ≡ false → Turned number first b (Stop number)

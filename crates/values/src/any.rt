@@ -54,6 +54,22 @@ pub fn take(s: &[u8], end: usize, at: usize, told: Told) -> Value
     }
 }
 
+// The same; bytes behind a short length are taken without a call.
+pub fn take_in_place(s: &[u8], end: usize, at: usize, told: Told) -> Value
+    requires { ⌜ Inside (now s) end at ⌝ }
+    ensures { λ r. ⌜ Coded (toldOf told) anyValues 7 (now (s .entry)) end at r ⌝ }
+{
+    if at < end {
+        if s[at] == 0x16 {
+            return block(s, end, at, 1, told);
+        }
+        if s[at] == 0x17 {
+            return block(s, end, at, 2, told);
+        }
+    }
+    take(s, end, at, told)
+}
+
 // Bytes behind a length of so many bytes. "11 comes after the length bytes, before the block", at the code.
 fn block(s: &[u8], end: usize, at: usize, width: usize, told: Told) -> Value
     requires { ⌜ BlockAt (now s) end at width ⌝ }

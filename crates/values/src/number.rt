@@ -87,22 +87,20 @@ fn turn(number: u64, first: bool, b: u32) -> Turning
     requires { ⌜ (number ≤ numberMost) × (b < 256) ⌝ }
     ensures { λ r. ⌜ Turned number first b r ⌝ }
 {
-    let one = 10 * number + digit(b / 16) as u64;
-    let two = 10 * one + digit(b % 16) as u64;
-    let odd = is_digit(b / 16) & (one <= MOST);
-    let leading = first & (b / 16 == 1);
-    let even = is_digit(b % 16) & !leading & (two <= MOST);
     if b == 0 {
         if first {
             return Turning::Wrong;
         }
         return Turning::Stop(number);
     }
-    if odd {
+    let one = 10 * number + digit(b / 16) as u64;
+    if is_digit(b / 16) & (one <= MOST) {
         if b % 16 == 0 {
             return Turning::Stop(one);
         }
-        if even {
+        let two = 10 * one + digit(b % 16) as u64;
+        let leading = first & (b / 16 == 1);
+        if is_digit(b % 16) & !leading & (two <= MOST) {
             return Turning::More(two);
         }
     }

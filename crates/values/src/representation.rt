@@ -1,7 +1,6 @@
 // "Representation: 10, 11 or 12, or 00 and a text."
 use crate::Value;
 use crate::text;
-use crate::text::Rule;
 use table::kinds::OWN_REPRESENTATION;
 use table::kinds::STANDARD_REPRESENTATION;
 use table::refusals::CODE_WRONG;
@@ -24,7 +23,7 @@ pub fn take(s: &[u8], end: usize, at: usize) -> Value
     let code = s[at];
     let first = at + 1;
     match code {
-        0x00 => text::take(s, end, first, OWN_REPRESENTATION, Rule::Line),
+        0x00 => text::rare_line(s, end, first, OWN_REPRESENTATION),
         0x10 | 0x11 | 0x12 => Value::Is {
             kind: STANDARD_REPRESENTATION,
             start: at,

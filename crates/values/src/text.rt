@@ -3,8 +3,9 @@ use crate::Value;
 use table::refusals::ENVELOPE_ENDS;
 use table::refusals::TEXT_WRONG;
 ghost use mathlib.Core.Path.{_≡_};
-ghost use Prim.Native.Nat.{_+_, _-_, _≤_, _<_};
-ghost use lib.ListN.{length};
+ghost use mathlib.Core.Bool.{true, false};
+ghost use Prim.Native.Nat.{ℕ, _+_, _-_, _≤_, _<_};
+ghost use lib.ListN.{length, getD};
 ghost use Rattle.meaning.specs.Bytes.{line, note, isBreak, textByte, takeText};
 ghost use Rattle.laws.specs.From.{from};
 ghost use Rattle.values.specs.Stages.{Inside, Valued, ruleOf, Skipped, Run, LineRun, textRun};
@@ -23,7 +24,24 @@ pub fn take(s: &[u8], end: usize, at: usize, kind: u32, rule: Rule) -> Value
     requires { ⌜ Inside (now s) end at ⌝ }
     ensures { λ r. ⌜ Valued (now (s .entry)) end at kind 1 (takeText (ruleOf rule) (from (now (s .entry)) at end)) r ⌝ }
 {
-    let i = run(s, end, at, rule);
+    let i = stop(s, end, at, rule);
+    ended(s, end, at, i, kind)
+}
+
+// The same of a line that seldom stands there: its bytes are looked at behind a call, so that the code before it stays short.
+pub fn rare_line(s: &[u8], end: usize, at: usize, kind: u32) -> Value
+    requires { ⌜ Inside (now s) end at ⌝ }
+    ensures { λ r. ⌜ Valued (now (s .entry)) end at kind 1 (takeText line (from (now (s .entry)) at end)) r ⌝ }
+{
+    let i = long_line(s, end, at);
+    ended(s, end, at, i, kind)
+}
+
+// Takes the place i where the run of the text at `at` stops. Answers the row and the place behind its 00, or the refusal at i.
+fn ended(s: &[u8], end: usize, at: usize, i: usize, kind: u32) -> Value
+    requires { ⌜ (end ≤ length (now s)) × (at ≤ i) × (i ≤ end) ⌝ }
+    ensures { λ r. ⌜ ((rule : Rattle.meaning.specs.Bytes.Rule) → Run rule (now (s .entry)) end at i → Valued (now (s .entry)) end at kind 1 (takeText rule (from (now (s .entry)) at end)) r) ⌝ }
+{
     if end <= i {
         return Value::Refused {
             refusal: ENVELOPE_ENDS,
@@ -43,6 +61,33 @@ pub fn take(s: &[u8], end: usize, at: usize, kind: u32, rule: Rule) -> Value
     Value::Refused {
         refusal: TEXT_WRONG,
         at: i,
+    }
+}
+
+// As `run`, but an empty note is found without a call.
+fn stop(s: &[u8], end: usize, at: usize, rule: Rule) -> usize
+    requires { ⌜ Inside (now s) end at ⌝ }
+    ensures { λ r. ⌜ Run (ruleOf rule) (now (s .entry)) end at r ⌝ }
+{
+    if empty_note(s, end, at, rule) {
+        return at;
+    }
+    run(s, end, at, rule)
+}
+
+// Whether the text is a note of no byte. An empty line is not looked for: its run is short.
+fn empty_note(s: &[u8], end: usize, at: usize, rule: Rule) -> bool
+    requires { ⌜ Inside (now s) end at ⌝ }
+    ensures { λ r. ⌜ (r ≡ true → getD (now (s .entry)) at 0 ≡ 0) ⌝ }
+{
+    match rule {
+        Rule::Line => false,
+        Rule::Note => {
+            if at < end {
+                return s[at] == 0;
+            }
+            false
+        }
     }
 }
 
@@ -79,11 +124,11 @@ fn line_by_line(s: &[u8], end: usize, at: usize) -> usize
     requires { ⌜ Inside (now s) end at ⌝ }
     ensures { λ r. ⌜ Run note (now (s .entry)) end at r ⌝ }
 {
-    let mut i = line_run(s, end, at);
+    let mut i = long_line(s, end, at);
     while i < end {
         if is_break(s[i]) {
             let next = i + 1;
-            i = line_run(s, end, next);
+            i = long_line(s, end, next);
         } else {
             return i;
         }
@@ -98,21 +143,56 @@ fn is_break(b: u8) -> bool
     (b == 0x09) | (b == 0x0a) | (b == 0x0d)
 }
 
-// The first place whose byte is below 20, or the end.
-fn line_run(s: &[u8], end: usize, at: usize) -> usize
+// The first place whose byte is below 20, or the end: of a line that may be long.
+fn long_line(s: &[u8], end: usize, at: usize) -> usize
     requires { ⌜ Inside (now s) end at ⌝ }
     ensures { λ r. ⌜ LineRun (now (s .entry)) end at r ⌝ }
 {
     let i = sixteens(s, end, at);
-    let j = past_eight(s, end, i);
-    let mut k = past_four(s, end, j);
-    while k < end {
-        if s[k] < FIRST_TEXT {
-            return k;
+    line_run(s, end, i)
+}
+
+// The first place whose byte is below 20, or the end: eight bytes at a time.
+fn line_run(s: &[u8], end: usize, at: usize) -> usize
+    requires { ⌜ Inside (now s) end at ⌝ }
+    ensures { λ r. ⌜ LineRun (now (s .entry)) end at r ⌝ }
+{
+    let mut i = at;
+    while 8 <= end - i {
+        if eight(s, i) {
+            i += 8;
+        } else {
+            return first_stop(s, i);
         }
-        k += 1;
     }
-    k
+    last_run(s, end, i)
+}
+
+// The first byte below 20 of eight that have one: it is there, so nothing else is tested.
+fn first_stop(s: &[u8], at: usize) -> usize
+    requires { ⌜ (at + 8 ≤ length (now s)) × (textRun line (now s) at 7 ≡ false) ⌝ }
+    ensures { λ r. ⌜ ((end : ℕ) → at + 8 ≤ end → end ≤ length (now (s .entry)) → LineRun (now (s .entry)) end at r) ⌝ }
+{
+    let mut i = at;
+    while s[i] >= FIRST_TEXT {
+        i += 1;
+    }
+    i
+}
+
+// The same as `line_run`, byte by byte: of the few that are left before the end.
+fn last_run(s: &[u8], end: usize, at: usize) -> usize
+    requires { ⌜ Inside (now s) end at ⌝ }
+    ensures { λ r. ⌜ LineRun (now (s .entry)) end at r ⌝ }
+{
+    let mut i = at;
+    while i < end {
+        if s[i] < FIRST_TEXT {
+            return i;
+        }
+        i += 1;
+    }
+    i
 }
 
 // Past sixteen bytes at a time while all of them are text.
@@ -129,32 +209,6 @@ fn sixteens(s: &[u8], end: usize, at: usize) -> usize
         }
     }
     i
-}
-
-// Past eight bytes if all of them are of a line, else where it began.
-fn past_eight(s: &[u8], end: usize, at: usize) -> usize
-    requires { ⌜ Inside (now s) end at ⌝ }
-    ensures { λ r. ⌜ ((rule : Rattle.meaning.specs.Bytes.Rule) → Skipped rule (now (s .entry)) end at r) ⌝ }
-{
-    if 8 <= end - at {
-        if eight(s, at) {
-            return at + 8;
-        }
-    }
-    at
-}
-
-// The same with four.
-fn past_four(s: &[u8], end: usize, at: usize) -> usize
-    requires { ⌜ Inside (now s) end at ⌝ }
-    ensures { λ r. ⌜ ((rule : Rattle.meaning.specs.Bytes.Rule) → Skipped rule (now (s .entry)) end at r) ⌝ }
-{
-    if 4 <= end - at {
-        if four(s, at) {
-            return at + 4;
-        }
-    }
-    at
 }
 
 // Whether a note allows the next bytes, all of them.

@@ -15,15 +15,15 @@ add-first c = search needs
 add-opened : tie.Need-add-opened
 add-opened c = search needs
 
-any-requires : tie.Need-any-requires
-any-requires c κs = search needs
+behaviour-requires : tie.Need-behaviour-requires
+behaviour-requires c κs = search needs
 
 same-length : tie.Need-same-length
 same-length c = search needs
 
 returns : tie.Need-returns
-returns c = rw (← c .before .before .before .before .before .before .put-row .ensures) (c .before .before .any .ensures (state behaviourValue 0 false) (state parameters 0 false) (behaviour-any _))
+returns c = rw (← c .before .before .before .before .before .before .put-row .ensures) (c .before .before .behaviour .ensures (state behaviourValue 0 false) (state parameters 0 false) (behaviour-any _))
 
 pub open-behaviour-spec : {M : Type 1} → statement M
 open-behaviour-spec =
-    tie.close (tie.spec put-row-requires add-first add-opened any-requires same-length returns)
+    tie.close (tie.spec put-row-requires add-first add-opened behaviour-requires same-length returns)

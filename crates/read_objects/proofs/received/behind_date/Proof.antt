@@ -1,15 +1,13 @@
--- `received::behind_date`: three texts that may be left out, one behind the other, then a run of extras with the edition's code.
+-- `received::behind_date`: three texts that may be left out, one behind the other, then what stands behind them.
 use mathlib.Core.Bool.{false}
-use mathlib.Core.Path.{_∙_, sym}
 use native.Mathlib.Omega.{arith}
 use borrow.Author.Needs.{needs}
-use Rattle.meaning.specs.Editions.{afterDate, afterFrom, afterId, afterVia, parameters, receivedExtra, state}
+use Rattle.meaning.specs.Editions.{afterDate, afterFrom, afterId, afterVia, state}
 use Rattle.laws.specs.Pouring.{ready-to}
 use Rattle.laws.specs.Rooms.{from-optional, id-optional, via-optional}
-use Rattle.table.specs.Told.{editionOf, toldOf}
+use Rattle.table.specs.Told.{toldOf}
 use Rattle.read_rows.specs.Joining.{begun, handed, moved-to, went}
 use Rattle.read_rows.specs.Stages.{StateRead}
-use Rattle.read_objects.proofs.ReceivedRooms.{received-code, received-extras}
 use Rattle.read_objects.proofs.received.behind_date.Statement.{statement}
 use Rattle.read_objects.proofs.received.behind_date.Tie as tie
 
@@ -71,22 +69,16 @@ same-length-3 c = search needs
 returns-3 : tie.Need-returns-3
 returns-3 c = handed (c .enum-told3 .given .1) (via-read (c .before .before .before .before))
 
-received-extra-requires : tie.Need-received-extra-requires
-received-extra-requires c κs = search needs
-
-extras-requires : tie.Need-extras-requires
-extras-requires c κs =
-    let entry = c .before .before .before .before .before .before .before .before .before .before .before .before .before .before .before .before .before .before .before .before .before .before .before .before .before in
-    (ready-to (entry .pre) (moved-to (c .before .before .before .via .given .1) (via-read (c .before .before .before .before .before .before .before))), λ q. received-code (editionOf (entry .args .told .edition)) (sym (c .before .received-extra .ensures) ∙ q))
+behind-via-requires : tie.Need-behind-via-requires
+behind-via-requires c κs = ready-to (c .before .before .before .before .before .before .before .before .before .before .before .before .before .before .before .before .before .before .before .before .before .before .before .before .pre) (moved-to (c .before .before .via .given .1) (via-read (c .before .before .before .before .before .before)))
 
 same-length-4 : tie.Need-same-length-4
 same-length-4 c = search needs
 
 returns-4 : tie.Need-returns-4
 returns-4 c =
-    let t = via-read (c .before .before .before .before .before .before .before .before .before .before) in
-    begun (moved-to (c .before .before .before .before .before .before .via .given .1) t .0) (went (c .before .before .before .before .before .before .via .given .1) t)
-    (c .before .before .extras .ensures (state afterVia 1 false) (state receivedExtra 1 false) (state parameters 0 false) (received-extras _ (c .before .before .before .before .received-extra .ensures)))
+    let t = via-read (c .before .before .before .before .before .before .before .before .before) in
+    begun (moved-to (c .before .before .before .before .before .via .given .1) t .0) (went (c .before .before .before .before .before .via .given .1) t) (c .before .before .behind-via .ensures)
 
 pub behind-date-spec : {M : Type 1} → statement M
 behind-date-spec =
@@ -107,7 +99,6 @@ behind-date-spec =
     enum-told-3
     same-length-3
     returns-3
-    received-extra-requires
-    extras-requires
+    behind-via-requires
     same-length-4
     returns-4)

@@ -22,14 +22,14 @@ shared-slice-read-code c = omega (arith, c .before .before .before .pre .whole)
 add-first : tie.Need-add-first
 add-first c = omega arith
 
-take-requires : tie.Need-take-requires
-take-requires c κs = record { whole = c .before .before .before .before .pre .whole; before = omega arith }
+rare-line-requires : tie.Need-rare-line-requires
+rare-line-requires c κs = record { whole = c .before .before .before .before .pre .whole; before = omega arith }
 
 returns-2 : tie.Need-returns-2
 unfolding takeValue look find
 returns-2 c t =
     let at-if1 = c .before .before .before in
-    code-before (at-if1 .if1 .left) (sym (c .before .match .keys1)) (text line) (record { coded = refl; rowed = refl; flat = refl }) (λ n. refl) (c .take .ensures)
+    code-before (at-if1 .if1 .left) (sym (c .before .match .keys1)) (text line) (record { coded = refl; rowed = refl; flat = refl }) (λ n. refl) (c .rare-line .ensures)
 
 returns-3 : tie.Need-returns-3
 unfolding takeValue
@@ -56,7 +56,7 @@ take-spec =
     returns
     shared-slice-read-code
     add-first
-    take-requires
+    rare-line-requires
     returns-2
     returns-3
     returns-4

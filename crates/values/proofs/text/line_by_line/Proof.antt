@@ -17,11 +17,11 @@ Inv-loop s end at i₀ i = Skipped note s end at i × (i < end → textByte line
 abbrev μ-loop : tie.MeasureT-loop
 μ-loop s end at i₀ i = end - i
 
-line-run-requires : tie.Need-line-run-requires Inv-loop μ-loop
-line-run-requires c κs = c .before .pre
+long-line-requires : tie.Need-long-line-requires Inv-loop μ-loop
+long-line-requires c κs = c .before .pre
 
 loop-holds : tie.Need-loop-holds Inv-loop μ-loop
-loop-holds c = (c .line-run .ensures .skipped note, c .line-run .ensures .stops)
+loop-holds c = (c .long-line .ensures .skipped note, c .long-line .ensures .stops)
 
 shared-slice-read-is-break : tie.Need-shared-slice-read-is-break Inv-loop μ-loop
 shared-slice-read-is-break c = omega (arith, c .before .before .before .before .before .pre .whole, c .before .loop-test .taken)
@@ -32,11 +32,11 @@ is-break-requires c κs = search needs
 add-next : tie.Need-add-next Inv-loop μ-loop
 add-next c = omega (arith, c .before .before .before .loop-test .taken)
 
-line-run-requires-2 : tie.Need-line-run-requires-2 Inv-loop μ-loop
-line-run-requires-2 c κs = record { whole = c .before .before .before .before .before .before .before .pre .whole; before = omega (arith, c .before .before .before .loop-test .taken) }
+long-line-requires-2 : tie.Need-long-line-requires-2 Inv-loop μ-loop
+long-line-requires-2 c κs = record { whole = c .before .before .before .before .before .before .before .pre .whole; before = omega (arith, c .before .before .before .loop-test .taken) }
 
 loop-less : tie.Need-loop-less Inv-loop μ-loop
-loop-less c = omega (arith, c .before .before .before .before .loop-test .taken, c .line-run2 .ensures .skipped note .inside, c .line-run2 .ensures .skipped note .before)
+loop-less c = omega (arith, c .before .before .before .before .loop-test .taken, c .long-line2 .ensures .skipped note .inside, c .long-line2 .ensures .skipped note .before)
 
 loop-again : tie.Need-loop-again Inv-loop μ-loop
 loop-again c =
@@ -46,7 +46,7 @@ loop-again c =
     let h = c .before .before .before .before .loop-test .taken in
     let b = note-is (getD (a .s .now) (l .i) 0) (l .inv .1 h) (c .before .before .is-break .ensures) in
     let past = byte-skipped note (a .s .now) (a .end) (entry .pre .whole) (l .i) h (sym b ∙ c .before .if1 .taken) in
-    (skipped-on (l .inv .0) (skipped-on past (c .line-run2 .ensures .skipped note)), c .line-run2 .ensures .stops)
+    (skipped-on (l .inv .0) (skipped-on past (c .long-line2 .ensures .skipped note)), c .long-line2 .ensures .stops)
 
 returns : tie.Need-returns Inv-loop μ-loop
 returns c =
@@ -64,12 +64,12 @@ line-by-line-spec =
     (tie.spec
     Inv-loop
     μ-loop
-    line-run-requires
+    long-line-requires
     loop-holds
     shared-slice-read-is-break
     is-break-requires
     add-next
-    line-run-requires-2
+    long-line-requires-2
     loop-less
     loop-again
     returns

@@ -1,0 +1,31 @@
+-- `text::empty_note`: true only where the first byte was looked at.
+use Prim.Native.Nat.{ℕ}
+use mathlib.Core.Bool.{true, false}
+use mathlib.Core.Path.{_≡_}
+use native.Mathlib.Omega.{arith}
+use borrow.Author.Needs.{needs}
+use borrow.Author.Tests.{eqb-true}
+use Rattle.values.proofs.text.empty_note.Statement.{statement}
+use Rattle.values.proofs.text.empty_note.Tie as tie
+
+enum-told : tie.Need-enum-told
+enum-told c = search needs
+
+enum-told-2 : tie.Need-enum-told-2
+enum-told-2 c = search needs
+
+shared-slice-read-result : tie.Need-shared-slice-read-result
+shared-slice-read-result c = search needs
+
+returns : tie.Need-returns
+returns c h = eqb-true _ 0 h
+
+returns-2 : tie.Need-returns-2
+returns-2 c h = let z : false ≡ true = h in let y : _≡_ {A = ℕ} 0 1 = cc z in absurd (omega arith)
+
+returns-3 : tie.Need-returns-3
+returns-3 c h = let z : false ≡ true = h in let y : _≡_ {A = ℕ} 0 1 = cc z in absurd (omega arith)
+
+pub empty-note-spec : {M : Type 1} → statement M
+empty-note-spec =
+    tie.close (tie.spec enum-told enum-told-2 shared-slice-read-result returns returns-2 returns-3)
