@@ -79,22 +79,22 @@ extern "C" {
     pub fn gamulisyan_version() -> u32;
 }
 
-/// Kind, level, start and length of one row.
-pub type Row = [u32; 4];
+/// Kind, level, start, length and skip of one row; skip is the row after all that belongs to it.
+pub type Row = [u32; 5];
 
 const USUAL_ROWS: usize = 32;
 
 fn read_into(edition: u32, input: &[u8], rows: &mut [Row]) -> Answer {
-    // the entry asks nothing of its caller but two valid slices, and rows of four numbers lie one behind the other
-    unsafe { gamulisyan_read(edition, input.as_ptr(), input.len(), rows.as_mut_ptr().cast(), rows.len() * 4) }
+    // the entry asks nothing of its caller but two valid slices, and rows of five numbers lie one behind the other
+    unsafe { gamulisyan_read(edition, input.as_ptr(), input.len(), rows.as_mut_ptr().cast(), rows.len() * 5) }
 }
 
 /// The rows of the header at the front of `input`, and the header's length; or the refusal.
 pub fn read(edition: u32, input: &[u8]) -> Result<(Vec<Row>, usize), Answer> {
-    let mut rows = vec![[0; 4]; USUAL_ROWS];
+    let mut rows = vec![[0; 5]; USUAL_ROWS];
     let mut read = read_into(edition, input, &mut rows);
     if read.answer == ROWS_SHORT {
-        rows.resize(read.rows, [0; 4]);
+        rows.resize(read.rows, [0; 5]);
         read = read_into(edition, input, &mut rows);
     }
     if read.answer != ACCEPTED {
@@ -110,7 +110,7 @@ pub fn write(edition: u32, rows: &[Row], pool: &[u8], output: &mut [u8]) -> Resu
         gamulisyan_write(
             edition,
             rows.as_ptr().cast(),
-            rows.len() * 4,
+            rows.len() * 5,
             pool.as_ptr(),
             pool.len(),
             output.as_mut_ptr(),
@@ -145,6 +145,7 @@ mod tests {
     fn reads_and_writes() {
         let (rows, length) = read(EDITION_B, &M).unwrap();
         assert_eq!((rows.len(), length), (3, 15));
+        assert_eq!(rows.iter().map(|row| row[4]).collect::<Vec<_>>(), [3, 2, 3]);
         let mut output = [0; 15];
         assert_eq!(write(EDITION_B, &rows, &M, &mut output), Ok(15));
         assert_eq!(output, M[..15]);

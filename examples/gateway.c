@@ -19,9 +19,6 @@ enum { REFUSED = 1, NO_CALL = 2 };
 /* Enough for most headers; a longer one costs a second call. */
 enum { USUAL_ROWS = 32, FIRST_INPUT = 4096 };
 
-/* An agent and its addresses stand at this level directly under its list; the agents of resolvers stand deeper. */
-enum { LISTED_AGENT = 1 };
-
 struct bytes {
     uint8_t *at;
     size_t length;
@@ -32,6 +29,7 @@ struct row {
     uint32_t level;
     uint32_t start;
     uint32_t length;
+    uint32_t skip;
 };
 
 static _Noreturn void stop(const char *why)
@@ -90,7 +88,7 @@ static struct gamulisyan_answer read_rows(uint32_t edition, struct bytes input, 
 static struct row row_at(const uint32_t *rows, size_t place)
 {
     const uint32_t *number = rows + place * GAMULISYAN_ROW_NUMBERS;
-    return (struct row){number[0], number[1], number[2], number[3]};
+    return (struct row){number[0], number[1], number[2], number[3], number[4]};
 }
 
 static void print_text(struct bytes input, struct row row)
@@ -112,25 +110,44 @@ static const char *list_opened(uint32_t kind)
     }
 }
 
-/* Each name ends the line of the agent before it; a row at envelope level ends the list. */
+static void print_addresses(struct bytes input, const uint32_t *rows, size_t place)
+{
+    struct row opening = row_at(rows, place);
+    for (size_t address = place + 1; address < opening.skip; address++)
+        print_text(input, row_at(rows, address));
+}
+
+/* An agent's own rows lie before its skip; of these, resolvers with all their agents are passed over at one hop. */
+static void print_agent(struct bytes input, const uint32_t *rows, size_t place)
+{
+    struct row agent = row_at(rows, place);
+    print_text(input, agent);
+    for (size_t own = place + 1; own < agent.skip; own = row_at(rows, own).skip)
+        if (row_at(rows, own).kind == GAMULISYAN_ADDRESSES_OPEN)
+            print_addresses(input, rows, own);
+    putchar('\n');
+}
+
+static void print_list(struct bytes input, const uint32_t *rows, size_t place, const char *name)
+{
+    struct row list = row_at(rows, place);
+    for (size_t agent = place + 1; agent < list.skip; agent = row_at(rows, agent).skip) {
+        fputs(name, stdout);
+        print_agent(input, rows, agent);
+    }
+}
+
+/* Into each envelope, and over each of its parameters. */
 static void print_receivers(struct bytes input, const uint32_t *rows, size_t count)
 {
-    const char *list = NULL;
-    const char *line_end = "";
-    for (size_t place = 0; place < count; place++) {
+    for (size_t place = 0; place < count;) {
         struct row row = row_at(rows, place);
-        if (row.level < LISTED_AGENT)
-            list = list_opened(row.kind);
-        if (list == NULL || row.level != LISTED_AGENT)
-            continue;
-        if (row.kind == GAMULISYAN_AGENT_NAME) {
-            printf("%s%s", line_end, list);
-            line_end = "\n";
-        }
-        if (row.kind == GAMULISYAN_AGENT_NAME || row.kind == GAMULISYAN_ADDRESS)
-            print_text(input, row);
+        const char *list = list_opened(row.kind);
+        if (list != NULL)
+            print_list(input, rows, place, list);
+        int envelope = row.kind == GAMULISYAN_EXTENSION_OPENS || row.kind == GAMULISYAN_BASE_OPENS;
+        place = envelope ? place + 1 : row.skip;
     }
-    fputs(line_end, stdout);
 }
 
 static int say_refusal(const char *call, struct gamulisyan_answer answer)

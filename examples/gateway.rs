@@ -8,12 +8,11 @@ use gamulisyan::{Answer, Row, EDITION_B, EDITION_D};
 use std::io::{Read, Write};
 use std::process::ExitCode;
 
+const EXTENSION_OPENS: u32 = 1;
+const BASE_OPENS: u32 = 2;
 const TO_OPENS: u32 = 12;
 const RECEIVER_OPENS: u32 = 14;
-const AGENT_NAME: u32 = 15;
-const ADDRESS: u32 = 17;
-/// An agent and its addresses stand at this level directly under its list; the agents of resolvers stand deeper.
-const LISTED_AGENT: u32 = 1;
+const ADDRESSES_OPEN: u32 = 16;
 
 /// The name of the list that a row opens, none if whoever is in it does not receive the message.
 fn list_opened(kind: u32) -> Option<&'static str> {
@@ -24,32 +23,43 @@ fn list_opened(kind: u32) -> Option<&'static str> {
     }
 }
 
-fn end_line(lines: &mut Vec<u8>) {
-    if !lines.is_empty() {
-        lines.push(b'\n');
-    }
+/// The bytes that a row shows, behind a tab.
+fn put_text(lines: &mut Vec<u8>, input: &[u8], &[_, _, start, length, _]: &Row) {
+    lines.push(b'\t');
+    lines.extend_from_slice(&input[start as usize..][..length as usize]);
 }
 
-/// A line for each agent: the list, the name, the addresses.
+/// The rows from one on up to its skip, each row with all that belongs to it passed over at one hop.
+fn hops(rows: &[Row], place: usize) -> impl Iterator<Item = usize> + '_ {
+    let end = rows[place][4] as usize;
+    std::iter::successors(Some(place + 1), |&row| rows.get(row).map(|row| row[4] as usize)).take_while(move |&row| row < end)
+}
+
+/// The name of an agent, and its addresses.
+fn put_agent(lines: &mut Vec<u8>, input: &[u8], rows: &[Row], agent: usize) {
+    put_text(lines, input, &rows[agent]);
+    for own in hops(rows, agent).filter(|&own| rows[own][0] == ADDRESSES_OPEN) {
+        for address in hops(rows, own) {
+            put_text(lines, input, &rows[address]);
+        }
+    }
+    lines.push(b'\n');
+}
+
+/// A line for each agent: the list, the name, the addresses. Into each envelope, and over each of its parameters.
 fn receivers(input: &[u8], rows: &[Row]) -> Vec<u8> {
     let mut lines = Vec::new();
-    let mut list = None;
-    for &[kind, level, start, length] in rows {
-        if level < LISTED_AGENT {
-            list = list_opened(kind);
+    let mut place = 0;
+    while place < rows.len() {
+        let [kind, .., skip] = rows[place];
+        if let Some(name) = list_opened(kind) {
+            for agent in hops(rows, place) {
+                lines.extend_from_slice(name.as_bytes());
+                put_agent(&mut lines, input, rows, agent);
+            }
         }
-        let name = match list {
-            Some(name) if level == LISTED_AGENT && (kind == AGENT_NAME || kind == ADDRESS) => name,
-            _ => continue,
-        };
-        if kind == AGENT_NAME {
-            end_line(&mut lines);
-            lines.extend_from_slice(name.as_bytes());
-        }
-        lines.push(b'\t');
-        lines.extend_from_slice(&input[start as usize..][..length as usize]);
+        place = if kind == EXTENSION_OPENS || kind == BASE_OPENS { place + 1 } else { skip as usize };
     }
-    end_line(&mut lines);
     lines
 }
 
