@@ -9,7 +9,7 @@
 #include <stdlib.h>
 #include <string.h>
 
-enum { EDITION_B = 1, EDITION_D = 2, ACCEPTED = 0, KIND = 0, LEVEL = 1, START = 2, LENGTH = 3 };
+enum { EDITION_B = 1, EDITION_D = 2, ACCEPTED = 0, KIND = 0, LEVEL = 1, START = 2, LENGTH = 3, SKIP = 4 };
 
 static uint8_t header_bytes[MOST_HEADER];
 static uint8_t written_bytes[MOST_HEADER];
@@ -17,11 +17,11 @@ static uint32_t table[MOST_ROWS * ROW_NUMBERS];
 static uint32_t table_again[MOST_ROWS * ROW_NUMBERS];
 static uint32_t damaged[MOST_ROWS * ROW_NUMBERS + ROW_NUMBERS];
 
-/* "equal row counts, kinds, levels, lengths and viewed bytes; starts may differ" */
+/* "equal row counts, kinds, levels, lengths and viewed bytes; starts may differ", and order 7: skips agree too */
 static int means_the_same(const uint32_t *a, const uint8_t *pool_of_a, const uint32_t *b, const uint8_t *pool_of_b, size_t rows)
 {
     for (; rows-- > 0; a += ROW_NUMBERS, b += ROW_NUMBERS)
-        if (a[KIND] != b[KIND] || a[LEVEL] != b[LEVEL] || a[LENGTH] != b[LENGTH] || memcmp(pool_of_a + a[START], pool_of_b + b[START], a[LENGTH]) != 0)
+        if (a[KIND] != b[KIND] || a[LEVEL] != b[LEVEL] || a[LENGTH] != b[LENGTH] || a[SKIP] != b[SKIP] || memcmp(pool_of_a + a[START], pool_of_b + b[START], a[LENGTH]) != 0)
             return 0;
     return 1;
 }
@@ -63,7 +63,72 @@ static void check_demands(struct tally *tally, uint32_t edition, const struct he
     check_crossing(tally, EDITION_B + EDITION_D - edition, header, wrote, read.rows);
 }
 
-/* Rows dropped, doubled, moved, with other kinds, levels, starts and lengths; or a slice that is not whole rows. */
+/* Whether a row is among those of an owner before it, as all between them are: order 7, by kinds and levels alone. */
+static int is_among(const uint32_t *owner, const uint32_t *row)
+{
+    switch (owner[KIND]) {
+    case 1:
+    case 2:
+        return row[KIND] > 2;
+    case 8:
+    case 12:
+    case 13:
+    case 14:
+    case 18:
+        return row[LEVEL] > owner[LEVEL];
+    case 15:
+        return row[LEVEL] > owner[LEVEL] || (row[LEVEL] == owner[LEVEL] && row[KIND] != 15);
+    case 16:
+    case 25:
+    case 27:
+        return row[KIND] == owner[KIND] + 1;
+    case 19:
+    case 29:
+        return row[KIND] == 20 || row[KIND] == 21;
+    default:
+        return 0;
+    }
+}
+
+static void lay_skips(uint32_t *rows, size_t count)
+{
+    for (size_t row = 0; row < count; row++) {
+        size_t after = row + 1;
+        while (after < count && is_among(rows + row * ROW_NUMBERS, rows + after * ROW_NUMBERS))
+            after++;
+        rows[row * ROW_NUMBERS + SKIP] = (uint32_t)after;
+    }
+}
+
+/* Off by one either way, 0, past the row count, any number, or swapped with the next row's. */
+static void damage_skip(struct source *source, uint32_t *at, size_t rows_behind)
+{
+    uint32_t skip = at[SKIP];
+    switch (random_below(source, 6)) {
+    case 0:
+        at[SKIP]++;
+        break;
+    case 1:
+        at[SKIP]--;
+        break;
+    case 2:
+        at[SKIP] = 0;
+        break;
+    case 3:
+        at[SKIP] = UINT32_MAX;
+        break;
+    case 4:
+        at[SKIP] = (uint32_t)random_below(source, 64);
+        break;
+    default:
+        if (rows_behind > 0) {
+            at[SKIP] = at[ROW_NUMBERS + SKIP];
+            at[ROW_NUMBERS + SKIP] = skip;
+        }
+    }
+}
+
+/* Rows dropped, doubled, moved, with other kinds, levels, starts, lengths and skips; or a slice that is not whole rows. */
 static size_t damage_table(struct source *source, size_t rows)
 {
     size_t numbers = rows * ROW_NUMBERS;
@@ -73,7 +138,7 @@ static size_t damage_table(struct source *source, size_t rows)
     size_t row = random_below(source, rows);
     uint32_t *at = damaged + row * ROW_NUMBERS;
     size_t behind = (rows - row - 1) * ROW_NUMBERS * sizeof *damaged;
-    switch (random_below(source, 8)) {
+    switch (random_below(source, 9)) {
     case 0:
         memmove(at, at + ROW_NUMBERS, behind);
         return numbers - ROW_NUMBERS;
@@ -95,6 +160,9 @@ static size_t damage_table(struct source *source, size_t rows)
     case 6:
         at[LENGTH] = random_once_in(source, 8) ? UINT32_MAX : at[LENGTH] + (uint32_t)random_below(source, 3) - 1;
         return numbers;
+    case 7:
+        damage_skip(source, at, rows - row - 1);
+        return numbers;
     default:
         return random_below(source, numbers + 1);
     }
@@ -104,6 +172,8 @@ static void check_tables(struct source *source, struct tally *tally, uint32_t ed
 {
     for (unsigned times = 0; times < 3; times++) {
         size_t numbers = damage_table(source, read.rows);
+        if (random_once_in(source, 2))
+            lay_skips(damaged, numbers / ROW_NUMBERS);
         size_t room = random_once_in(source, 3) ? random_below(source, read.place + 2) : read.place + 16;
         both_write(tally, random_once_in(source, 3) ? EDITION_B + EDITION_D - edition : edition, damaged, numbers, header->bytes, header->length, room, NULL);
     }
@@ -122,6 +192,8 @@ static void check_crowd(struct source *source, struct tally *tally, uint32_t edi
     for (size_t copy = 0; copy < times; copy++)
         memcpy(damaged + copy * group * ROW_NUMBERS, table, group * ROW_NUMBERS * sizeof *table);
     memcpy(damaged + times * group * ROW_NUMBERS, table, rows * ROW_NUMBERS * sizeof *table);
+    if (!random_once_in(source, 8))
+        lay_skips(damaged, times * group + rows);
     both_write(tally, edition, damaged, (times * group + rows) * ROW_NUMBERS, header->bytes, header->length, 65536, NULL);
 }
 
@@ -134,10 +206,12 @@ static void check_limits(struct tally *tally)
     memcpy(header_bytes, head, sizeof head);
     for (uint32_t edition = EDITION_B; edition <= EDITION_D; edition++)
         for (uint32_t length = LIMIT - HEAD - 6; length <= LIMIT - HEAD + 6; length++) {
-            uint32_t rows[] = {2, 0, 0, 0, 3, 0, 0, 1, 5, 0, 1, 9, 22, 0, 10, length, 22, 0, 10, length};
-            both_write(tally, edition, rows, 16, header_bytes, LIMIT + 4096, LIMIT + 16, NULL);
-            both_write(tally, edition, rows, 20, header_bytes, LIMIT + 4096, 16, NULL);
-            both_write(tally, edition, rows, 18, header_bytes, LIMIT + 4096, 16, NULL);
+            uint32_t rows[] = {2, 0, 0, 0, 4, 3, 0, 0, 1, 2, 5, 0, 1, 9, 3, 22, 0, 10, length, 4, 22, 0, 10, length, 5};
+            both_write(tally, edition, rows, 20, header_bytes, LIMIT + 4096, LIMIT + 16, NULL);
+            both_write(tally, edition, rows, 23, header_bytes, LIMIT + 4096, 16, NULL);
+            both_write(tally, edition, rows, 25, header_bytes, LIMIT + 4096, 16, NULL);
+            rows[SKIP] = 5;
+            both_write(tally, edition, rows, 25, header_bytes, LIMIT + 4096, 16, NULL);
         }
 }
 

@@ -32,8 +32,17 @@ static void add_row(struct reader *reader, uint32_t kind, uint32_t level, size_t
         row[1] = level;
         row[2] = (uint32_t)start;
         row[3] = (uint32_t)length;
+        row[SKIP] = (uint32_t)reader->row_count + 1;
     }
     reader->row_count++;
+}
+
+/* All that belongs to this earlier row has been read: it is skipped to the next row. Hands on whether that went well. */
+static bool end_row(struct reader *reader, uint64_t row, bool read)
+{
+    if (reader->rows != NULL)
+        reader->rows[row * ROW_NUMBERS + SKIP] = (uint32_t)reader->row_count;
+    return read;
 }
 
 static bool take_code(struct reader *reader, uint8_t *code)
@@ -133,7 +142,8 @@ static bool read_any(struct reader *reader, uint32_t level)
 
 static bool read_extra(struct reader *reader, uint32_t level)
 {
-    return read_text(reader, KIND_EXTRA_KEY, level) && read_any(reader, level);
+    uint64_t key = reader->row_count;
+    return end_row(reader, key, read_text(reader, KIND_EXTRA_KEY, level) && read_any(reader, level));
 }
 
 static bool read_representation(struct reader *reader)
@@ -150,7 +160,7 @@ static bool read_representation(struct reader *reader)
 }
 
 /* From, id and via stand in the order of their codes, and the extras of D have the code after them. */
-static bool read_received(struct reader *reader)
+static bool read_received_rows(struct reader *reader)
 {
     if (!read_text(reader, KIND_RECEIVED_BY, LEVEL_ENVELOPE) || !read_date(reader, LEVEL_RECEIVED))
         return false;
@@ -175,26 +185,31 @@ static bool read_received(struct reader *reader)
     return false;
 }
 
+static bool read_received(struct reader *reader)
+{
+    uint64_t by = reader->row_count;
+    return end_row(reader, by, read_received_rows(reader));
+}
+
 static bool read_agents(struct reader *reader, uint32_t level);
 
 static bool read_agent_part(struct reader *reader, uint8_t code, uint32_t level)
 {
+    uint64_t list = reader->row_count;
     if (code == CODE_ADDRESSES) {
         add_opening_row(reader, KIND_ADDRESSES, level);
-        return read_texts(reader, KIND_ADDRESS, level);
+        return end_row(reader, list, read_texts(reader, KIND_ADDRESS, level));
     }
     if (code == CODE_RESOLVERS) {
         add_opening_row(reader, KIND_RESOLVERS, level);
-        return read_agents(reader, level + 1);
+        return end_row(reader, list, read_agents(reader, level + 1));
     }
     return read_extra(reader, level);
 }
 
-/* An agent whose 02 has just been taken. Its parts stand in the order of their codes; only extras repeat. */
-static bool read_agent(struct reader *reader, uint32_t level)
+/* Its parts stand in the order of their codes; only extras repeat. */
+static bool read_agent_rows(struct reader *reader, uint32_t level)
 {
-    if (level > AGENT_LEVELS)
-        return refuse(reader, AGENT_TOO_DEEP, reader->place - 1);
     if (!read_text(reader, KIND_AGENT_NAME, level))
         return false;
     uint8_t extra = extra_code(reader->edition);
@@ -210,6 +225,15 @@ static bool read_agent(struct reader *reader, uint32_t level)
         least = code == extra ? extra : code + 1;
     }
     return false;
+}
+
+/* An agent whose 02 has just been taken. */
+static bool read_agent(struct reader *reader, uint32_t level)
+{
+    uint64_t name = reader->row_count;
+    if (level > AGENT_LEVELS)
+        return refuse(reader, AGENT_TOO_DEEP, reader->place - 1);
+    return end_row(reader, name, read_agent_rows(reader, level));
 }
 
 static bool read_agents(struct reader *reader, uint32_t level)
@@ -240,21 +264,23 @@ static bool read_encrypted(struct reader *reader)
 {
     if (reader->edition != EDITION_B)
         return refuse_code(reader);
+    uint64_t list = reader->row_count;
     add_opening_row(reader, KIND_ENCRYPTED, LEVEL_ENVELOPE);
-    return read_texts(reader, KIND_ENCRYPTED_ITEM, LEVEL_ENVELOPE);
+    return end_row(reader, list, read_texts(reader, KIND_ENCRYPTED_ITEM, LEVEL_ENVELOPE));
 }
 
 static bool read_parameter(struct reader *reader, uint8_t code)
 {
+    uint64_t first = reader->row_count;
     switch (code) {
     case CODE_OWN_KEY:
-        return read_text(reader, KIND_OWN_KEY, LEVEL_ENVELOPE) && read_text(reader, KIND_OWN_VALUE, LEVEL_ENVELOPE);
+        return end_row(reader, first, read_text(reader, KIND_OWN_KEY, LEVEL_ENVELOPE) && read_text(reader, KIND_OWN_VALUE, LEVEL_ENVELOPE));
     case CODE_TO:
         add_opening_row(reader, KIND_TO, LEVEL_ENVELOPE);
-        return read_agents(reader, LEVEL_FIRST_AGENT);
+        return end_row(reader, first, read_agents(reader, LEVEL_FIRST_AGENT));
     case CODE_FROM:
         add_opening_row(reader, KIND_FROM, LEVEL_ENVELOPE);
-        return read_single_agent(reader);
+        return end_row(reader, first, read_single_agent(reader));
     case CODE_REPRESENTATION:
         return read_representation(reader);
     case CODE_COMMENTS:
@@ -267,12 +293,12 @@ static bool read_parameter(struct reader *reader, uint8_t code)
         return read_encrypted(reader);
     case CODE_INTENDED_RECEIVER:
         add_opening_row(reader, KIND_INTENDED_RECEIVER, LEVEL_ENVELOPE);
-        return read_agents(reader, LEVEL_FIRST_AGENT);
+        return end_row(reader, first, read_agents(reader, LEVEL_FIRST_AGENT));
     case CODE_RECEIVED:
         return read_received(reader);
     case CODE_TRANSPORT_BEHAVIOUR:
         add_opening_row(reader, KIND_TRANSPORT_BEHAVIOUR, LEVEL_ENVELOPE);
-        return read_any(reader, LEVEL_ENVELOPE);
+        return end_row(reader, first, read_any(reader, LEVEL_ENVELOPE));
     default:
         return refuse_code(reader);
     }
@@ -331,9 +357,10 @@ static bool read_envelope(struct reader *reader, unsigned earlier, bool *base)
     if (!read_length(reader))
         return false;
     *base = byte == IDENTIFIER_BASE;
+    uint64_t row = reader->row_count;
     add_row(reader, *base ? KIND_BASE : KIND_EXTENSION, LEVEL_ENVELOPE, identifier, 0);
     bool head = *base ? read_representation(reader) && read_date(reader, LEVEL_ENVELOPE) : read_received(reader);
-    return head && read_parameters(reader);
+    return end_row(reader, row, head && read_parameters(reader));
 }
 
 static struct reader read_header(uint32_t edition, const uint8_t *input, size_t length, uint32_t *rows)

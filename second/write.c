@@ -355,6 +355,51 @@ static void put_envelopes(struct writer *writer, const struct measure *measure, 
         envelopes++;
 }
 
+/* Document 02, order 7, on rows that are a table: whether a row is among those of its owner, as all between
+   them are. */
+static bool is_among(const uint32_t *owner, const uint32_t *row)
+{
+    switch (owner[0]) {
+    case KIND_EXTENSION:
+    case KIND_BASE:
+        return row[0] != KIND_EXTENSION && row[0] != KIND_BASE;
+    case KIND_RECEIVED_BY:
+    case KIND_TO:
+    case KIND_FROM:
+    case KIND_INTENDED_RECEIVER:
+    case KIND_RESOLVERS:
+        return row[1] > owner[1];
+    case KIND_AGENT_NAME:
+        return row[1] > owner[1] || (row[1] == owner[1] && row[0] != KIND_AGENT_NAME);
+    case KIND_ADDRESSES:
+        return row[0] == KIND_ADDRESS;
+    case KIND_ENCRYPTED:
+        return row[0] == KIND_ENCRYPTED_ITEM;
+    case KIND_OWN_KEY:
+        return row[0] == KIND_OWN_VALUE;
+    case KIND_EXTRA_KEY:
+    case KIND_TRANSPORT_BEHAVIOUR:
+        return row[0] == KIND_ANY_TEXT || row[0] == KIND_ANY_BYTES;
+    default:
+        return false;
+    }
+}
+
+/* The lowest row whose skip is not the row after all that belongs to it, or the row count. */
+static uint64_t wrong_skip(const struct writer *writer)
+{
+    uint64_t place = 0;
+    for (; place < writer->row_count; place++) {
+        const uint32_t *owner = writer->rows + place * ROW_NUMBERS;
+        uint64_t after = place + 1;
+        while (after < writer->row_count && is_among(owner, writer->rows + after * ROW_NUMBERS))
+            after++;
+        if (owner[SKIP] != after)
+            break;
+    }
+    return place;
+}
+
 static struct second_reply refused(uint32_t answer, uint64_t place)
 {
     return (struct second_reply){.answer = answer, .place = place, .rows = 0};
@@ -373,6 +418,9 @@ struct second_reply second_write(uint32_t edition, const uint32_t *rows, size_t 
     look_ahead(&writer);
     if (!measure_envelopes(&writer, &measure) || rows_length % ROW_NUMBERS != 0)
         return refused(NO_TABLE, writer.place);
+    uint64_t wrong = wrong_skip(&writer);
+    if (wrong < writer.row_count)
+        return refused(NO_TABLE, wrong);
     if (measure.over_limit)
         return refused(OVER_LIMIT, measure.over_limit_row);
     if (measure.total > output_length)
