@@ -1,4 +1,4 @@
-/* Runs the recorded cases of one folder: read.tsv, write.tsv, number.tsv, date.tsv, days.tsv and breaks.tsv. Each case is given its own lent
+/* Runs the recorded cases of one folder: read.tsv, write.tsv, number.tsv, date.tsv, days.tsv, breaks.tsv and skips.tsv. Each case is given its own lent
    memory between guards, and the whole of it is compared afterwards. */
 #include "second.h"
 
@@ -275,6 +275,7 @@ int main(int count, char **arguments)
     check_file(arguments[1], "date.tsv", check_date, &bench, &tally);
     check_file(arguments[1], "days.tsv", check_named, &bench, &tally);
     check_file(arguments[1], "breaks.tsv", check_named, &bench, &tally);
+    check_file(arguments[1], "skips.tsv", check_named, &bench, &tally);
     printf("%u passed, %u failed\n", tally.passed, tally.failed);
     return tally.failed == 0 ? 0 : 1;
 }
