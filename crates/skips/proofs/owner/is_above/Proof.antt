@@ -1,5 +1,4 @@
 -- `owner::is_above`: at the owner's level the kind decides, else the level alone.
-use borrow.Author.Tests.{eq-eqb, ne-eqb}
 use Rattle.skips.proofs.Owning.{same-level, other-level}
 use Rattle.skips.proofs.owner.is_above.Statement.{statement}
 use Rattle.skips.proofs.owner.is_above.Tie as tie
