@@ -1,5 +1,5 @@
 -- What the customer buys, over the definitions of `meaning`: each theorem stands under the sentence that it meets.
-use Prim.Native.Nat.{ℕ, _+_, _≤_, _<_}
+use Prim.Native.Nat.{ℕ, _+_, _≤_}
 use mathlib.Core.List.{List, [], _∷_, _++_, map}
 use mathlib.Core.Bool.{Bool, true, false, _&&_, not}
 use mathlib.Core.Logic.{_⊎_, inl, inr}
@@ -11,8 +11,8 @@ use Rattle.meaning.specs.Basics.{every}
 use Rattle.meaning.specs.Told.{Edition, Label, B, D, known, unknown, labelOf, Strictness, strict, toldBy, told}
 use Rattle.meaning.specs.Reading.{Row}
 use Rattle.meaning.specs.Headers.{Placed, meant, refused, accepted, header, envelopesMost, labelled, readBy, read}
-use Rattle.meaning.specs.Writing.{Cell, cell, Envelope, Plan, stuck, plan, wholePlan, written, unwritten, writeRows}
-use Rattle.meaning.specs.Skips.{Skips, right, wrongAt, belongs, belonging, heldAgainst}
+use Rattle.meaning.specs.Writing.{Cell, cell, Envelope, stuck, plan, wholePlan, written, unwritten, writeRows}
+use Rattle.meaning.specs.Skips.{right, wrongAt, belongs, belonging, heldAgainst}
 use Rattle.meaning.specs.Memory.{row, tableOf, cellsOf, ranksOf, skipsOf, skipsHeld, roomOf, write}
 use Rattle.laws.specs.Logic.{areBytes}
 use Rattle.laws.specs.Views.{AllIn, view-part}

@@ -10,7 +10,7 @@ use lib.Dec.{eqb, ltb}
 use lib.ListN.{length, drop}
 use borrow.Author.Tests.{ltb-true, eqb-true, lt-ltb, eq-eqb}
 use Rattle.meaning.specs.Basics.{pick}
-use Rattle.meaning.specs.Skips.{Rank, isEnvelope, holdsDeeper, isValue, beside, belongs, belonging}
+use Rattle.meaning.specs.Skips.{Rank, holdsDeeper, isValue, beside, belongs, belonging}
 
 -- Kinds
 

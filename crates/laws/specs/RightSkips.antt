@@ -1,7 +1,7 @@
 -- Tables whose skip numbers are right: those that were read, and those that are written. They have one skip number for each row, which the rows decide;
 -- where one is wrong, the lowest such row is named.
 use Prim.Native.Nat.{ℕ, zero, suc, _+_, _≤_, _<_}
-use mathlib.Core.List.{List, [], _∷_, _++_, map}
+use mathlib.Core.List.{List, [], _∷_, map}
 use mathlib.Core.Bool.{Bool, true, false}
 use mathlib.Core.Path.{_≡_, refl, ap, sym, _∙_}
 use native.Mathlib.Omega.{arith}
@@ -11,8 +11,8 @@ use borrow.Author.Tests.{eqb-true, eqb-false, eq-eqb, ltb-true, ltb-false}
 use Rattle.meaning.specs.Basics.{pick}
 use Rattle.meaning.specs.Reading.{Row}
 use Rattle.meaning.specs.Headers.{Placed, meant}
-use Rattle.meaning.specs.Writing.{Cell, cell, broken}
-use Rattle.meaning.specs.Skips.{Rank, rank, skipsFrom, Skips, right, wrongAt, heldAgainst}
+use Rattle.meaning.specs.Writing.{cell, broken}
+use Rattle.meaning.specs.Skips.{Rank, rank, skipsFrom, right, wrongAt, heldAgainst}
 use Rattle.meaning.specs.Memory.{Numbers, rankOf, numbersOf, rowsFrom, tableOf, roomOf, cellOf, cellsOf, ranksOf, skipsOf, skipsHeld}
 use Rattle.laws.specs.Rows.{no-broken}
 use Rattle.laws.specs.Hopping.{givenAt, skipAt, heldAt, held-turn, held-end, AllRight, held-are}

@@ -8,11 +8,11 @@ use lib.Dec.{eqb}
 use lib.ListN.{length, getD, set, drop, length-append, length-set}
 use lib.Seq.{getD-append-add, getD-set-same, getD-set-other, drop-drop}
 use borrow.Author.Tests.{eqb-true, eqb-false}
-use Rattle.meaning.specs.Skips.{Rank, rank, skipOf}
+use Rattle.meaning.specs.Skips.{Rank, skipOf}
 use Rattle.meaning.specs.Headers.{Placed}
-use Rattle.meaning.specs.Memory.{rowWidth, Numbers, rankOf, numbersIn, numbersOf, rowsFrom, tableOf, roomOf, laidOver}
+use Rattle.meaning.specs.Memory.{rowWidth, rankOf, numbersIn, numbersOf, rowsFrom, tableOf, roomOf, laidOver}
 use Rattle.laws.specs.Rows.{putAll, fourOf, put-all-over, set-over}
-use Rattle.laws.specs.Hopping.{rankAt, ranksFor, ranksAt, givenAt, skipAt}
+use Rattle.laws.specs.Hopping.{rankAt, ranksFor, givenAt, skipAt}
 
 -- memory in which the last d of n rows have their skip numbers
 unfoldable pub skipsLaid : List ℕ → ℕ → ℕ → List ℕ

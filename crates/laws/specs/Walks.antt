@@ -14,7 +14,7 @@ use Rattle.meaning.specs.Reading.{Row}
 use Rattle.meaning.specs.Skips.{Rank, isEnvelope, belongs, belonging, right}
 use Rattle.meaning.specs.Headers.{Placed, meant, accepted, start, readBy}
 use Rattle.meaning.specs.Writing.{fits, cell, written, fitRow}
-use Rattle.meaning.specs.Memory.{rowWidth, tableOf, roomOf, cellsOf, ranksOf, skipsHeld, write}
+use Rattle.meaning.specs.Memory.{rowWidth, tableOf, roomOf, cellsOf, skipsHeld, write}
 use Rattle.laws.specs.Logic.{areBytes}
 use Rattle.laws.specs.Nesting.{deeper-belongs, beside-belongs, belonging-on, belonging-none}
 use Rattle.laws.specs.Hopping.{rankAt, ranksAt, ranksFor, ranks-are, ranks-length, ranks-next, ranks-drop, givenAt, skipAt, skip-forward, skip-most, HopsTo, hop-begins, hop-on, hop-ends, hop-stops, step-on, AllRight}
@@ -22,7 +22,6 @@ use Rattle.laws.specs.RightSkips.{standing, cells-ranks, table-right, ri
 use Rattle.laws.specs.WrittenRead.{fitAll, then-inv}
 use Rattle.laws.specs.Envelopes.{openingRow, Writes, the-base, before}
 use Rattle.laws.specs.Plans.{inner-kind, written-writes}
-use Rattle.laws.specs.Rows.{rows-whole}
 use Rattle.laws.specs.Ties.{written-right, accepted-known, written-known, whole-of, cells-placed}
 
 -- Rows inside rows

@@ -1,12 +1,12 @@
 -- Order 7: the skip numbers of every kind of row, given as numbers and not by the definition; and tables with a wrong one.
-use Prim.Native.Nat.{ℕ, zero, suc, _+_, _-_}
+use Prim.Native.Nat.{ℕ, zero, suc, _+_}
 use mathlib.Core.List.{List, [], _∷_, _++_}
-use mathlib.Core.Bool.{Bool, false, _&&_}
-use lib.ListN.{length, take}
+use mathlib.Core.Bool.{Bool, false}
+use lib.ListN.{take}
 use Rattle.meaning.specs.Headers.{Answer, refused, accepted}
 use Rattle.meaning.specs.Headers as headers
 use Rattle.meaning.specs.Memory.{Numbers, row, numbersIn, tableOf, skipsOf}
-use Rattle.meaning.specs.Cases.{same, hex, aDate, baseWith, baseRows, Writing, writes, inMemory}
+use Rattle.meaning.specs.Cases.{same, hex, aDate, baseWith, Writing, writes}
 use Rattle.meaning.specs.Accepting.{withParameters, anExtension, extensionRows, baseRowsAt}
 
 -- a header, and the skip numbers of its rows

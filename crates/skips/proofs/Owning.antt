@@ -5,8 +5,7 @@ use mathlib.Core.Path.{_≡_, refl, ap, sym, _∙_}
 use lib.Dec.{eqb, ltb}
 use native.Mathlib.Omega.{arith}
 use borrow.Author.Tests.{eq-eqb, ne-eqb, ltb-true, ltb-false, lt-ltb, le-ltb, eqb-true, eqb-false}
-use Rattle.meaning.specs.Basics.{pick}
-use Rattle.meaning.specs.Skips.{Rank, rank, beside, holdsDeeper, isEnvelope, isValue, belongs}
+use Rattle.meaning.specs.Skips.{Rank, rank, beside, holdsDeeper, belongs}
 use Rattle.skips.specs.Owners.{aboveTest, besideTest, owns}
 use Rattle.skips.specs.declared.owner.Owner.{Owner}
 

@@ -4,11 +4,11 @@ use mathlib.Core.List.{List}
 use mathlib.Core.Bool.{Bool, true, false}
 use mathlib.Core.Path.{_≡_, refl, ap, sym, _∙_, subst}
 use native.Mathlib.Omega.{arith}
-use lib.Dec.{eqb, ltb}
+use lib.Dec.{eqb}
 use lib.ListN.{length, set}
 use borrow.Author.Tests.{eqb-true, eqb-false, lt-ltb, le-ltb}
 use Rattle.meaning.specs.Basics.{pick}
-use Rattle.meaning.specs.Skips.{Skips, right, wrongAt}
+use Rattle.meaning.specs.Skips.{right, wrongAt}
 use Rattle.meaning.specs.Memory.{rowWidth, roomOf, skipsHeld}
 use Rattle.laws.specs.Hopping.{givenAt, skipAt, heldAt, held-end, held-next, held-wrong, AllRight, all-held, held-are}
 use Rattle.laws.specs.Skipping.{skipsLaid, laid-none, laid-more, laid-length, laid-skip, laid-same}
@@ -36,9 +36,6 @@ module _ (m : List ℕ) (n i : ℕ) (h : 0 < i) (l : i ≤ n) where
   laid-on = let q : suc (n - i) ≡ n - (i - 1) = omega arith in sym (laid-more m n (n - i) (i - 1) (omega arith)) ∙ ap (skipsLaid m n) q
 
   module _ (rows : List ℕ) (q : rows ≡ skipsLaid m n (n - i)) where
-    pub laid-room : length rows ≡ length m
-    laid-room = ap length q ∙ laid-length m n (n - i)
-
     -- the rows behind have theirs
     pub laid-hoppable : n ≤ roomOf m → Hoppable rows n (i - 1)
     laid-hoppable r =

@@ -7,7 +7,7 @@ use Rattle.meaning.specs.Headers.{envelopesMost}
 use Rattle.meaning.specs.Writing.{Plan, stuck, plan, fine, Written}
 use Rattle.write_envelopes.specs.Whole.{Verdict, bad, needs, verdict, checkedOf, insidesOf, Begins}
 use Rattle.write_envelopes.specs.declared.measure.Checked.{Checked}
-use Rattle.write_envelopes.specs.declared.measure.Checked.the-variants.{Bad, Needs}
+use Rattle.write_envelopes.specs.declared.measure.Checked.the-variants.{Bad}
 use Rattle.meaning.specs.Memory.{roomOf, writeReply, writeMemory, writeAnswer, writeOutput}
 use Rattle.table.specs.declared.reply.Reply.{Reply}
 use Rattle.table.specs.Reply.{replyOf}

@@ -1,6 +1,5 @@
 -- `hold::walked_end`: the invariant says that all rows up to j belong to row i, and that what is left of its rows begins there.
 use Prim.Native.Nat.{_-_}
-use native.Mathlib.Omega.{arith}
 use borrow.Author.Needs.{needs}
 use mathlib.Core.Path.{refl}
 use Rattle.laws.specs.Hopping.{HopsTo, hop-begins}

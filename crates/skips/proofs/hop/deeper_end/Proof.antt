@@ -2,7 +2,6 @@
 use Prim.Native.Nat.{_-_}
 use mathlib.Core.Path.{refl}
 use native.Mathlib.Omega.{arith}
-use borrow.Author.Needs.{needs}
 use borrow.Author.Tests.{lt-ltb, le-ltb}
 use Rattle.laws.specs.Hopping.{HopsTo, hop-begins}
 use Rattle.skips.specs.Owners.{deeperTest}

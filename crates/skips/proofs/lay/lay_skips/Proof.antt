@@ -5,7 +5,7 @@ use native.Mathlib.Omega.{arith}
 use borrow.Author.Needs.{needs}
 use lib.ListN.{length}
 use Rattle.laws.specs.Skipping.{skipsLaid}
-use Rattle.skips.proofs.Passes.{laid-again, laid-begins, laid-ends, laid-hoppable, laid-room}
+use Rattle.skips.proofs.Passes.{laid-again, laid-begins, laid-ends, laid-hoppable}
 use Rattle.skips.proofs.lay.lay_skips.Statement.{statement}
 use Rattle.skips.proofs.lay.lay_skips.Tie as tie
 

@@ -1,5 +1,4 @@
 -- `owner::is_above`: where both stand, as one number each.
-use native.Mathlib.Omega.{arith}
 use borrow.Author.Needs.{needs}
 use Rattle.skips.proofs.Owning.{stands-above}
 use Rattle.skips.proofs.owner.is_above.Statement.{statement}
