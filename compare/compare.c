@@ -3,13 +3,14 @@
 #include "both.h"
 #include "damage.h"
 #include "generate.h"
+#include "tables.h"
 
 #include <inttypes.h>
 #include <stdio.h>
 #include <stdlib.h>
 #include <string.h>
 
-enum { EDITION_B = 1, EDITION_D = 2, ACCEPTED = 0, LENGTH_FORM_WIDE = 11, KIND = 0, LEVEL = 1, START = 2, LENGTH = 3, SKIP = 4 };
+enum { EDITION_B = 1, EDITION_D = 2, ACCEPTED = 0, LENGTH_FORM_WIDE = 11 };
 
 static uint8_t header_bytes[MOST_HEADER];
 static uint8_t written_bytes[MOST_HEADER];
@@ -95,83 +96,10 @@ static void check_tolerant(struct tally *tally, uint32_t edition, const struct h
         check_short_form(tally, edition, header, read);
 }
 
-/* A skip number one off either way, 0, past the count, any, or that of the row behind, which gets this one's. */
-static void damage_skip(struct source *source, uint32_t *at, size_t rows, int is_last)
-{
-    uint32_t skip = at[SKIP];
-    switch (random_below(source, 6)) {
-    case 0:
-        at[SKIP]++;
-        break;
-    case 1:
-        at[SKIP]--;
-        break;
-    case 2:
-        at[SKIP] = 0;
-        break;
-    case 3:
-        at[SKIP] = (uint32_t)(rows + 1 + random_below(source, 3));
-        break;
-    case 4:
-        at[SKIP] = (uint32_t)random_word(source);
-        break;
-    default:
-        at[SKIP] = is_last ? skip : at[ROW_NUMBERS + SKIP];
-        if (!is_last)
-            at[ROW_NUMBERS + SKIP] = skip;
-    }
-}
-
-/* Rows dropped, doubled, moved, with other kinds, levels, starts, lengths and skip numbers; or a slice that is not whole rows. */
-static size_t damage_table(struct source *source, size_t rows)
-{
-    size_t numbers = rows * ROW_NUMBERS;
-    memcpy(damaged, table, numbers * sizeof *damaged);
-    if (rows == 0)
-        return numbers;
-    size_t row = random_below(source, rows);
-    uint32_t *at = damaged + row * ROW_NUMBERS;
-    size_t behind = (rows - row - 1) * ROW_NUMBERS * sizeof *damaged;
-    switch (random_below(source, 10)) {
-    case 8:
-        damage_skip(source, at, rows, behind == 0);
-        if (random_once_in(source, 3)) /* and another fault, or another wrong one */
-            damaged[random_below(source, numbers)]++;
-        return numbers;
-    case 9: /* the lowest decides */
-        at[SKIP]++;
-        damaged[random_below(source, rows) * ROW_NUMBERS + SKIP]--;
-        return numbers;
-    case 0:
-        memmove(at, at + ROW_NUMBERS, behind);
-        return numbers - ROW_NUMBERS;
-    case 1:
-        memmove(at + ROW_NUMBERS, at, behind + ROW_NUMBERS * sizeof *damaged);
-        return numbers + ROW_NUMBERS;
-    case 2:
-        memcpy(at, table + random_below(source, rows) * ROW_NUMBERS, ROW_NUMBERS * sizeof *damaged);
-        return numbers;
-    case 3:
-        at[KIND] = (uint32_t)random_below(source, 32);
-        return numbers;
-    case 4:
-        at[LEVEL] += random_once_in(source, 2) ? 1 : (uint32_t)-1;
-        return numbers;
-    case 5:
-        at[START] = random_once_in(source, 4) ? UINT32_MAX : at[START] + (uint32_t)random_below(source, 3) - 1;
-        return numbers;
-    case 6:
-        at[LENGTH] = random_once_in(source, 8) ? UINT32_MAX : at[LENGTH] + (uint32_t)random_below(source, 3) - 1;
-        return numbers;
-    default:
-        return random_below(source, numbers + 1);
-    }
-}
-
 static void check_tables(struct source *source, struct tally *tally, uint32_t edition, const struct header *header, struct answer read)
 {
     for (unsigned times = 0; times < 3; times++) {
-        size_t numbers = damage_table(source, read.rows);
+        size_t numbers = damage_table(source, table, read.rows, damaged);
         size_t room = random_once_in(source, 3) ? random_below(source, read.place + 2) : read.place + 16;
         both_write(tally, random_once_in(source, 3) ? EDITION_B + EDITION_D - edition : edition, damaged, numbers, header->bytes, header->length, room, NULL);
     }

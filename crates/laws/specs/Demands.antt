@@ -8,7 +8,7 @@ use native.Mathlib.Omega.{arith}
 use lib.Dec.{T}
 use lib.ListN.{length, take, drop, length-append}
 use Rattle.meaning.specs.Basics.{every}
-use Rattle.meaning.specs.Told.{Edition, Label, B, D, known, unknown, labelOf, Strictness, strict, toldBy, told}
+use Rattle.meaning.specs.Told.{Edition, Label, known, unknown, labelOf, Strictness, strict, toldBy, told}
 use Rattle.meaning.specs.Reading.{Row}
 use Rattle.meaning.specs.Headers.{Placed, meant, refused, accepted, header, envelopesMost, labelled, readBy, read}
 use Rattle.meaning.specs.Writing.{Cell, cell, Envelope, stuck, plan, wholePlan, written, unwritten, writeRows}
