@@ -18,7 +18,7 @@ struct answer {
 };
 
 /* Rows beyond this many are not lent; a header that has more is refused by both with 14. */
-enum { MOST_ROWS = 1 << 16, ROW_NUMBERS = 4 };
+enum { MOST_ROWS = 1 << 16, ROW_NUMBERS = 5 };
 
 /* Each answers what the archive did; `rows` and `output`, unless null, then hold what an accepted call left there. */
 struct answer both_read(struct tally *tally, uint32_t edition, const uint8_t *input, size_t length, size_t numbers, uint32_t *rows);

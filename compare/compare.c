@@ -3,13 +3,14 @@
 #include "both.h"
 #include "damage.h"
 #include "generate.h"
+#include "tables.h"
 
 #include <inttypes.h>
 #include <stdio.h>
 #include <stdlib.h>
 #include <string.h>
 
-enum { EDITION_B = 1, EDITION_D = 2, ACCEPTED = 0, LENGTH_FORM_WIDE = 11, KIND = 0, LEVEL = 1, START = 2, LENGTH = 3 };
+enum { EDITION_B = 1, EDITION_D = 2, ACCEPTED = 0, LENGTH_FORM_WIDE = 11 };
 
 static uint8_t header_bytes[MOST_HEADER];
 static uint8_t written_bytes[MOST_HEADER];
@@ -18,11 +19,11 @@ static uint32_t table[MOST_ROWS * ROW_NUMBERS];
 static uint32_t table_again[MOST_ROWS * ROW_NUMBERS];
 static uint32_t damaged[MOST_ROWS * ROW_NUMBERS + ROW_NUMBERS];
 
-/* "equal row counts, kinds, levels, lengths and viewed bytes; starts may differ" */
+/* "equal row counts, kinds, levels, lengths and viewed bytes; starts may differ", and "only if" the skip number "agrees too" */
 static int means_the_same(const uint32_t *a, const uint8_t *pool_of_a, const uint32_t *b, const uint8_t *pool_of_b, size_t rows)
 {
     for (; rows-- > 0; a += ROW_NUMBERS, b += ROW_NUMBERS)
-        if (a[KIND] != b[KIND] || a[LEVEL] != b[LEVEL] || a[LENGTH] != b[LENGTH] || memcmp(pool_of_a + a[START], pool_of_b + b[START], a[LENGTH]) != 0)
+        if (a[KIND] != b[KIND] || a[LEVEL] != b[LEVEL] || a[LENGTH] != b[LENGTH] || a[SKIP] != b[SKIP] || memcmp(pool_of_a + a[START], pool_of_b + b[START], a[LENGTH]) != 0)
             return 0;
     return 1;
 }
@@ -95,47 +96,10 @@ static void check_tolerant(struct tally *tally, uint32_t edition, const struct h
         check_short_form(tally, edition, header, read);
 }
 
-/* Rows dropped, doubled, moved, with other kinds, levels, starts and lengths; or a slice that is not whole rows. */
-static size_t damage_table(struct source *source, size_t rows)
-{
-    size_t numbers = rows * ROW_NUMBERS;
-    memcpy(damaged, table, numbers * sizeof *damaged);
-    if (rows == 0)
-        return numbers;
-    size_t row = random_below(source, rows);
-    uint32_t *at = damaged + row * ROW_NUMBERS;
-    size_t behind = (rows - row - 1) * ROW_NUMBERS * sizeof *damaged;
-    switch (random_below(source, 8)) {
-    case 0:
-        memmove(at, at + ROW_NUMBERS, behind);
-        return numbers - ROW_NUMBERS;
-    case 1:
-        memmove(at + ROW_NUMBERS, at, behind + ROW_NUMBERS * sizeof *damaged);
-        return numbers + ROW_NUMBERS;
-    case 2:
-        memcpy(at, table + random_below(source, rows) * ROW_NUMBERS, ROW_NUMBERS * sizeof *damaged);
-        return numbers;
-    case 3:
-        at[KIND] = (uint32_t)random_below(source, 32);
-        return numbers;
-    case 4:
-        at[LEVEL] += random_once_in(source, 2) ? 1 : (uint32_t)-1;
-        return numbers;
-    case 5:
-        at[START] = random_once_in(source, 4) ? UINT32_MAX : at[START] + (uint32_t)random_below(source, 3) - 1;
-        return numbers;
-    case 6:
-        at[LENGTH] = random_once_in(source, 8) ? UINT32_MAX : at[LENGTH] + (uint32_t)random_below(source, 3) - 1;
-        return numbers;
-    default:
-        return random_below(source, numbers + 1);
-    }
-}
-
 static void check_tables(struct source *source, struct tally *tally, uint32_t edition, const struct header *header, struct answer read)
 {
     for (unsigned times = 0; times < 3; times++) {
-        size_t numbers = damage_table(source, read.rows);
+        size_t numbers = damage_table(source, table, read.rows, damaged);
         size_t room = random_once_in(source, 3) ? random_below(source, read.place + 2) : read.place + 16;
         both_write(tally, random_once_in(source, 3) ? EDITION_B + EDITION_D - edition : edition, damaged, numbers, header->bytes, header->length, room, NULL);
     }
@@ -151,9 +115,13 @@ static void check_crowd(struct source *source, struct tally *tally, uint32_t edi
     size_t times = 14 + random_below(source, 4);
     if (group == rows || (times * group + rows) * ROW_NUMBERS > sizeof damaged / sizeof *damaged)
         return;
-    for (size_t copy = 0; copy < times; copy++)
-        memcpy(damaged + copy * group * ROW_NUMBERS, table, group * ROW_NUMBERS * sizeof *table);
-    memcpy(damaged + times * group * ROW_NUMBERS, table, rows * ROW_NUMBERS * sizeof *table);
+    for (size_t copy = 0; copy <= times; copy++) {
+        size_t copied = copy < times ? group : rows;
+        uint32_t *at = damaged + copy * group * ROW_NUMBERS;
+        memcpy(at, table, copied * ROW_NUMBERS * sizeof *table);
+        for (size_t row = 0; row < copied; row++)
+            at[row * ROW_NUMBERS + SKIP] += (uint32_t)(copy * group);
+    }
     both_write(tally, edition, damaged, (times * group + rows) * ROW_NUMBERS, header->bytes, header->length, 65536, NULL);
 }
 
@@ -166,10 +134,13 @@ static void check_limits(struct tally *tally)
     memcpy(header_bytes, head, sizeof head);
     for (uint32_t edition = EDITION_B; edition <= EDITION_D; edition++)
         for (uint32_t length = LIMIT - HEAD - 6; length <= LIMIT - HEAD + 6; length++) {
-            uint32_t rows[] = {2, 0, 0, 0, 3, 0, 0, 1, 5, 0, 1, 9, 22, 0, 10, length, 22, 0, 10, length};
-            both_write(tally, edition, rows, 16, header_bytes, LIMIT + 4096, LIMIT + 16, NULL);
-            both_write(tally, edition, rows, 20, header_bytes, LIMIT + 4096, 16, NULL);
-            both_write(tally, edition, rows, 18, header_bytes, LIMIT + 4096, 16, NULL);
+            uint32_t rows[] = {2, 0, 0, 0, 4, 3, 0, 0, 1, 2, 5, 0, 1, 9, 3, 22, 0, 10, length, 4, 22, 0, 10, length, 5};
+            both_write(tally, edition, rows, 20, header_bytes, LIMIT + 4096, LIMIT + 16, NULL);
+            rows[SKIP] = 5;
+            both_write(tally, edition, rows, 25, header_bytes, LIMIT + 4096, 16, NULL);
+            both_write(tally, edition, rows, 22, header_bytes, LIMIT + 4096, 16, NULL);
+            rows[SKIP] = 3;
+            both_write(tally, edition, rows, 25, header_bytes, LIMIT + 4096, 16, NULL);
         }
 }
 

@@ -9,7 +9,7 @@
 #include <stdlib.h>
 #include <string.h>
 
-enum { MOST_LINE = 65536, MOST_TEXT = 1 << 22, MOST_COMMAND = 4096, EDITION_B = 1, EDITION_D = 2, ROW_NUMBERS = 4 };
+enum { MOST_LINE = 65536, MOST_TEXT = 1 << 22, MOST_COMMAND = 4096, EDITION_B = 1, EDITION_D = 2, ROW_NUMBERS = 5 };
 
 struct tally {
     unsigned long passed;
@@ -75,7 +75,7 @@ static void hold(struct tally *tally, const char *name, uint32_t edition, size_t
            (int)printed.length, printed.bytes);
 }
 
-/* A row of the case, in the form of document 01's listing; `next` becomes the number behind its four. */
+/* A row of the case, in the form of document 01's listing; `next` becomes the number behind its five. */
 static void print_row(FILE *listing, char **next)
 {
     unsigned long number[ROW_NUMBERS];
@@ -83,7 +83,7 @@ static void print_row(FILE *listing, char **next)
         number[i] = strtoul(*next, next, 10);
         *next += **next == ',';
     }
-    fprintf(listing, "%lu\t%lu\t%lu\t%lu\t", number[0], number[1], number[2], number[3]);
+    fprintf(listing, "%lu\t%lu\t%lu\t%lu\t%lu\t", number[0], number[1], number[2], number[3], number[4]);
     for (unsigned long place = number[2]; place < number[2] + number[3]; place++)
         fprintf(listing, "%02x", input[place]);
     fputs(number[3] == 0 ? "-\n" : "\n", listing);
@@ -167,8 +167,8 @@ int main(int count, char **arguments)
     program[EDITION_B] = arguments[1];
     program[EDITION_D] = arguments[2];
     check_second(&tally, "no rows but the head", comments(0));
-    check_second(&tally, "4,096 rows", comments(4093));
-    check_second(&tally, "4,097 rows", comments(4094));
+    check_second(&tally, "3,072 rows", comments(3069));
+    check_second(&tally, "3,073 rows", comments(3070));
     check_second(&tally, "65,536 bytes", (comments(7), SECOND_LISTING_INPUT));
     check_second(&tally, "65,537 bytes", SECOND_LISTING_INPUT + 1);
     check_second(&tally, "cut", comments(9) - 1);

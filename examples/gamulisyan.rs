@@ -81,8 +81,10 @@ extern "C" {
     pub fn gamulisyan_version() -> u32;
 }
 
-/// Kind, level, start and length of one row.
-pub type Row = [u32; 4];
+/// Kind, level, start, length and skip of one row: skip is the row behind all that belongs to it.
+pub type Row = [u32; ROW_NUMBERS];
+
+pub const ROW_NUMBERS: usize = 5;
 
 const USUAL_ROWS: usize = 32;
 
@@ -90,8 +92,8 @@ const USUAL_ROWS: usize = 32;
 type Reader = unsafe extern "C" fn(u32, *const u8, usize, *mut u32, usize) -> Answer;
 
 fn read_into(reader: Reader, edition: u32, input: &[u8], rows: &mut [Row]) -> Answer {
-    // the entry asks nothing of its caller but two valid slices, and rows of four numbers lie one behind the other
-    unsafe { reader(edition, input.as_ptr(), input.len(), rows.as_mut_ptr().cast(), rows.len() * 4) }
+    // the entry asks nothing of its caller but two valid slices, and rows of five numbers lie one behind the other
+    unsafe { reader(edition, input.as_ptr(), input.len(), rows.as_mut_ptr().cast(), rows.len() * ROW_NUMBERS) }
 }
 
 /// The rows of the header at the front of `input`, and the header's length; or the refusal.
@@ -105,10 +107,10 @@ pub fn read_tolerant(edition: u32, input: &[u8]) -> Result<(Vec<Row>, usize), An
 }
 
 fn read_by(reader: Reader, edition: u32, input: &[u8]) -> Result<(Vec<Row>, usize), Answer> {
-    let mut rows = vec![[0; 4]; USUAL_ROWS];
+    let mut rows = vec![[0; ROW_NUMBERS]; USUAL_ROWS];
     let mut read = read_into(reader, edition, input, &mut rows);
     if read.answer == ROWS_SHORT {
-        rows.resize(read.rows, [0; 4]);
+        rows.resize(read.rows, [0; ROW_NUMBERS]);
         read = read_into(reader, edition, input, &mut rows);
     }
     if read.answer != ACCEPTED {
@@ -124,7 +126,7 @@ pub fn write(edition: u32, rows: &[Row], pool: &[u8], output: &mut [u8]) -> Resu
         gamulisyan_write(
             edition,
             rows.as_ptr().cast(),
-            rows.len() * 4,
+            rows.len() * ROW_NUMBERS,
             pool.as_ptr(),
             pool.len(),
             output.as_mut_ptr(),
@@ -163,6 +165,10 @@ mod tests {
         assert_eq!(write(EDITION_B, &rows, &M, &mut output), Ok(15));
         assert_eq!(output, M[..15]);
         assert_eq!(write(EDITION_B, &rows, &M, &mut output[..14]), Err(Answer { answer: 16, place: 15, rows: 0 }));
+        assert_eq!(rows.iter().map(|row| row[4]).collect::<Vec<_>>(), [3, 2, 3]);
+        let mut wrong = rows.clone();
+        wrong[1][4] = 3;
+        assert_eq!(write(EDITION_B, &wrong, &M, &mut output), Err(Answer { answer: 15, place: 1, rows: 0 }));
     }
 
     #[test]

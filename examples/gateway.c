@@ -20,9 +20,6 @@ enum { REFUSED = 1, NO_CALL = 2 };
 /* Enough for most headers; a longer one costs a second call. */
 enum { USUAL_ROWS = 32, FIRST_INPUT = 4096 };
 
-/* An agent and its addresses stand at this level directly under its list; the agents of resolvers stand deeper. */
-enum { LISTED_AGENT = 1 };
-
 struct bytes {
     uint8_t *at;
     size_t length;
@@ -33,6 +30,7 @@ struct row {
     uint32_t level;
     uint32_t start;
     uint32_t length;
+    uint32_t skip; /* the row behind all that belongs to this one */
 };
 
 static _Noreturn void stop(const char *why)
@@ -103,7 +101,7 @@ static struct gamulisyan_answer read_rows(uint32_t edition, struct bytes input, 
 static struct row row_at(const uint32_t *rows, size_t place)
 {
     const uint32_t *number = rows + place * GAMULISYAN_ROW_NUMBERS;
-    return (struct row){number[0], number[1], number[2], number[3]};
+    return (struct row){number[0], number[1], number[2], number[3], number[4]};
 }
 
 static void print_text(struct bytes input, struct row row)
@@ -125,25 +123,41 @@ static const char *list_opened(uint32_t kind)
     }
 }
 
-/* Each name ends the line of the agent before it; a row at envelope level ends the list. */
+/* An agent's name, and behind it its addresses, if it has any: the rows of its resolvers and extras are skipped. */
+static void print_agent(struct bytes input, const uint32_t *rows, size_t place)
+{
+    struct row name = row_at(rows, place);
+    print_text(input, name);
+    for (size_t next = place + 1; next < name.skip; next = row_at(rows, next).skip) {
+        struct row row = row_at(rows, next);
+        if (row.kind != GAMULISYAN_ADDRESSES_OPEN)
+            continue;
+        for (size_t address = next + 1; address < row.skip; address++)
+            print_text(input, row_at(rows, address));
+    }
+    putchar('\n');
+}
+
+/* Hops from agent to agent, however deep their resolvers go. */
+static void print_list(struct bytes input, const uint32_t *rows, size_t place, const char *list)
+{
+    size_t end = row_at(rows, place).skip;
+    for (size_t agent = place + 1; agent < end; agent = row_at(rows, agent).skip) {
+        fputs(list, stdout);
+        print_agent(input, rows, agent);
+    }
+}
+
+/* Into each envelope, and there from parameter to parameter. */
 static void print_receivers(struct bytes input, const uint32_t *rows, size_t count)
 {
-    const char *list = NULL;
-    const char *line_end = "";
-    for (size_t place = 0; place < count; place++) {
+    for (size_t place = 0; place < count;) {
         struct row row = row_at(rows, place);
-        if (row.level < LISTED_AGENT)
-            list = list_opened(row.kind);
-        if (list == NULL || row.level != LISTED_AGENT)
-            continue;
-        if (row.kind == GAMULISYAN_AGENT_NAME) {
-            printf("%s%s", line_end, list);
-            line_end = "\n";
-        }
-        if (row.kind == GAMULISYAN_AGENT_NAME || row.kind == GAMULISYAN_ADDRESS)
-            print_text(input, row);
+        const char *list = list_opened(row.kind);
+        if (list != NULL)
+            print_list(input, rows, place, list);
+        place = row.kind == GAMULISYAN_EXTENSION_OPENS || row.kind == GAMULISYAN_BASE_OPENS ? place + 1 : row.skip;
     }
-    fputs(line_end, stdout);
 }
 
 static int say_refusal(const char *call, struct gamulisyan_answer answer)

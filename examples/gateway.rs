@@ -8,12 +8,11 @@ use gamulisyan::{Answer, Row, EDITION_B, EDITION_D, LENGTH_FORM_WIDE};
 use std::io::{Read, Write};
 use std::process::ExitCode;
 
+/// Extensions and the base, the lowest kinds.
+const BASE_OPENS: u32 = 2;
 const TO_OPENS: u32 = 12;
 const RECEIVER_OPENS: u32 = 14;
-const AGENT_NAME: u32 = 15;
-const ADDRESS: u32 = 17;
-/// An agent and its addresses stand at this level directly under its list; the agents of resolvers stand deeper.
-const LISTED_AGENT: u32 = 1;
+const ADDRESSES_OPEN: u32 = 16;
 
 /// The name of the list that a row opens, none if whoever is in it does not receive the message.
 fn list_opened(kind: u32) -> Option<&'static str> {
@@ -24,32 +23,47 @@ fn list_opened(kind: u32) -> Option<&'static str> {
     }
 }
 
-fn end_line(lines: &mut Vec<u8>) {
-    if !lines.is_empty() {
-        lines.push(b'\n');
+/// An agent's name, and behind it its addresses, if it has any: the rows of its resolvers and extras are skipped.
+fn agent(input: &[u8], rows: &[Row], place: usize, lines: &mut Vec<u8>) {
+    put_text(input, rows[place], lines);
+    let mut next = place + 1;
+    while next < skip(rows, place) {
+        if rows[next][0] == ADDRESSES_OPEN {
+            for address in next + 1..skip(rows, next) {
+                put_text(input, rows[address], lines);
+            }
+        }
+        next = skip(rows, next);
     }
+    lines.push(b'\n');
 }
 
-/// A line for each agent: the list, the name, the addresses.
+fn put_text(input: &[u8], [_, _, start, length, _]: Row, lines: &mut Vec<u8>) {
+    lines.push(b'\t');
+    lines.extend_from_slice(&input[start as usize..][..length as usize]);
+}
+
+/// The row behind all that belongs to this one.
+fn skip(rows: &[Row], place: usize) -> usize {
+    rows[place][4] as usize
+}
+
+/// A line for each agent: the list, the name, the addresses. Into each envelope, there from parameter to parameter, and in a list from
+/// agent to agent.
 fn receivers(input: &[u8], rows: &[Row]) -> Vec<u8> {
     let mut lines = Vec::new();
-    let mut list = None;
-    for &[kind, level, start, length] in rows {
-        if level < LISTED_AGENT {
-            list = list_opened(kind);
+    let mut place = 0;
+    while place < rows.len() {
+        if let Some(name) = list_opened(rows[place][0]) {
+            let mut next = place + 1;
+            while next < skip(rows, place) {
+                lines.extend_from_slice(name.as_bytes());
+                agent(input, rows, next, &mut lines);
+                next = skip(rows, next);
+            }
         }
-        let name = match list {
-            Some(name) if level == LISTED_AGENT && (kind == AGENT_NAME || kind == ADDRESS) => name,
-            _ => continue,
-        };
-        if kind == AGENT_NAME {
-            end_line(&mut lines);
-            lines.extend_from_slice(name.as_bytes());
-        }
-        lines.push(b'\t');
-        lines.extend_from_slice(&input[start as usize..][..length as usize]);
+        place = if rows[place][0] <= BASE_OPENS { place + 1 } else { skip(rows, place) };
     }
-    end_line(&mut lines);
     lines
 }
 

@@ -39,8 +39,10 @@ enum {
 
 enum { GAMULISYAN_EDITION_B = 1, GAMULISYAN_EDITION_D = 2 };
 
-/* A row is four numbers: kind, level, start and length of its bytes in the input or pool. */
-enum { GAMULISYAN_ROW_NUMBERS = 4 };
+/* A row is five numbers: kind, level, start and length of its bytes in the input or pool, and skip: the row behind all that belongs to it.
+   That is for an envelope the next envelope's row, or the row count; for another opening row, an agent's name or kind 8 the row behind its
+   contents; for a key the row behind its value; for any other row the next one. So a list is walked by hopping from agent to agent. */
+enum { GAMULISYAN_ROW_NUMBERS = 5 };
 
 /* Kinds of row. The bytes of kinds 20, 22 and 28 are notes, in which the line breaks 09, 0A and 0D are allowed; all other texts are
    lines and have none. */
@@ -116,7 +118,7 @@ struct gamulisyan_dated {
     struct gamulisyan_date date;
 };
 
-/* Takes an input and rows lent: `numbers` counts their uint32_t, four for each row. Reads the header at the front of the input.
+/* Takes an input and rows lent: `numbers` counts their uint32_t, five for each row. Reads the header at the front of the input.
    Answers 0, the place of the payload's first byte and the rows read; or a refusal and its place, and only for 14 the rows
    needed, to be lent by a second call. Leaves the rows read at the front of `rows`, their starts being places in the input, and
    after a refusal nothing. */
@@ -129,8 +131,8 @@ struct gamulisyan_answer gamulisyan_read(uint32_t edition, const uint8_t *input,
 struct gamulisyan_answer gamulisyan_read_tolerant(uint32_t edition, const uint8_t *input, size_t length, uint32_t *rows, size_t numbers);
 
 /* Takes rows, `numbers` again counting uint32_t, the pool whose bytes they view (for rows just read: their input) and an output
-   lent. Answers 0, the bytes written and the rows; or a refusal, checked in this order: 1; 15 at the row that is wrong; 5 at
-   the row of the envelope; 16 at the bytes needed, to be lent by a second call. Leaves the header at the front of `output`, and
+   lent. Answers 0, the bytes written and the rows; or a refusal, checked in this order: 1; 15 at the row that is wrong, and only where no row is wrong otherwise at the lowest with
+   a wrong skip number; 5 at the row of the envelope; 16 at the bytes needed, to be lent by a second call. Leaves the header at the front of `output`, and
    after a refusal nothing. */
 struct gamulisyan_answer gamulisyan_write(uint32_t edition, const uint32_t *rows, size_t numbers, const uint8_t *pool, size_t pool_length,
                                           uint8_t *output, size_t length);

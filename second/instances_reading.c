@@ -26,7 +26,7 @@ static void expect_read(struct bench *bench, const char *name, uint32_t edition,
     if (passed && answer == ACCEPTED) {
         size_t numbers = (size_t)rows * ROW_NUMBERS;
         struct second_reply tight = second_read(edition, header->bytes, header->length, bench->rows, numbers - 1);
-        struct second_reply exact = second_read(edition, header->bytes, header->length, bench->rows, numbers + 3);
+        struct second_reply exact = second_read(edition, header->bytes, header->length, bench->rows, numbers + ROW_NUMBERS - 1);
         passed = same(tight, ROOM_EXCEEDED, place, rows) && same(exact, ACCEPTED, place, rows)
                  && writes_back(bench, edition, place, rows);
     }

@@ -9,7 +9,7 @@ static void list_row(const uint32_t *row, const uint8_t *input, FILE *listing)
     static const char hex[] = "0123456789abcdef";
     const uint32_t start = row[2];
     const uint32_t length = row[3];
-    fprintf(listing, "%" PRIu32 "\t%" PRIu32 "\t%" PRIu32 "\t%" PRIu32 "\t", row[0], row[1], start, length);
+    fprintf(listing, "%" PRIu32 "\t%" PRIu32 "\t%" PRIu32 "\t%" PRIu32 "\t%" PRIu32 "\t", row[0], row[1], start, length, row[4]);
     if (length == 0)
         fputc('-', listing);
     for (uint32_t place = 0; place < length; place++) {

@@ -33,8 +33,23 @@ static void add_row(struct reader *reader, uint32_t kind, uint32_t level, size_t
         row[1] = level;
         row[2] = (uint32_t)start;
         row[3] = (uint32_t)length;
+        row[4] = (uint32_t)reader->row_count + 1;
     }
     reader->row_count++;
+}
+
+/* All that belongs to a row has been read: its skip number is the next row. */
+static void end_row(struct reader *reader, uint64_t row)
+{
+    if (reader->rows != NULL)
+        reader->rows[row * ROW_NUMBERS + 4] = (uint32_t)reader->row_count;
+}
+
+/* For the last line of a stage: what it read from `row` on belongs to that row. */
+static bool ends_row(struct reader *reader, uint64_t row, bool read)
+{
+    end_row(reader, row);
+    return read;
 }
 
 static bool take_code(struct reader *reader, uint8_t *code)
@@ -134,7 +149,8 @@ static bool read_any(struct reader *reader, uint32_t level)
 
 static bool read_extra(struct reader *reader, uint32_t level)
 {
-    return read_text(reader, KIND_EXTRA_KEY, level) && read_any(reader, level);
+    uint64_t key = reader->row_count;
+    return ends_row(reader, key, read_text(reader, KIND_EXTRA_KEY, level) && read_any(reader, level));
 }
 
 static bool read_representation(struct reader *reader)
@@ -151,7 +167,7 @@ static bool read_representation(struct reader *reader)
 }
 
 /* From, id and via stand in the order of their codes, and the extras of D have the code after them. */
-static bool read_received(struct reader *reader)
+static bool read_received_parts(struct reader *reader)
 {
     if (!read_text(reader, KIND_RECEIVED_BY, LEVEL_ENVELOPE) || !read_date(reader, LEVEL_RECEIVED))
         return false;
@@ -176,17 +192,24 @@ static bool read_received(struct reader *reader)
     return false;
 }
 
+static bool read_received(struct reader *reader)
+{
+    uint64_t by = reader->row_count;
+    return ends_row(reader, by, read_received_parts(reader));
+}
+
 static bool read_agents(struct reader *reader, uint32_t level);
 
 static bool read_agent_part(struct reader *reader, uint8_t code, uint32_t level)
 {
+    uint64_t opening = reader->row_count;
     if (code == CODE_ADDRESSES) {
         add_opening_row(reader, KIND_ADDRESSES, level);
-        return read_texts(reader, KIND_ADDRESS, level);
+        return ends_row(reader, opening, read_texts(reader, KIND_ADDRESS, level));
     }
     if (code == CODE_RESOLVERS) {
         add_opening_row(reader, KIND_RESOLVERS, level);
-        return read_agents(reader, level + 1);
+        return ends_row(reader, opening, read_agents(reader, level + 1));
     }
     return read_extra(reader, level);
 }
@@ -194,6 +217,7 @@ static bool read_agent_part(struct reader *reader, uint8_t code, uint32_t level)
 /* An agent whose 02 has just been taken. Its parts stand in the order of their codes; only extras repeat. */
 static bool read_agent(struct reader *reader, uint32_t level)
 {
+    uint64_t name = reader->row_count;
     if (level > AGENT_LEVELS)
         return refuse(reader, AGENT_TOO_DEEP, reader->place - 1);
     if (!read_text(reader, KIND_AGENT_NAME, level))
@@ -203,7 +227,7 @@ static bool read_agent(struct reader *reader, uint32_t level)
     uint8_t code;
     while (take_code(reader, &code)) {
         if (code == CODE_CLOSING)
-            return true;
+            return ends_row(reader, name, true);
         if (code < least || (code > CODE_RESOLVERS && code != extra))
             return refuse_code(reader);
         if (!read_agent_part(reader, code, level))
@@ -239,23 +263,26 @@ static bool read_single_agent(struct reader *reader)
 
 static bool read_encrypted(struct reader *reader)
 {
+    uint64_t opening = reader->row_count;
     if (reader->edition != EDITION_B)
         return refuse_code(reader);
     add_opening_row(reader, KIND_ENCRYPTED, LEVEL_ENVELOPE);
-    return read_texts(reader, KIND_ENCRYPTED_ITEM, LEVEL_ENVELOPE);
+    return ends_row(reader, opening, read_texts(reader, KIND_ENCRYPTED_ITEM, LEVEL_ENVELOPE));
 }
 
 static bool read_parameter(struct reader *reader, uint8_t code)
 {
+    uint64_t opening = reader->row_count;
     switch (code) {
     case CODE_OWN_KEY:
-        return read_text(reader, KIND_OWN_KEY, LEVEL_ENVELOPE) && read_text(reader, KIND_OWN_VALUE, LEVEL_ENVELOPE);
+        return ends_row(reader, opening,
+                        read_text(reader, KIND_OWN_KEY, LEVEL_ENVELOPE) && read_text(reader, KIND_OWN_VALUE, LEVEL_ENVELOPE));
     case CODE_TO:
         add_opening_row(reader, KIND_TO, LEVEL_ENVELOPE);
-        return read_agents(reader, LEVEL_FIRST_AGENT);
+        return ends_row(reader, opening, read_agents(reader, LEVEL_FIRST_AGENT));
     case CODE_FROM:
         add_opening_row(reader, KIND_FROM, LEVEL_ENVELOPE);
-        return read_single_agent(reader);
+        return ends_row(reader, opening, read_single_agent(reader));
     case CODE_REPRESENTATION:
         return read_representation(reader);
     case CODE_COMMENTS:
@@ -268,12 +295,12 @@ static bool read_parameter(struct reader *reader, uint8_t code)
         return read_encrypted(reader);
     case CODE_INTENDED_RECEIVER:
         add_opening_row(reader, KIND_INTENDED_RECEIVER, LEVEL_ENVELOPE);
-        return read_agents(reader, LEVEL_FIRST_AGENT);
+        return ends_row(reader, opening, read_agents(reader, LEVEL_FIRST_AGENT));
     case CODE_RECEIVED:
         return read_received(reader);
     case CODE_TRANSPORT_BEHAVIOUR:
         add_opening_row(reader, KIND_TRANSPORT_BEHAVIOUR, LEVEL_ENVELOPE);
-        return read_any(reader, LEVEL_ENVELOPE);
+        return ends_row(reader, opening, read_any(reader, LEVEL_ENVELOPE));
     default:
         return refuse_code(reader);
     }
@@ -331,10 +358,11 @@ static bool read_envelope(struct reader *reader, unsigned earlier, bool *base)
         return refuse(reader, OVER_LIMIT, identifier);
     if (!read_length(reader))
         return false;
+    uint64_t opening = reader->row_count;
     *base = byte == IDENTIFIER_BASE;
     add_row(reader, *base ? KIND_BASE : KIND_EXTENSION, LEVEL_ENVELOPE, identifier, 0);
     bool head = *base ? read_representation(reader) && read_date(reader, LEVEL_ENVELOPE) : read_received(reader);
-    return head && read_parameters(reader);
+    return ends_row(reader, opening, head && read_parameters(reader));
 }
 
 static struct reader read_header(uint32_t edition, bool tolerant, const uint8_t *input, size_t length, uint32_t *rows)

@@ -15,7 +15,7 @@ enum {
     LONG_FRONT = 7,  /* identifier, two zero bytes and four length bytes */
     SHORT_MOST = 65535,
     LONG_LEAST = SHORT_MOST + 1 - SHORT_FRONT + LONG_FRONT,
-    ROW_NUMBERS = 4 /* kind, level, start, length */
+    ROW_NUMBERS = 5 /* kind, level, start, length, skip */
 };
 
 enum {

@@ -37,7 +37,7 @@ struct second_date {
     uint32_t designator; /* 0 for none */
 };
 
-/* `rows_length` counts u32 numbers; four make a row, and the room is the whole rows among them. */
+/* `rows_length` counts u32 numbers; five make a row, and the room is the whole rows among them. */
 struct second_reply second_read(uint32_t edition, const uint8_t *input, size_t length,
                                 uint32_t *rows, size_t rows_length);
 
@@ -59,7 +59,7 @@ struct second_answer second_date_decode(uint32_t kind, const uint8_t *bytes, siz
 struct second_answer second_date_encode(uint32_t kind, const struct second_date *date, uint8_t *output, size_t room);
 
 /* The text of the listing program for this input. An input of SECOND_LISTING_INPUT + 1 bytes is already too long. */
-enum { SECOND_LISTING_INPUT = 65536, SECOND_LISTING_ROWS = 4096 };
+enum { SECOND_LISTING_INPUT = 65536, SECOND_LISTING_ROWS = 3072 };
 void second_listing(uint32_t edition, const uint8_t *input, size_t length, FILE *listing);
 
 #endif

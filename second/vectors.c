@@ -1,4 +1,4 @@
-/* Runs the recorded cases of one folder: read.tsv, write.tsv, number.tsv, date.tsv, days.tsv, breaks.tsv and tolerant.tsv. Each case is given its own lent
+/* Runs the recorded cases of one folder: read.tsv, write.tsv, number.tsv, date.tsv, days.tsv, breaks.tsv, tolerant.tsv and skips.tsv. Each case is given its own lent
    memory between guards, and the whole of it is compared afterwards. */
 #include "second.h"
 
@@ -231,6 +231,29 @@ static bool check_date(const struct fields *fields, struct bench *bench)
                                                   : check_date_decode(fields, bench);
 }
 
+/* edition, input, the text with its tabs and line ends as \t and \n; or that text's first line alone */
+static bool check_listing(const struct fields *fields, struct bench *bench, bool whole)
+{
+    size_t length = hex_bytes(fields->text[2], bench->given);
+    size_t expected = 0;
+    for (const char *text = fields->text[3]; *text != '\0'; text++) {
+        bool escaped = *text == '\\';
+        text += escaped;
+        bench->expected[expected++] = (uint8_t)(!escaped ? *text : *text == 't' ? '\t' : '\n');
+    }
+    FILE *listing = tmpfile();
+    if (listing == NULL)
+        return false;
+    second_listing((uint32_t)number(fields->text[1]), bench->given, length, listing);
+    rewind(listing);
+    size_t got = fread(inside(&bench->target), 1, MOST_LENT, listing);
+    fclose(listing);
+    if ((whole ? got == expected : got >= expected) && memcmp(inside(&bench->target), bench->expected, expected) == 0)
+        return true;
+    printf("  got %.*s", (int)got, (const char *)inside(&bench->target));
+    return false;
+}
+
 /* a case that names its call; a read's numbers are lent, not rows */
 static bool check_named(const struct fields *fields, struct bench *bench)
 {
@@ -238,6 +261,8 @@ static bool check_named(const struct fields *fields, struct bench *bench)
         return check_reading(fields->text + 1, number(fields->text[2]), bench);
     if (strcmp(fields->text[0], "write") == 0)
         return check_writing(fields->text + 1, bench);
+    if (strncmp(fields->text[0], "listing", 7) == 0)
+        return check_listing(fields, bench, fields->text[0][7] == '\0');
     return check_date(fields, bench);
 }
 
@@ -323,6 +348,7 @@ int main(int count, char **arguments)
     check_file(arguments[1], "days.tsv", check_named, &bench, &tally);
     check_file(arguments[1], "breaks.tsv", check_named, &bench, &tally);
     check_file(arguments[1], "tolerant.tsv", check_tolerant, &bench, &tally);
+    check_file(arguments[1], "skips.tsv", check_named, &bench, &tally);
     printf("%u passed, %u failed\n", tally.passed, tally.failed);
     return tally.failed == 0 ? 0 : 1;
 }

@@ -4,6 +4,7 @@
 #include "second.h"
 
 #include "rules.h"
+#include "skips.h"
 #include "values.h"
 
 #include <string.h>
@@ -373,6 +374,9 @@ struct second_reply second_write(uint32_t edition, const uint32_t *rows, size_t 
     look_ahead(&writer);
     if (!measure_envelopes(&writer, &measure) || rows_length % ROW_NUMBERS != 0)
         return refused(NO_TABLE, writer.place);
+    uint64_t wrong_skip = second_wrong_skip(rows, writer.row_count);
+    if (wrong_skip < writer.row_count)
+        return refused(NO_TABLE, wrong_skip);
     if (measure.over_limit)
         return refused(OVER_LIMIT, measure.over_limit_row);
     if (measure.total > output_length)

@@ -14,7 +14,7 @@ use Rattle.meaning.specs.Basics.{pick}
 use Rattle.meaning.specs.Told.{Edition, Strictness, strict}
 use Rattle.meaning.specs.Headers.{Placed, Answer, refused, accepted, readBy, read}
 use Rattle.meaning.specs.Writing.{Written, written, unwritten}
-use Rattle.meaning.specs.Memory.{tableOf, cellsOf, roomOf, laidOver, Reply, readReply, readMemory, answerBy, rowsBy, writeReply, writeMemory, write, writeAnswer, writeOutput}
+use Rattle.meaning.specs.Memory.{tableOf, cellsOf, skipsOf, roomOf, laidOver, Reply, readReply, readMemory, answerBy, rowsBy, writeReply, writeMemory, write, writeAnswer, writeOutput}
 use Rattle.meaning.specs.Payload.{partStart, partEnd, partBytes, payloadStart, payloadEnd, payloadBytes}
 use Rattle.laws.specs.Logic.{areBytes}
 use Rattle.laws.specs.PlainRows.{other}
@@ -81,7 +81,7 @@ same-table {reading = reading} {out = out} {after = after} {bytes = bytes} {a = 
       answers = f .answers;
       ends = f .ends ∙ sym (l .ends);
       count = f .count ∙ n;
-      means = means ∙ ap (cellsOf (bytes ++ payload)) (sym (rows-read f)) ∙ ap (λ (x : List ℕ). cellsOf x (firstRows (b .rows) after)) front;
+      means = (means .0 ∙ ap (cellsOf (bytes ++ payload)) (sym (rows-read f)) ∙ ap (λ (x : List ℕ). cellsOf x (firstRows (b .rows) after)) front, means .1 ∙ ap skipsOf (sym (rows-read f)));
       leaves = rows-behind f;
     }
 

@@ -13,7 +13,7 @@ use Rattle.meaning.specs.Basics.{pick}
 use Rattle.meaning.specs.Told.{Strictness}
 use Rattle.meaning.specs.Headers.{Placed, Answer, refused, accepted, readBy}
 use Rattle.meaning.specs.Writing.{Written, written, unwritten}
-use Rattle.meaning.specs.Memory.{rowWidth, tableOf, cellsOf, roomOf, laidOver, Reply, reply, readReply, readMemory, answerBy, rowsBy, writeReply, writeMemory, write, writeAnswer, writeOutput}
+use Rattle.meaning.specs.Memory.{rowWidth, tableOf, cellsOf, skipsHeld, roomOf, laidOver, Reply, reply, readReply, readMemory, answerBy, rowsBy, writeReply, writeMemory, write, writeAnswer, writeOutput}
 use Rattle.meaning.specs.Plain.{Decoded, decoded, undecoded, Outcome, outcome, decodeOutcome, encodeOutcome, encodeMemory}
 use Rattle.laws.specs.Rows.{rows-whole}
 use Rattle.laws.specs.Plans.{written-writes}
@@ -148,8 +148,8 @@ module _ {edition : ℕ} {rows pool before after : List ℕ} {a : declared.Reply
   pub same-count : {bytes : List ℕ} → write edition rows pool (length before) ≡ written bytes → (found : List Placed) (input : List ℕ) → SameMeaning rows pool (tableOf found) input → length found ≡ a .rows
   same-count {bytes} q found input m =
       let (e, k, w) = written-known edition rows pool (length before) bytes q in
-      let (table, n, c, writes, few, fits) = written-writes e (length before) (cellsOf pool rows) bytes w in
-      omega (arith, rows-whole pool rows table c, rows-whole input (tableOf found) table (sym m ∙ c), table-length found, lays q .count)
+      let (table, n, c, writes, few, fits) = written-writes e (length before) (cellsOf pool rows) (skipsHeld rows) bytes w in
+      omega (arith, rows-whole pool rows table c, rows-whole input (tableOf found) table (sym (m .0) ∙ c), table-length found, lays q .count)
 
 -- The coders
 

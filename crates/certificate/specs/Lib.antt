@@ -3,5 +3,6 @@ pub mod OneAnswer
 pub mod Lent
 pub mod Calls
 pub mod Tolerant
+pub mod Walks
 pub mod Coders
 pub mod Premises

@@ -12,7 +12,8 @@ use Rattle.meaning.specs.Editions.{shared, own, moves}
 use Rattle.meaning.specs.Reading.{takeValue, find, look, stepMove, step, run, inside}
 use Rattle.meaning.specs.Headers.{envelope, header, readBy}
 use Rattle.meaning.specs.Writing.{valid, writeValue, wayOf, fit, fitRow, closeWithin, close, planOf, writeRows}
-use Rattle.meaning.specs.Memory.{row, cellsOf, laidOver, write, answerBy, rowsBy, readAnswer, writeAnswer, writeOutput}
+use Rattle.meaning.specs.Skips.{belongs, belonging, heldAgainst}
+use Rattle.meaning.specs.Memory.{row, cellsOf, ranksOf, skipsOf, skipsHeld, laidOver, write, answerBy, rowsBy, readAnswer, writeAnswer, writeOutput}
 use Rattle.meaning.specs.Plain.{digitsWithin, digitsOf, packed, decodeNumber, numberDecoded, numberBytes, numberEncoded, dateOf, decodeDate, dateDecoded, dateInRange, dateEncoded}
 use Rattle.meaning.specs.Cases.{hex, aDate, baseWith, inMemory, baseRows, replyIs, outcomeIs}
 use Rattle.meaning.specs.Widths.{sizedBase}
@@ -43,14 +44,14 @@ lent n = replicate n 0
 
 -- read in 3 rows, up to byte 15
 abbrev isRead : ℕ → Bool
-isRead edition = replyIs 0 15 3 (readAnswer edition aHeader (lent 12))
+isRead edition = replyIs 0 15 3 (readAnswer edition aHeader (lent 15))
 
 -- a block of no bytes behind 19 and four zeros: 11 strictly, and 0 tolerantly
 abbrev wideHeader : List ℕ
 wideHeader = sizedBase (hex 0x1_0b_19_00_00_00_00)
 
 abbrev isReadTolerantly : ℕ → Bool
-isReadTolerantly edition = replyIs 11 15 0 (readAnswer edition wideHeader (lent 20)) && replyIs 0 21 5 (answerBy tolerant edition wideHeader (lent 20))
+isReadTolerantly edition = replyIs 11 15 0 (readAnswer edition wideHeader (lent 25)) && replyIs 0 21 5 (answerBy tolerant edition wideHeader (lent 25))
 
 -- written into just the room that it needs
 abbrev isWritten : ℕ → List ℕ → ℕ → ℕ → Bool
@@ -72,5 +73,5 @@ pub premises : T (
     areBytes aHeader && isRead 1 && isRead 2 && isReadTolerantly 1 && isReadTolerantly 2 && isWritten 1 (inMemory (baseRows 5 9 [])) 15 3 && isWritten 2 (inMemory (baseRows 5 9 [])) 15 3 && plainTable (inMemory (baseRows 5 9 [])) aHeader &&
     isWritten 1 encrypted 17 4 && not (plainTable encrypted aHeader) && isWritten 2 forwarded 15 3 && not (plainTable forwarded aHeader) && areCoded
     )
-unfolding textByte takeText textOk turn takeNumber numberOk lastDay passes takeDate dateOk highFirst tooWide takeBytes blockOf takeBlock blockOk shared own moves takeValue find look stepMove step run inside envelope header readBy valid writeValue wayOf fit fitRow closeWithin close planOf writeRows cellsOf laidOver write answerBy rowsBy writeAnswer writeOutput digitsWithin digitsOf packed decodeNumber numberDecoded numberBytes numberEncoded decodeDate dateDecoded dateInRange dateEncoded
+unfolding textByte takeText textOk turn takeNumber numberOk lastDay passes takeDate dateOk highFirst tooWide takeBytes blockOf takeBlock blockOk shared own moves takeValue find look stepMove step run inside envelope header readBy valid writeValue wayOf fit fitRow closeWithin close planOf writeRows belongs belonging heldAgainst cellsOf ranksOf skipsOf skipsHeld laidOver write answerBy rowsBy writeAnswer writeOutput digitsWithin digitsOf packed decodeNumber numberDecoded numberBytes numberEncoded decodeDate dateDecoded dateInRange dateEncoded
 premises = tt

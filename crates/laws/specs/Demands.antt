@@ -8,15 +8,17 @@ use native.Mathlib.Omega.{arith}
 use lib.Dec.{T}
 use lib.ListN.{length, take, drop, length-append}
 use Rattle.meaning.specs.Basics.{every}
-use Rattle.meaning.specs.Told.{Edition, Label, B, D, known, unknown, labelOf, Strictness, strict, toldBy, told}
+use Rattle.meaning.specs.Told.{Edition, Label, known, unknown, labelOf, Strictness, strict, toldBy, told}
 use Rattle.meaning.specs.Reading.{Row}
 use Rattle.meaning.specs.Headers.{Placed, meant, refused, accepted, header, envelopesMost, labelled, readBy, read}
-use Rattle.meaning.specs.Writing.{Cell, cell, wholePlan, written, unwritten, writeRows}
-use Rattle.meaning.specs.Memory.{row, tableOf, cellsOf, write}
+use Rattle.meaning.specs.Writing.{Cell, cell, Envelope, stuck, plan, wholePlan, written, unwritten, writeRows}
+use Rattle.meaning.specs.Skips.{right, wrongAt, belongs, belonging, heldAgainst}
+use Rattle.meaning.specs.Memory.{row, tableOf, cellsOf, ranksOf, skipsOf, skipsHeld, roomOf, write}
 use Rattle.laws.specs.Logic.{areBytes}
 use Rattle.laws.specs.Views.{AllIn, view-part}
 use Rattle.laws.specs.Envelopes.{header-read, header-crosses, CrossHeader}
 use Rattle.laws.specs.Plans.{written-writes, writes-written}
+use Rattle.laws.specs.RightSkips.{table-right, LowestWrong, wrong-means}
 use Rattle.laws.specs.WrittenBytes.{written-are-bytes}
 use Rattle.laws.specs.PlainRows.{other, allPlain}
 use Rattle.meaning.specs.Bytes.{numberMost, textByte, takeText, textOk, turn, takeNumber, numberOk, lastDay, passes, takeDate, dateOk, highFirst, tooWide, takeBytes, blockOf, takeBlock, blockOk}
@@ -31,8 +33,8 @@ use Rattle.laws.specs.RowCounts.{table-few, length-meant}
 use Rattle.laws.specs.WriterRefusals.{WriterRefusal, writer-refusal}
 use Rattle.laws.specs.PlainNumbers.{number-coded-decoded, number-decoded-coded}
 use Rattle.laws.specs.PlainDates.{date-coded-decoded, date-decoded-coded}
-use Rattle.laws.specs.Ties.{only-stuck, whole-front, numberOf, SameMeaning, plainCell, plainTable, read-known, write-known, accepted-known, written-known, read-as, write-as, cells-placed, whole-of, whole-written, same-meaning, plain-cells, seven-or-nine}
-use Rattle.laws.specs.Fifteen.{BeginsTable, NoneWith, stuck-means}
+use Rattle.laws.specs.Ties.{only-stuck, written-right, whole-front, numberOf, SameMeaning, plainCell, plainTable, read-known, write-known, accepted-known, written-known, read-as, write-as, cells-placed, whole-of, whole-written, same-meaning, plain-cells, seven-or-nine}
+use Rattle.laws.specs.Fifteen.{IsTable, plan-table, BeginsTable, NoneWith, stuck-means}
 
 -- 1. "Read then written: the same bytes."
 -- Every accepted input's rows, written under the same edition with the input as pool and room for the bytes, give the bytes up to the payload.
@@ -52,7 +54,8 @@ rows-written strictness edition input place rows t q =
     let cells : cellsOf input (tableOf rows) ≡ map cell (map meant rows) = ap (λ (x : List ℕ). cellsOf x (tableOf rows)) (w .parts) ∙ cells-placed (w .bytes) (w .payload) rows (w .views) in
     record {
       bytes = w .brief;
-      is = λ room h. write-as edition e (tableOf rows) input room k ∙ ap (writeRows e room) cells ∙ writes-written e (w .count) (map meant rows) (w .brief) room (w .written) (w .few) h;
+      is = λ room h. write-as edition e (tableOf rows) input room k ∙ ap (writeRows e room (cellsOf input (tableOf rows))) (table-right rows) ∙ ap (λ (cs : List Cell). writeRows e room cs right) cells
+          ∙ writes-written e (w .count) (map meant rows) (w .brief) room (w .written) (w .few) h;
       shorter = omega (arith, w .place, w .shorter);
       exact = λ s. w .exact s ∙ sym (whole-front (toldBy strictness e) input place rows w);
     }
@@ -73,15 +76,15 @@ ReadsSame edition bytes payload rows pool =
 pub written-then-read : (edition : ℕ) (rows pool : List ℕ) (room : ℕ) (bytes : List ℕ) → T (areBytes pool) → write edition rows pool room ≡ written bytes → (payload : List ℕ) → ReadsSame edition bytes payload rows pool
 written-then-read edition rows pool room bytes t q payload =
     let (e, k, a) = written-known edition rows pool room bytes q in
-    let (table, n, c, w, few, fits) = written-writes e room (cellsOf pool rows) bytes a in
+    let (table, n, c, w, few, fits) = written-writes e room (cellsOf pool rows) (skipsHeld rows) bytes a in
     let (read-rows, f, m) = header-read (told e) w envelopesMost few 0 in
-    (read-rows, read-as strict edition e (bytes ++ payload) k ∙ f payload ∙ ap (λ (x : ℕ). accepted x read-rows) (omega arith), same-meaning e bytes payload rows pool table read-rows (written-are-bytes e pool rows t c w) c m (f []))
+    (read-rows, read-as strict edition e (bytes ++ payload) k ∙ f payload ∙ ap (λ (x : ℕ). accepted x read-rows) (omega arith), same-meaning e bytes payload rows pool table read-rows (written-are-bytes e pool rows t c w) (written-right e room (cellsOf pool rows) (skipsHeld rows) bytes a) c m (f []))
 
 -- what is written holds bytes
 pub written-are-bytes-of : (edition : ℕ) (rows pool : List ℕ) (room : ℕ) (bytes : List ℕ) → T (areBytes pool) → write edition rows pool room ≡ written bytes → T (areBytes bytes)
 written-are-bytes-of edition rows pool room bytes t q =
     let (e, k, a) = written-known edition rows pool room bytes q in
-    let (table, n, c, w, few, fits) = written-writes e room (cellsOf pool rows) bytes a in
+    let (table, n, c, w, few, fits) = written-writes e room (cellsOf pool rows) (skipsHeld rows) bytes a in
     written-are-bytes e pool rows t c w
 
 -- 3. "The label can't lie": "A table written under one edition and read under the other is the same table, or is refused with 7 or 9: never a different table."
@@ -93,17 +96,18 @@ RefusedSevenOrNine edition input = (refusal : ℕ) × (place : ℕ) × (read edi
 pub label-cannot-lie : (e : Edition) (rows pool : List ℕ) (room : ℕ) (bytes : List ℕ) → T (areBytes pool) → write (numberOf e) rows pool room ≡ written bytes → (payload : List ℕ)
     → ((plainTable rows pool ≡ true) × ReadsSame (numberOf (other e)) bytes payload rows pool) ⊎ ((plainTable rows pool ≡ false) × RefusedSevenOrNine (numberOf (other e)) (bytes ++ payload))
 label-cannot-lie e rows pool room bytes t q payload =
-    let (table, n, c, w, few, fits) = written-writes e room (cellsOf pool rows) bytes (sym (write-known e rows pool room) ∙ q) in
-    at table (ap (every plainCell) c ∙ plain-cells table) c (written-are-bytes e pool rows t c w) (header-crosses e w envelopesMost few 0)
+    let a = sym (write-known e rows pool room) ∙ q in
+    let (table, n, c, w, few, fits) = written-writes e room (cellsOf pool rows) (skipsHeld rows) bytes a in
+    at table (ap (every plainCell) c ∙ plain-cells table) (written-right e room (cellsOf pool rows) (skipsHeld rows) bytes a) c (written-are-bytes e pool rows t c w) (header-crosses e w envelopesMost few 0)
   where
-    at : (table : List Row) → plainTable rows pool ≡ allPlain table → cellsOf pool rows ≡ map cell table → T (areBytes bytes) → CrossHeader envelopesMost e 0 bytes table
+    at : (table : List Row) → plainTable rows pool ≡ allPlain table → skipsHeld rows ≡ right → cellsOf pool rows ≡ map cell table → T (areBytes bytes) → CrossHeader envelopesMost e 0 bytes table
         → ((plainTable rows pool ≡ true) × ReadsSame (numberOf (other e)) bytes payload rows pool) ⊎ ((plainTable rows pool ≡ false) × RefusedSevenOrNine (numberOf (other e)) (bytes ++ payload))
-    at table p c u (inl (a, (read-rows, f, m))) =
+    at table p s c u (inl (a, (read-rows, f, m))) =
         inl (
           p ∙ a,
-          (read-rows, read-known strict (other e) (bytes ++ payload) ∙ f payload ∙ ap (λ (x : ℕ). accepted x read-rows) (omega arith), same-meaning (other e) bytes payload rows pool table read-rows u c m (f [])),
+          (read-rows, read-known strict (other e) (bytes ++ payload) ∙ f payload ∙ ap (λ (x : ℕ). accepted x read-rows) (omega arith), same-meaning (other e) bytes payload rows pool table read-rows u s c m (f [])),
         )
-    at table p c u (inr (a, f)) =
+    at table p s c u (inr (a, f)) =
         let (refusal, place, r, k) = f payload in
         inr (p ∙ a, (refusal, place, read-known strict (other e) (bytes ++ payload) ∙ r, seven-or-nine refusal k))
 
@@ -119,12 +123,22 @@ payload-alters-nothing edition input place rows t q payload =
 
 -- 5. "15: rows up to here begin no table of this edition, or start plus length passes the pool, or rows or slice end early"
 -- The rows before the one that 15 names begin a table, its limits aside; with that row none do; where it names the row count, they are no table.
+-- Order 7: "15 for a wrong skip number, at its row, after 15's other faults": or the rows are a table, the skip numbers before that row are right, and its is wrong.
 
-pub fifteen-means : (e : Edition) (rows pool : List ℕ) (room i : ℕ) → write (numberOf e) rows pool room ≡ unwritten 15 i
-    → (front : List Cell) × (rest : List Cell) × (cellsOf pool rows ≡ front ++ rest) × (length front ≡ i) × BeginsTable e front × NoneWith e front rest
+abbrev pub BeginsNone : Edition → List ℕ → List ℕ → ℕ → Type 0
+BeginsNone e rows pool i = (front : List Cell) × (rest : List Cell) × (cellsOf pool rows ≡ front ++ rest) × (length front ≡ i) × BeginsTable e front × NoneWith e front rest
+
+pub record WrongSkip (e : Edition) (rows pool : List ℕ) (i : ℕ) : Type 0 where
+  pub table : IsTable e (cellsOf pool rows)
+  pub lowest : LowestWrong rows (roomOf rows) 0 i
+
+pub fifteen-means : (e : Edition) (rows pool : List ℕ) (room i : ℕ) → write (numberOf e) rows pool room ≡ unwritten 15 i → BeginsNone e rows pool i ⊎ WrongSkip e rows pool i
 unfolding writeRows
-fifteen-means e rows pool room i q =
-    stuck-means e (cellsOf pool rows) i (only-stuck room i (wholePlan e (cellsOf pool rows)) (sym (write-known e rows pool room) ∙ q))
+fifteen-means e rows pool room i q = at (only-stuck room i (skipsHeld rows) (wholePlan e (cellsOf pool rows)) (sym (write-known e rows pool room) ∙ q))
+  where
+    at : (wholePlan e (cellsOf pool rows) ≡ stuck i) ⊎ ((bs : List ℕ) × (vs : List Envelope) × (wholePlan e (cellsOf pool rows) ≡ plan bs vs) × (skipsHeld rows ≡ wrongAt i)) → BeginsNone e rows pool i ⊎ WrongSkip e rows pool i
+    at (inl p) = inl (stuck-means e (cellsOf pool rows) i p)
+    at (inr (bs, vs, p, w)) = inr (record { table = plan-table e (cellsOf pool rows) bs vs p; lowest = wrong-means rows i w })
 
 -- 6. The shape of an answer. Accepted: the place is in the input, every row views bytes of the header, and there are never more rows than bytes.
 
@@ -200,5 +214,5 @@ pub premises : T (
     wasAccepted (read 1 aHeader) && wasAccepted (read 2 aHeader) && wasWritten (write 1 (inMemory (baseRows 5 9 [])) aHeader 15) && wasWritten (write 2 (inMemory (baseRows 5 9 [])) aHeader 15) &&
     plainTable (inMemory (baseRows 5 9 [])) aHeader && wasWritten (write 1 encrypted aHeader 17) && not (plainTable encrypted aHeader) && wasWritten (write 2 forwarded aHeader 15) && not (plainTable forwarded aHeader)
     )
-unfolding textByte takeText textOk turn takeNumber numberOk lastDay passes takeDate dateOk highFirst tooWide takeBytes blockOf takeBlock blockOk shared own moves takeValue find look stepMove step run inside envelope header readBy valid writeValue wayOf fit fitRow closeWithin close planOf writeRows cellsOf write
+unfolding textByte takeText textOk turn takeNumber numberOk lastDay passes takeDate dateOk highFirst tooWide takeBytes blockOf takeBlock blockOk shared own moves takeValue find look stepMove step run inside envelope header readBy valid writeValue wayOf fit fitRow closeWithin close planOf writeRows belongs belonging heldAgainst cellsOf ranksOf skipsOf skipsHeld write
 premises = tt

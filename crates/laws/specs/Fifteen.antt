@@ -157,6 +157,10 @@ split-at (c ∷ cs) (suc j) h = let (xs, zs, p, q) = split-at cs j (omega arith)
 pub IsTable : Edition → List Cell → Type 0
 IsTable e cs = (bs : List ℕ) × (vs : List Envelope) × (wholePlan e cs ≡ plan bs vs)
 
+pub plan-table : (e : Edition) (cs : List Cell) (bs : List ℕ) (vs : List Envelope) → wholePlan e cs ≡ plan bs vs → IsTable e cs
+unfolding IsTable
+plan-table e cs bs vs q = (bs, vs, q)
+
 pub BeginsTable : Edition → List Cell → Type 0
 BeginsTable e cs = (more : List Cell) × IsTable e (cs ++ more)
 

@@ -2,7 +2,11 @@
 pub mod Logic
 pub mod From
 pub mod HighFirst
+pub mod Nesting
 pub mod Rows
+pub mod Hopping
+pub mod Skipping
+pub mod RightSkips
 pub mod Values
 pub mod Tables
 pub mod Lookups
@@ -37,6 +41,7 @@ pub mod CodedNumbers
 pub mod PlainNumbers
 pub mod PlainDates
 pub mod Ties
+pub mod Walks
 pub mod Demands
 pub mod Tolerant
 pub mod Notes

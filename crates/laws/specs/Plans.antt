@@ -12,6 +12,7 @@ use Rattle.meaning.specs.Kinds.{extensionOpens, baseOpens}
 use Rattle.meaning.specs.Told.{Edition, B, D}
 use Rattle.meaning.specs.Editions.{State, state, closed, isQuiet, Move, moves, shared, own, Room}
 use Rattle.meaning.specs.Reading.{Row}
+use Rattle.meaning.specs.Skips.{Skips, right, wrongAt}
 use Rattle.meaning.specs.Headers.{start, envelopesMost, opening}
 use Rattle.meaning.specs.Writing.{Fit, unfit, fits, fitRow, close, Cell, cell, broken, Opens, envelopeRow, innerRow, opensOf, Envelope, envelopeAt, Plan, stuck, plan, onPlan, newPlan, rowPlan, turnPlan, endPlan, nextRow, lastRow, planOf, wholePlan, withinLimit, wrap, headerOf, Limit, fine, exceeds, limits, Written, written, unwritten, limited, planned, writeRows}
 use Rattle.laws.specs.Logic.{left-of, right-of}
@@ -63,7 +64,7 @@ inner-test : T (allRooms innerMoves)
 unfolding moves shared own
 inner-test = tt
 
-inner-kind : (e : Edition) (row : Row) (st st′ : State) (bs : List ℕ) → fitRow e st row ≡ fits st′ bs → 3 ≤ row .kind
+pub inner-kind : (e : Edition) (row : Row) (st st′ : State) (bs : List ℕ) → fitRow e st row ≡ fits st′ bs → 3 ≤ row .kind
 inner-kind e row =
     fit-holds e row (λ st st′ bs. 3 ≤ row .kind)
     (λ st st′ m bs i p.
@@ -221,17 +222,18 @@ limited-is : (e : Edition) (room : ℕ) (cs : List Cell) (table : List Row) (vs 
 limited-is e room cs table vs fine q c h = let (n, w, k) = chain-writes e h envelopesMost q in roomed-is e room cs table n (headerOf vs) (leb (length (headerOf vs)) room) refl c w k
 limited-is e room cs table vs (exceeds i) q c h = tt
 
-planned-is : (e : Edition) (room : ℕ) (cs : List Cell) (p : Plan) → Parse e false (state closed 0 false) cs p → WrittenIs e room cs (planned room p)
-planned-is e room cs (stuck i) w = tt
-planned-is e room cs (plan bs vs) w = let (table, c, h) = parsed-whole e cs bs vs w in limited-is e room cs table vs (limits envelopesMost vs) refl c h
+planned-is : (e : Edition) (room : ℕ) (cs : List Cell) (skips : Skips) (p : Plan) → Parse e false (state closed 0 false) cs p → WrittenIs e room cs (planned room skips p)
+planned-is e room cs skips (stuck i) w = tt
+planned-is e room cs right (plan bs vs) w = let (table, c, h) = parsed-whole e cs bs vs w in limited-is e room cs table vs (limits envelopesMost vs) refl c h
+planned-is e room cs (wrongAt i) (plan bs vs) w = tt
 
-written-is : (e : Edition) (room : ℕ) (cs : List Cell) → WrittenIs e room cs (writeRows e room cs)
+written-is : (e : Edition) (room : ℕ) (cs : List Cell) (skips : Skips) → WrittenIs e room cs (writeRows e room cs skips)
 unfolding writeRows
-written-is e room cs = planned-is e room cs (wholePlan e cs) (parse e cs 0 false (state closed 0 false))
+written-is e room cs skips = planned-is e room cs skips (wholePlan e cs) (parse e cs 0 false (state closed 0 false))
 
 -- what is written is a table of envelopes
-pub written-writes : (e : Edition) (room : ℕ) (cs : List Cell) (w : List ℕ) → writeRows e room cs ≡ written w → (table : List Row) × (n : ℕ) × (cs ≡ map cell table) × Writes e n table w × (n ≤ envelopesMost) × (length w ≤ room)
-written-writes e room cs w q = subst (WrittenIs e room cs) q (written-is e room cs)
+pub written-writes : (e : Edition) (room : ℕ) (cs : List Cell) (skips : Skips) (w : List ℕ) → writeRows e room cs skips ≡ written w → (table : List Row) × (n : ℕ) × (cs ≡ map cell table) × Writes e n table w × (n ≤ envelopesMost) × (length w ≤ room)
+written-writes e room cs skips w q = subst (WrittenIs e room cs) q (written-is e room cs skips)
 
 -- The other way: every table of envelopes is written
 
@@ -281,11 +283,11 @@ writes-planned e (before rows table st₁ ds w k f small more) (suc n) h i st st
     plan-turn e (PlanWrites w n) (PlanWrites (wrap false ds ++ w) (suc n)) false (map cell (rows ++ table)) i st st′ bs ds q (writes-one-more false ds w n i small)
     (plan-rows e (PlanWrites w n) rows table false (λ j st₂ st₃ cs r. writes-planned e more n (omega arith) j st₂ st₃ cs r) (suc i) (start false) st₁ ds f)
 
-planned-written : (room : ℕ) (vs : List Envelope) (bs w : List ℕ) → headerOf vs ≡ w → limits envelopesMost vs ≡ fine → length w ≤ room → planned room (plan bs vs) ≡ written w
+planned-written : (room : ℕ) (vs : List Envelope) (bs w : List ℕ) → headerOf vs ≡ w → limits envelopesMost vs ≡ fine → length w ≤ room → planned room right (plan bs vs) ≡ written w
 planned-written room vs bs w h l k = rw (l, h, le-leb (length w) room k) refl
 
-pub writes-written : (e : Edition) (n : ℕ) (table : List Row) (w : List ℕ) (room : ℕ) → Writes e n table w → n ≤ envelopesMost → length w ≤ room → writeRows e room (map cell table) ≡ written w
+pub writes-written : (e : Edition) (n : ℕ) (table : List Row) (w : List ℕ) (room : ℕ) → Writes e n table w → n ≤ envelopesMost → length w ≤ room → writeRows e room (map cell table) right ≡ written w
 unfolding writeRows
 writes-written e n table w room h few k =
     let (vs, p, (a, l)) = writes-planned e h envelopesMost few 0 (state closed 0 false) (state closed 0 false) [] (closed-close e) in
-    ap (planned room) p ∙ planned-written room vs [] w a l k
+    ap (planned room right) p ∙ planned-written room vs [] w a l k

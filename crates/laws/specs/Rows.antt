@@ -13,13 +13,13 @@ use borrow.Author.Tests.{le-leb}
 use Rattle.meaning.specs.Basics.{pick, every}
 use Rattle.meaning.specs.Reading.{Row}
 use Rattle.meaning.specs.Headers.{Placed}
-use Rattle.meaning.specs.Memory.{rowWidth, numbersOf, tableOf, roomOf, laidOver, cellOf, cellsOf}
+use Rattle.meaning.specs.Memory.{rowWidth, roomOf, cellOf, cellsOf}
 use Rattle.meaning.specs.Writing.{Cell, cell, broken}
 use Rattle.laws.specs.Logic.{both}
 
 -- Putting rows
 
--- row n of the memory m, where m has room for it
+-- row n of the memory m, where m has room for it; its skip number stays, until all rows are put
 unfoldable pub put : List ℕ → ℕ → ℕ → ℕ → ℕ → ℕ → List ℕ
 put m n kind level start len =
     let i = n * rowWidth in
@@ -30,40 +30,46 @@ abbrev pub putAll : List Placed → ℕ → List ℕ → List ℕ
 putAll [] n m = m
 putAll (r ∷ rs) n m = putAll rs (n + 1) (put m n (r .kind) (r .level) (r .start) (length (r .view)))
 
-set-over : (p z : List ℕ) (j i v : ℕ) → j ≡ length p + i → set (p ++ z) j v ≡ p ++ set z i v
+pub set-over : (p z : List ℕ) (j i v : ℕ) → j ≡ length p + i → set (p ++ z) j v ≡ p ++ set z i v
 set-over [] z j i v h = rw (h, zero-add)
 set-over (x ∷ p) z zero i v h = absurd (omega arith)
 set-over (x ∷ p) z (suc j) i v h = ap {B = List ℕ} (λ l. x ∷ l) (set-over p z j i v (omega arith))
 
-put-over : (p : List ℕ) (a b c d : ℕ) (m : List ℕ) (n kind level start len : ℕ) → length p ≡ n * rowWidth
-    → put (p ++ (a ∷ b ∷ c ∷ d ∷ m)) n kind level start len ≡ (p ++ (kind ∷ level ∷ start ∷ len ∷ [])) ++ m
+-- four numbers of each row over memory, whose fifth numbers stay
+abbrev pub fourOf : List Placed → List ℕ → List ℕ
+fourOf [] m = m
+fourOf (r ∷ rs) m = r .kind ∷ r .level ∷ r .start ∷ length (r .view) ∷ getD m 4 0 ∷ fourOf rs (drop rowWidth m)
+
+put-over : (p : List ℕ) (a b c d e : ℕ) (m : List ℕ) (n kind level start len : ℕ) → length p ≡ n * rowWidth
+    → put (p ++ (a ∷ b ∷ c ∷ d ∷ e ∷ m)) n kind level start len ≡ (p ++ (kind ∷ level ∷ start ∷ len ∷ e ∷ [])) ++ m
 unfolding put
-put-over p a b c d m n kind level start len h =
-    let room : n * rowWidth + rowWidth ≤ length (p ++ (a ∷ b ∷ c ∷ d ∷ m)) = simp length-append (omega arith) in
+put-over p a b c d e m n kind level start len h =
+    let room : n * rowWidth + rowWidth ≤ length (p ++ (a ∷ b ∷ c ∷ d ∷ e ∷ m)) = simp length-append (omega arith) in
     rw (
       le-leb _ _ room,
-      set-over p (a ∷ b ∷ c ∷ d ∷ m) (n * rowWidth) 0 kind (omega arith),
-      set-over p (kind ∷ b ∷ c ∷ d ∷ m) (n * rowWidth + 1) 1 level (omega arith),
-      set-over p (kind ∷ level ∷ c ∷ d ∷ m) (n * rowWidth + 2) 2 start (omega arith),
-      set-over p (kind ∷ level ∷ start ∷ d ∷ m) (n * rowWidth + 3) 3 len (omega arith),
+      set-over p (a ∷ b ∷ c ∷ d ∷ e ∷ m) (n * rowWidth) 0 kind (omega arith),
+      set-over p (kind ∷ b ∷ c ∷ d ∷ e ∷ m) (n * rowWidth + 1) 1 level (omega arith),
+      set-over p (kind ∷ level ∷ c ∷ d ∷ e ∷ m) (n * rowWidth + 2) 2 start (omega arith),
+      set-over p (kind ∷ level ∷ start ∷ d ∷ e ∷ m) (n * rowWidth + 3) 3 len (omega arith),
     )
-    (sym (append-assoc p (kind ∷ level ∷ start ∷ len ∷ []) m))
+    (sym (append-assoc p (kind ∷ level ∷ start ∷ len ∷ e ∷ []) m))
 
-all-over : (rs : List Placed) (n : ℕ) (p m : List ℕ) → length p ≡ n * rowWidth → length rs * rowWidth ≤ length m → putAll rs n (p ++ m) ≡ p ++ (tableOf rs ++ drop (length (tableOf rs)) m)
+all-over : (rs : List Placed) (n : ℕ) (p m : List ℕ) → length p ≡ n * rowWidth → length rs * rowWidth ≤ length m → putAll rs n (p ++ m) ≡ p ++ fourOf rs m
 all-over [] n p m h l = refl
 all-over (r ∷ rs) n p [] h l = absurd (omega arith)
 all-over (r ∷ rs) n p (a ∷ []) h l = absurd (omega arith)
 all-over (r ∷ rs) n p (a ∷ b ∷ []) h l = absurd (omega arith)
 all-over (r ∷ rs) n p (a ∷ b ∷ c ∷ []) h l = absurd (omega arith)
-all-over (r ∷ rs) n p (a ∷ b ∷ c ∷ d ∷ m) h l =
-    let k : length (p ++ numbersOf r) ≡ (n + 1) * rowWidth = simp length-append (omega arith) in
-    ap (putAll rs (n + 1)) (put-over p a b c d m n (r .kind) (r .level) (r .start) (length (r .view)) h)
-    ∙ all-over rs (n + 1) (p ++ numbersOf r) m k (omega arith)
-    ∙ append-assoc p (numbersOf r) (tableOf rs ++ drop (length (tableOf rs)) m)
+all-over (r ∷ rs) n p (a ∷ b ∷ c ∷ d ∷ []) h l = absurd (omega arith)
+all-over (r ∷ rs) n p (a ∷ b ∷ c ∷ d ∷ e ∷ m) h l =
+    let four = r .kind ∷ r .level ∷ r .start ∷ length (r .view) ∷ e ∷ [] in
+    let k : length (p ++ four) ≡ (n + 1) * rowWidth = simp length-append (omega arith) in
+    ap (putAll rs (n + 1)) (put-over p a b c d e m n (r .kind) (r .level) (r .start) (length (r .view)) h)
+    ∙ all-over rs (n + 1) (p ++ four) m k (omega arith)
+    ∙ append-assoc p four (fourOf rs m)
 
--- rows that have room are the table over the front of the memory
-pub put-all-over : (rs : List Placed) (m : List ℕ) → length rs ≤ roomOf m → putAll rs 0 m ≡ laidOver m (tableOf rs)
-unfolding laidOver
+-- rows that have room are their four numbers over the front of the memory
+pub put-all-over : (rs : List Placed) (m : List ℕ) → length rs ≤ roomOf m → putAll rs 0 m ≡ fourOf rs m
 put-all-over rs m h = all-over rs 0 [] m refl (room-is h)
   where
     room-is : length rs ≤ roomOf m → length rs * rowWidth ≤ length m
@@ -91,18 +97,18 @@ cell-at : (pool all : List ℕ) {k₀ k₁ k₂ k₃ l₀ l₁ l₂ l₃ : ℕ} 
     → cellOf pool (getD all k₀ 0) (getD all k₁ 0) (getD all k₂ 0) (getD all k₃ 0) ≡ cellOf pool (getD all l₀ 0) (getD all l₁ 0) (getD all l₂ 0) (getD all l₃ 0)
 cell-at pool all p q r s = rw (p, q, r, s) refl
 
-cells-shift : (pool : List ℕ) (a b c d : ℕ) (rows : List ℕ) (i n : ℕ) → cellsFor pool (a ∷ b ∷ c ∷ d ∷ rows) (suc i) n ≡ cellsFor pool rows i n
+cells-shift : (pool : List ℕ) (a b c d e : ℕ) (rows : List ℕ) (i n : ℕ) → cellsFor pool (a ∷ b ∷ c ∷ d ∷ e ∷ rows) (suc i) n ≡ cellsFor pool rows i n
 unfolding cellsFor
-cells-shift pool a b c d rows i zero =
-    let q : suc (suc (suc (suc (length rows)))) % rowWidth ≡ length rows % rowWidth = omega arith in
+cells-shift pool a b c d e rows i zero =
+    let q : suc (suc (suc (suc (suc (length rows))))) % rowWidth ≡ length rows % rowWidth = omega arith in
     ap (λ (k : ℕ). pick (eqb k 0) [] (broken ∷ [])) q
-cells-shift pool a b c d rows i (suc n) =
-    let q₀ : suc i * rowWidth ≡ suc (suc (suc (suc (i * rowWidth)))) = omega arith in
-    let q₁ : suc i * rowWidth + 1 ≡ suc (suc (suc (suc (i * rowWidth + 1)))) = omega arith in
-    let q₂ : suc i * rowWidth + 2 ≡ suc (suc (suc (suc (i * rowWidth + 2)))) = omega arith in
-    let q₃ : suc i * rowWidth + 3 ≡ suc (suc (suc (suc (i * rowWidth + 3)))) = omega arith in
-    ap (λ (x : Cell). x ∷ cellsFor pool (a ∷ b ∷ c ∷ d ∷ rows) (suc (suc i)) n) (cell-at pool (a ∷ b ∷ c ∷ d ∷ rows) q₀ q₁ q₂ q₃)
-    ∙ ap (λ (x : List Cell). rowCell pool rows i ∷ x) (cells-shift pool a b c d rows (suc i) n)
+cells-shift pool a b c d e rows i (suc n) =
+    let q₀ : suc i * rowWidth ≡ suc (suc (suc (suc (suc (i * rowWidth))))) = omega arith in
+    let q₁ : suc i * rowWidth + 1 ≡ suc (suc (suc (suc (suc (i * rowWidth + 1))))) = omega arith in
+    let q₂ : suc i * rowWidth + 2 ≡ suc (suc (suc (suc (suc (i * rowWidth + 2))))) = omega arith in
+    let q₃ : suc i * rowWidth + 3 ≡ suc (suc (suc (suc (suc (i * rowWidth + 3))))) = omega arith in
+    ap (λ (x : Cell). x ∷ cellsFor pool (a ∷ b ∷ c ∷ d ∷ e ∷ rows) (suc (suc i)) n) (cell-at pool (a ∷ b ∷ c ∷ d ∷ e ∷ rows) q₀ q₁ q₂ q₃)
+    ∙ ap (λ (x : List Cell). rowCell pool rows i ∷ x) (cells-shift pool a b c d e rows (suc i) n)
 
 cells-indexed : (pool rows : List ℕ) → cellsOf pool rows ≡ cellsFor pool rows 0 (roomOf rows)
 unfolding cellsOf cellsFor
@@ -110,10 +116,11 @@ cells-indexed pool [] = refl
 cells-indexed pool (kind ∷ []) = refl
 cells-indexed pool (kind ∷ (level ∷ [])) = refl
 cells-indexed pool (kind ∷ (level ∷ (start ∷ []))) = refl
-cells-indexed pool (kind ∷ (level ∷ (start ∷ (len ∷ rows)))) =
-    let q : suc (suc (suc (suc (length rows)))) / rowWidth ≡ suc (length rows / rowWidth) = omega arith in
-    ap (λ (x : List Cell). cellOf pool kind level start len ∷ x) (cells-indexed pool rows ∙ sym (cells-shift pool kind level start len rows 0 (roomOf rows)))
-    ∙ ap (cellsFor pool (kind ∷ level ∷ start ∷ len ∷ rows) 0) (sym q)
+cells-indexed pool (kind ∷ (level ∷ (start ∷ (len ∷ [])))) = refl
+cells-indexed pool (kind ∷ (level ∷ (start ∷ (len ∷ (skip ∷ rows))))) =
+    let q : suc (suc (suc (suc (suc (length rows))))) / rowWidth ≡ suc (length rows / rowWidth) = omega arith in
+    ap (λ (x : List Cell). cellOf pool kind level start len ∷ x) (cells-indexed pool rows ∙ sym (cells-shift pool kind level start len skip rows 0 (roomOf rows)))
+    ∙ ap (cellsFor pool (kind ∷ level ∷ start ∷ len ∷ skip ∷ rows) 0) (sym q)
 
 -- what holds of a row's cell, whatever its numbers are, and of a broken one, holds of every cell
 pub every-cell : (test : Cell → Bool) (pool : List ℕ) → ((kind level start len : ℕ) → T (test (cellOf pool kind level start len))) → T (test broken) → (rows : List ℕ) → T (every test (cellsOf pool rows))
@@ -122,11 +129,12 @@ every-cell test pool f b [] = tt
 every-cell test pool f b (kind ∷ []) = both (test broken) true b tt
 every-cell test pool f b (kind ∷ (level ∷ [])) = both (test broken) true b tt
 every-cell test pool f b (kind ∷ (level ∷ (start ∷ []))) = both (test broken) true b tt
-every-cell test pool f b (kind ∷ (level ∷ (start ∷ (len ∷ rows)))) =
+every-cell test pool f b (kind ∷ (level ∷ (start ∷ (len ∷ [])))) = both (test broken) true b tt
+every-cell test pool f b (kind ∷ (level ∷ (start ∷ (len ∷ (skip ∷ rows))))) =
     both (test (cellOf pool kind level start len)) (every test (cellsOf pool rows)) (f kind level start len) (every-cell test pool f b rows)
 
 -- a table that is written has whole rows only
-no-broken : (cells : List Cell) (table : List Row) → broken ∷ cells ≡ map cell table → ⊥
+pub no-broken : (cells : List Cell) (table : List Row) → broken ∷ cells ≡ map cell table → ⊥
 no-broken cells [] q = let z : _≡_ {A = ℕ} 0 1 = cc q in absurd (omega arith)
 no-broken cells (row ∷ table) q = let z : _≡_ {A = ℕ} 0 1 = cc q in absurd (omega arith)
 
@@ -137,8 +145,9 @@ rows-whole pool [] (row ∷ table) q = let z : _≡_ {A = ℕ} 0 1 = cc q in abs
 rows-whole pool (kind ∷ []) table q = absurd (no-broken [] table q)
 rows-whole pool (kind ∷ (level ∷ [])) table q = absurd (no-broken [] table q)
 rows-whole pool (kind ∷ (level ∷ (start ∷ []))) table q = absurd (no-broken [] table q)
-rows-whole pool (kind ∷ (level ∷ (start ∷ (many ∷ rows)))) [] q = let z : _≡_ {A = ℕ} 0 1 = cc q in absurd (omega arith)
-rows-whole pool (kind ∷ (level ∷ (start ∷ (many ∷ rows)))) (row ∷ table) q =
+rows-whole pool (kind ∷ (level ∷ (start ∷ (many ∷ [])))) table q = absurd (no-broken [] table q)
+rows-whole pool (kind ∷ (level ∷ (start ∷ (many ∷ (skip ∷ rows))))) [] q = let z : _≡_ {A = ℕ} 0 1 = cc q in absurd (omega arith)
+rows-whole pool (kind ∷ (level ∷ (start ∷ (many ∷ (skip ∷ rows))))) (row ∷ table) q =
     let rest : cellsOf pool rows ≡ map cell table = cc q in let h = rows-whole pool rows table rest in
     omega arith
 

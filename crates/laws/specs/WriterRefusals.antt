@@ -1,4 +1,4 @@
--- The writer's refusals: 1 at 0; 15 at a row, or at the row count; 5 at an envelope's row; 16 at the bytes needed, with which it is written.
+-- The writer's refusals: 1 at 0; 15 at a row, or at the row count, a wrong skip number at its row; 5 at an envelope's row; 16 at the bytes needed, with which it is written.
 use Prim.Native.Nat.{ℕ, zero, suc, _+_, _≤_, _<_}
 use mathlib.Core.List.{List, [], _∷_}
 use mathlib.Core.Bool.{Bool, true, false}
@@ -13,8 +13,10 @@ use Rattle.meaning.specs.Editions.{State, state, closed}
 use Rattle.meaning.specs.Reading.{Row}
 use Rattle.meaning.specs.Headers.{start, envelopesMost}
 use Rattle.meaning.specs.Writing.{Fit, unfit, fits, fitRow, close, Cell, cell, broken, Opens, envelopeRow, innerRow, opensOf, Envelope, Plan, stuck, plan, onPlan, newPlan, rowPlan, turnPlan, endPlan, nextRow, planOf, wholePlan, withinLimit, headerOf, Limit, fine, exceeds, limits, Written, written, unwritten, roomed, limited, planned, writeRows, writtenUnder}
-use Rattle.meaning.specs.Memory.{cellsOf, write}
+use Rattle.meaning.specs.Skips.{Skips, right, wrongAt}
+use Rattle.meaning.specs.Memory.{cellsOf, skipsHeld, write}
 use Rattle.laws.specs.Fifteen.{stuck-between}
+use Rattle.laws.specs.RightSkips.{wrong-among}
 
 -- every envelope of a plan has its row below n
 abbrev RowsBelow : ℕ → List Envelope → Type 0
@@ -89,18 +91,20 @@ module _ (edition : ℕ) (rows pool : List ℕ) (room : ℕ) where
       room-refuses bytes (leb (length bytes) room) refl (w (length bytes) q ∙ rw (le-leb (length bytes) (length bytes) (omega arith)) refl)
   limited-refuses vs (exceeds i) q h w = past-limit (limit-below (length (cellsOf pool rows)) envelopesMost vs i h q)
 
-  planned-refuses : (e : Edition) (p : Plan) → labelOf edition ≡ known e → wholePlan e (cellsOf pool rows) ≡ p → PlanBelow (length (cellsOf pool rows)) p → Refuses edition rows pool room (planned room p)
+  planned-refuses : (e : Edition) (skips : Skips) (p : Plan) → labelOf edition ≡ known e → skipsHeld rows ≡ skips → wholePlan e (cellsOf pool rows) ≡ p → PlanBelow (length (cellsOf pool rows)) p
+      → Refuses edition rows pool room (planned room skips p)
   unfolding write writeRows
-  planned-refuses e (stuck i) k q h = let l = stuck-between e (cellsOf pool rows) 0 false (state closed 0 false) i q in no-table {i = i} (omega arith)
-  planned-refuses e (plan bs vs) k q h =
-      limited-refuses vs (limits envelopesMost vs) refl h (λ r l. rw k (ap (planned r) q ∙ ap (limited r vs) l))
+  planned-refuses e skips (stuck i) k s q h = let l = stuck-between e (cellsOf pool rows) 0 false (state closed 0 false) i q in no-table {i = i} (omega arith)
+  planned-refuses e (wrongAt i) (plan bs vs) k s q h = let l = wrong-among pool rows i s in no-table {i = i} (omega arith)
+  planned-refuses e right (plan bs vs) k s q h =
+      limited-refuses vs (limits envelopesMost vs) refl h (λ r l. rw (k, s) (ap (planned r right) q ∙ ap (limited r vs) l))
 
-  label-refuses : (l : Label) → labelOf edition ≡ l → Refuses edition rows pool room (writtenUnder room (cellsOf pool rows) l)
+  label-refuses : (l : Label) → labelOf edition ≡ l → Refuses edition rows pool room (writtenUnder room (cellsOf pool rows) (skipsHeld rows) l)
   unfolding writeRows
   label-refuses unknown k = no-edition k
   label-refuses (known e) k =
       let cs = cellsOf pool rows in
-      planned-refuses e (wholePlan e cs) k refl (plan-below e cs 0 false (state closed 0 false) (length cs) (omega arith))
+      planned-refuses e (skipsHeld rows) (wholePlan e cs) k refl refl (plan-below e cs 0 false (state closed 0 false) (length cs) (omega arith))
 
 pub writer-refusal : (edition : ℕ) (rows pool : List ℕ) (room refusal place : ℕ) → write edition rows pool room ≡ unwritten refusal place → WriterRefusal edition rows pool room refusal place
 unfolding write

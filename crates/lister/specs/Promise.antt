@@ -10,7 +10,7 @@ use Rattle.listing.specs.Text.{textAt}
 use Rattle.table.specs.declared.reply.Reply.{Reply}
 use Rattle.reader.specs.Promises.{ReadPromise}
 
--- what the reader answers and lends back, and that the text of it is the listing, where 4,096 rows are lent and the input is not too long
+-- what the reader answers and lends back, and that the text of it is the listing, where 3,072 rows are lent and the input is not too long
 pub record TablePromise (edition : ℕ) (input before : List ℕ) (answer : Reply) (after : List ℕ) : Type 0 where
   pub reads : ReadPromise edition input before answer after
   pub lists : length input ≤ inputMost → roomOf before ≡ rowsLent → textAt (answer .answer) (answer .place) (answer .rows) after input 0 0 ≡ listing edition input

@@ -1,4 +1,4 @@
-// The body of document 01's listing programs: "reads at most 65,536 bytes from standard input (longer: the one line `too long`), lends 4,096 rows".
+// The body of document 01's listing programs: "reads at most 65,536 bytes from standard input (longer: the one line `too long`), lends 3,072 rows".
 // No contract can speak of what a program reads or writes. Promised are the text of `read_table`, which is the listing, its pieces, which leave
 // no gap (`listing::next`), and the line of `too_long`. Of `list` and what prints it is proved that they are safe and end; what they
 // hand to standard output is run and compared.
@@ -10,7 +10,7 @@ ghost use Rattle.lister.specs.Promise.{TablePromise, LongPromise, Turned
 
 const INPUT_MOST: usize = 65536;
 
-const ROWS_LENT: usize = 4096;
+const ROWS_LENT: usize = 3072;
 
 // The listing of what a descriptor reads, in this edition, to standard output. The one byte more tells an input that is too long.
 pub fn list(edition: u32, from: i32) {
@@ -31,7 +31,7 @@ pub fn too_long() -> [u8; 9]
     [b't', b'o', b'o', b' ', b'l', b'o', b'n', b'g', b'\n']
 }
 
-// Lists this input. "lends 4,096 rows".
+// Lists this input. "lends 3,072 rows".
 fn print(edition: u32, input: &[u8]) {
     let mut rows = [0u32; ROWS_LENT * ROW_NUMBERS];
     let table = read_table(edition, input, &mut rows);

@@ -8,14 +8,14 @@ use Rattle.meaning.specs.Basics.{pick}
 use Rattle.meaning.specs.Memory.{rowWidth, roomOf, reply}
 use Rattle.meaning.specs.Listing.{decimal, hexOf, viewed, lineOf, firstLine}
 
--- "A row is four u32 numbers: kind, level, start, length"
+-- "A row is five u32 numbers: kind, level, start, length, skip"
 unfoldable pub rowOf : List ℕ → ℕ → List ℕ
 rowOf rows i = take rowWidth (drop (i * rowWidth) rows)
 
 unfoldable pub viewOf : List ℕ → List ℕ → List ℕ
 viewOf row bytes = take (getD row 3 0) (drop (getD row 2 0) bytes)
 
--- "per row kind, level, start, length, viewed bytes in lower-case hex, or `-` if none"
+-- "per row kind, level, start, length", skip, "viewed bytes in lower-case hex, or `-` if none"
 unfoldable pub rowText : List ℕ → List ℕ → ℕ → List ℕ
 rowText rows bytes i = lineOf (map decimal (rowOf rows i) ++ (viewed (viewOf (rowOf rows i) bytes) ∷ []))
 

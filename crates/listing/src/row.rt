@@ -1,4 +1,4 @@
-// "per row kind, level, start, length, viewed bytes in lower-case hex, or `-` if none": a row's numbers are one piece, its view one or more.
+// "per row kind, level, start, length", skip, "viewed bytes in lower-case hex, or `-` if none": a row's numbers are one piece, its view one or more.
 use crate::Piece;
 use crate::pen::NEWLINE;
 use crate::pen::TAB;

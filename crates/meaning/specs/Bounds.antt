@@ -7,7 +7,8 @@ use Rattle.meaning.specs.Editions.{shared, own, moves}
 use Rattle.meaning.specs.Reading.{takeValue, find, look, stepMove, step, run, inside}
 use Rattle.meaning.specs.Headers.{envelope, header, readBy}
 use Rattle.meaning.specs.Writing.{valid, writeValue, wayOf, fit, fitRow, closeWithin, close, planOf, writeRows}
-use Rattle.meaning.specs.Memory.{cellsOf, laidOver, write, answerBy, rowsBy, writeAnswer, writeOutput}
+use Rattle.meaning.specs.Skips.{belongs, belonging, heldAgainst}
+use Rattle.meaning.specs.Memory.{cellsOf, ranksOf, skipsOf, skipsHeld, laidOver, write, answerBy, rowsBy, writeAnswer, writeOutput}
 use Rattle.meaning.specs.Payload.{payloadStart, payloadEnd, payloadBytes}
 use Rattle.meaning.specs.Plain.{numberValue, digitsWithin, digitsOf, packed, decodeNumber, numberDecoded, numberPlain, numberBytes, numberEncoded, numberOutput, decodeDate, dateDecoded, datePlain, dateInRange, dateEncoded, dateOutput}
 use Rattle.meaning.specs.Listing.{decimal, viewed, lineOf, listingOf, listing}
@@ -18,6 +19,7 @@ use Rattle.meaning.specs.Coding as coding
 use Rattle.meaning.specs.Days.{days}
 use Rattle.meaning.specs.Breaks.{breaks}
 use Rattle.meaning.specs.Widths.{widths}
+use Rattle.meaning.specs.Hops as hops
 
 abbrev pub readings : Bool
 readings =
@@ -33,6 +35,9 @@ abbrev pub values : Bool
 values =
     every decodes coding.numbersRead && coding.numbersWritten && every datesRead coding.datesRead && every datesWritten coding.datesWritten && coding.dateOutputs && coding.listings
 
-pub bounds : T (readings && writings && values && days && breaks && widths)
-unfolding textByte takeText textOk turn takeNumber numberOk lastDay passes takeDate dateOk highFirst tooWide takeBytes blockOf takeBlock blockOk shared own moves takeValue find look stepMove step run inside envelope header readBy valid writeValue wayOf fit fitRow closeWithin close planOf writeRows cellsOf laidOver write answerBy rowsBy writeAnswer writeOutput payloadStart payloadEnd payloadBytes numberValue digitsWithin digitsOf packed decodeNumber numberDecoded numberPlain numberBytes numberEncoded numberOutput decodeDate dateDecoded datePlain dateInRange dateEncoded dateOutput decimal viewed lineOf listingOf listing
+abbrev pub skips : Bool
+skips = every hops.skipsRead hops.read && every hops.rewritten hops.read && every writes hops.wrong && every writes hops.first
+
+pub bounds : T (readings && writings && values && days && breaks && widths && skips)
+unfolding textByte takeText textOk turn takeNumber numberOk lastDay passes takeDate dateOk highFirst tooWide takeBytes blockOf takeBlock blockOk shared own moves takeValue find look stepMove step run inside envelope header readBy valid writeValue wayOf fit fitRow closeWithin close planOf writeRows belongs belonging heldAgainst cellsOf ranksOf skipsOf skipsHeld laidOver write answerBy rowsBy writeAnswer writeOutput payloadStart payloadEnd payloadBytes numberValue digitsWithin digitsOf packed decodeNumber numberDecoded numberPlain numberBytes numberEncoded numberOutput decodeDate dateDecoded datePlain dateInRange dateEncoded dateOutput decimal viewed lineOf listingOf listing
 bounds = tt

@@ -6,7 +6,7 @@ use lib.Dec.{eqb, leb}
 use lib.ListN.{length, take, drop}
 use Rattle.meaning.specs.Basics.{pick}
 use Rattle.meaning.specs.Headers.{Placed, Answer, refused, accepted, read}
-use Rattle.meaning.specs.Memory.{rowWidth, Numbers, row, numbersIn, tableOf, Reply, readReply, writeReply, write}
+use Rattle.meaning.specs.Memory.{rowWidth, Numbers, row, rowsFrom, tableOf, Reply, readReply, writeReply, write}
 use Rattle.meaning.specs.Writing.{Written, written, unwritten}
 use Rattle.meaning.specs.Plain.{Outcome, Date, numberDecoded, numberPlain, numberEncoded, numberBytes, dateDecoded, datePlain, dateEncoded}
 
@@ -55,10 +55,9 @@ abbrev pub rowsIn : Answer → List Placed
 rowsIn (refused refusal place) = []
 rowsIn (accepted place rs) = rs
 
--- an instance's rows, as they stand in memory
+-- an instance's rows, as they stand in memory: with their skip numbers
 abbrev pub inMemory : List Numbers → List ℕ
-inMemory [] = []
-inMemory (r ∷ rs) = numbersIn r ++ inMemory rs
+inMemory rs = rowsFrom 0 rs
 
 -- a reading: edition and input to answer, place and the rows
 pub record Reading : Type 0 where

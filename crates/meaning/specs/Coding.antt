@@ -53,7 +53,7 @@ unwritten =
     unwriting 0 [] [] 0 1 0 ∷ unwriting 3 (baseRows 5 9 []) aBase 0 1 0 ∷
     -- rows or slice end early
     fifteen 1 [] 0 ∷ fifteenPart 2 [] (2 ∷ []) 0 ∷ fifteen 1 (row 2 0 0 0 ∷ []) 1 ∷ fifteen 2 (row 2 0 0 0 ∷ row 3 0 3 1 ∷ []) 2 ∷ unwriting 1 (extensionRows 0) anExtension 1000 15 3 ∷
-    fifteenPart 1 (baseRows 5 9 []) (22 ∷ []) 3 ∷ fifteenPart 2 (baseRows 5 9 []) (22 ∷ 0 ∷ 15 ∷ []) 3 ∷ fifteen 1 (baseRows 5 9 (row 27 0 15 1 ∷ [])) 4 ∷ fifteen 2 (baseRows 5 9 (row 13 0 0 0 ∷ [])) 4 ∷
+    fifteenPart 1 (baseRows 5 9 []) (22 ∷ []) 3 ∷ fifteenPart 2 (baseRows 5 9 []) (22 ∷ 0 ∷ 15 ∷ 1 ∷ []) 3 ∷ fifteen 1 (baseRows 5 9 (row 27 0 15 1 ∷ [])) 4 ∷ fifteen 2 (baseRows 5 9 (row 13 0 0 0 ∷ [])) 4 ∷
     -- envelopes: none first, one behind the base, an own row of another level or length, a head that is not whole
     fifteen 1 (row 3 0 3 1 ∷ []) 0 ∷ fifteen 2 (baseRows 5 9 (row 1 0 0 0 ∷ [])) 3 ∷ fifteen 1 (baseRows 5 9 (row 2 0 0 0 ∷ [])) 3 ∷
     fifteen 1 (row 2 1 0 0 ∷ []) 0 ∷ fifteen 2 (row 1 0 0 1 ∷ []) 0 ∷ fifteen 1 (row 1 0 0 0 ∷ row 8 0 15 1 ∷ baseRows 5 9 []) 2 ∷
@@ -153,18 +153,18 @@ dateOutputs =
     same (dateBytes (dateOf 2000 5 8 4 26 51 481 90)) (aDate ++ hex 0x1_5a) && same (dateOutput 5 (dateOf 2000 5 8 4 26 51 481 0) (lent 10)) (aDate ++ lent 1) &&
     same (dateOutput 5 (dateOf 2000 5 8 4 26 51 481 0) (lent 8)) (lent 8) && same (dateOutput 4 (dateOf 2000 5 8 4 26 51 481 0) (lent 10)) (lent 10)
 
--- document 01's own listing; a refusal; an input at the limit and one byte over
+-- document 01's own listing, with order 7's skip numbers; a refusal; an input at the limit and one byte over
 abbrev example : List ℕ
 example =
     hex 0x1_30_09_32_30_09_35_0a ++ (
-    hex 0x1_32_09_30_09_30_09_30_09_2d_0a ++ (
-    hex 0x1_33_09_30_09_33_09_31_09_31_32_0a ++ (
-    hex 0x1_35_09_30_09_35_09_39_09_33_31_31_31_31_36_31_39_31_35_33_37_36_32_35_39_32_30_0a ++ (
-    hex 0x1_31_33_09_30_09_31_34_09_30_09_2d_0a ++ (
-    hex 0x1_31_35_09_31_09_31_36_09_31_09_36_31_0a)))))
+    hex 0x1_32_09_30_09_30_09_30_09_35_09_2d_0a ++ (
+    hex 0x1_33_09_30_09_33_09_31_09_32_09_31_32_0a ++ (
+    hex 0x1_35_09_30_09_35_09_39_09_33_09_33_31_31_31_31_36_31_39_31_35_33_37_36_32_35_39_32_30_0a ++ (
+    hex 0x1_31_33_09_30_09_31_34_09_30_09_35_09_2d_0a ++ (
+    hex 0x1_31_35_09_31_09_31_36_09_31_09_35_09_36_31_0a)))))
 
 abbrev pub listings : Bool
 listings =
-    same (listing 2 (baseWith 0x14 0x20 (hex 0x1_03_02_61_00_01_01_28))) example && same (listing 1 (hex 0x1_fe_00)) (hex 0x1_32_09_32_09_30_0a) && eqb rowsLent 4096 &&
-    same (listingOf 2 (read 1 aBase)) (hex 0x1_31_34_09_31_35_09_33_0a) && eqb (length (listingOf 3 (read 1 aBase))) 55 && same (viewed (hex 0x1_9a_f0_0b)) (hex 0x1_39_61_66_30_30_62) &&
+    same (listing 2 (baseWith 0x14 0x20 (hex 0x1_03_02_61_00_01_01_28))) example && same (listing 1 (hex 0x1_fe_00)) (hex 0x1_32_09_32_09_30_0a) && eqb rowsLent 3072 &&
+    same (listingOf 2 (read 1 aBase)) (hex 0x1_31_34_09_31_35_09_33_0a) && eqb (length (listingOf 3 (read 1 aBase))) 61 && same (viewed (hex 0x1_9a_f0_0b)) (hex 0x1_39_61_66_30_30_62) &&
     same (listing 1 (replicate 65536 0)) (hex 0x1_33_09_30_09_30_0a) && same (listing 2 (replicate 65537 0)) (hex 0x1_74_6f_6f_20_6c_6f_6e_67_0a)

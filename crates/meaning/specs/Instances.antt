@@ -7,6 +7,7 @@ use Rattle.meaning.specs.Basics.{every}
 use Rattle.meaning.specs.Bytes.{textByte, takeText, turn, takeNumber, lastDay, passes, takeDate, highFirst, tooWide, takeBytes, blockOf, takeBlock}
 use Rattle.meaning.specs.Editions.{shared, own, moves}
 use Rattle.meaning.specs.Reading.{takeValue, find, look, stepMove, step, run, inside}
+use Rattle.meaning.specs.Skips.{belongs, belonging}
 use Rattle.meaning.specs.Headers.{envelope, header, readBy}
 use Rattle.meaning.specs.Plain.{numberValue, decodeNumber, numberDecoded, numberPlain}
 use Rattle.meaning.specs.Memory.{row}
@@ -52,5 +53,5 @@ numbers =
     number (hex 0x1_53_a5_a7_83_a7_00) 10 4 0 ∷ []
 
 pub starred : T (every reads readings && every decodes numbers)
-unfolding textByte takeText turn takeNumber lastDay passes takeDate highFirst tooWide takeBytes blockOf takeBlock shared own moves takeValue find look stepMove step run inside envelope header readBy numberValue decodeNumber numberDecoded numberPlain
+unfolding textByte takeText turn takeNumber lastDay passes takeDate highFirst tooWide takeBytes blockOf takeBlock shared own moves takeValue find look stepMove step run inside envelope header readBy belongs belonging numberValue decodeNumber numberDecoded numberPlain
 starred = tt

@@ -5,6 +5,7 @@ pub mod Bytes
 pub mod Kinds
 pub mod Editions
 pub mod Reading
+pub mod Skips
 pub mod Headers
 pub mod Writing
 pub mod Memory
@@ -19,4 +20,5 @@ pub mod Coding
 pub mod Days
 pub mod Breaks
 pub mod Widths
+pub mod Hops
 pub mod Bounds

@@ -1,20 +1,22 @@
 -- Document 01, the listing program: "prints answer, place, rows; then, if accepted, per row kind, level, start, length, viewed bytes
 -- in lower-case hex, or `-` if none. Numbers are decimal, fields are parted by tabs, each line ends with byte 0A."
-use Prim.Native.Nat.{ℕ, _+_, _/_, _%_}
+-- Order 7: "the listing prints it as a field after length": the skip number.
+use Prim.Native.Nat.{ℕ, suc, _+_, _/_, _%_}
 use mathlib.Core.List.{List, [], _∷_, _++_, map}
 use lib.Dec.{leb, ltb}
 use lib.ListN.{length}
 use Rattle.meaning.specs.Basics.{pick}
 use Rattle.meaning.specs.Headers.{Placed, Answer, refused, accepted, read}
-use Rattle.meaning.specs.Memory.{numbersOf, Reply, readReply}
+use Rattle.meaning.specs.Skips.{skipOf}
+use Rattle.meaning.specs.Memory.{rankOf, numbersIn, numbersOf, Reply, readReply}
 use Rattle.meaning.specs.Plain.{digitsOf}
 
--- "reads at most 65,536 bytes from standard input .., lends 4,096 rows"
+-- "reads at most 65,536 bytes from standard input"; order 7: "the listing program lends 3,072 rows"
 abbrev pub inputMost : ℕ
 inputMost = 65536
 
 abbrev pub rowsLent : ℕ
-rowsLent = 4096
+rowsLent = 3072
 
 abbrev pub digitCharacter : ℕ → ℕ
 digitCharacter d = 0x30 + d
@@ -43,16 +45,17 @@ lineOf (f ∷ (g ∷ fs)) = f ++ (0x09 ∷ lineOf (g ∷ fs))
 abbrev pub firstLine : Reply → List ℕ
 firstLine r = lineOf (decimal (r .answer) ∷ decimal (r .place) ∷ decimal (r .rows) ∷ [])
 
-abbrev pub rowLine : Placed → List ℕ
-rowLine r = lineOf (map decimal (numbersOf r) ++ (viewed (r .view) ∷ []))
+abbrev pub rowLine : Placed → ℕ → List ℕ
+rowLine r skip = lineOf (map decimal (numbersIn (numbersOf r) skip) ++ (viewed (r .view) ∷ []))
 
-abbrev pub rowLines : List Placed → List ℕ
-rowLines [] = []
-rowLines (r ∷ rs) = rowLine r ++ rowLines rs
+-- the lines of the rows from row i on
+abbrev pub rowLines : ℕ → List Placed → List ℕ
+rowLines i [] = []
+rowLines i (r ∷ rs) = rowLine r (skipOf i (rankOf (numbersOf r)) (map rankOf (map numbersOf rs))) ++ rowLines (suc i) rs
 
 abbrev pub linesBehind : ℕ → Answer → List ℕ
 linesBehind room (refused refusal place) = []
-linesBehind room (accepted place rs) = pick (leb (length rs) room) (rowLines rs) []
+linesBehind room (accepted place rs) = pick (leb (length rs) room) (rowLines 0 rs) []
 
 -- the text of any table, with room for so many rows
 unfoldable pub listingOf : ℕ → Answer → List ℕ

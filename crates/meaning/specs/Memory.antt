@@ -1,18 +1,20 @@
 -- Document 01, "Rows lent" and "Answers by number": what a call answers, and what the lent memory holds after it.
 -- "A refused call changes nothing lent; an accepted one changes only its rows or bytes."
-use Prim.Native.Nat.{ℕ, _+_, _/_}
-use mathlib.Core.List.{List, [], _∷_, _++_}
+use Prim.Native.Nat.{ℕ, suc, _+_, _/_}
+use mathlib.Core.List.{List, [], _∷_, _++_, map}
 use lib.Dec.{leb}
 use lib.ListN.{length, take, drop}
 use Rattle.meaning.specs.Basics.{pick}
 use Rattle.meaning.specs.Told.{Strictness, strict, labelOf}
+use Rattle.meaning.specs.Skips.{Rank, rank, skipOf, skipsFrom, Skips, heldAgainst}
 use Rattle.meaning.specs.Headers.{Placed, Answer, refused, accepted, readBy}
 use Rattle.meaning.specs.Writing.{Cell, cell, broken, Written, written, unwritten, writtenUnder}
 
--- "A row is four u32 numbers: kind, level, start, length": how many they are is said here, and in `cellOf` and `cellsOf` below
+-- order 7: "A row is five u32 numbers: kind, level, start, length", skip: how many they are is said here, and where memory is taken by rows below
 abbrev pub rowWidth : ℕ
-rowWidth = 4
+rowWidth = 5
 
+-- a row's numbers but the skip number, which the rows behind it decide
 pub record Numbers : Type 0 where
   pub kind : ℕ
   pub level : ℕ
@@ -22,16 +24,23 @@ pub record Numbers : Type 0 where
 abbrev pub row : ℕ → ℕ → ℕ → ℕ → Numbers
 row k n s l = record { kind = k; level = n; start = s; length = l }
 
-abbrev pub numbersIn : Numbers → List ℕ
-numbersIn r = r .kind ∷ r .level ∷ r .start ∷ r .length ∷ []
+abbrev pub rankOf : Numbers → Rank
+rankOf r = rank (r .kind) (r .level)
+
+abbrev pub numbersIn : Numbers → ℕ → List ℕ
+numbersIn r skip = r .kind ∷ r .level ∷ r .start ∷ r .length ∷ skip ∷ []
+
+-- the rows from row i on, as they stand in memory
+abbrev pub rowsFrom : ℕ → List Numbers → List ℕ
+rowsFrom i [] = []
+rowsFrom i (r ∷ rs) = numbersIn r (skipOf i (rankOf r) (map rankOf rs)) ++ rowsFrom (suc i) rs
 
 -- the numbers of a row that was read
-abbrev pub numbersOf : Placed → List ℕ
-numbersOf r = numbersIn (row (r .kind) (r .level) (r .start) (length (r .view)))
+abbrev pub numbersOf : Placed → Numbers
+numbersOf r = row (r .kind) (r .level) (r .start) (length (r .view))
 
 abbrev pub tableOf : List Placed → List ℕ
-tableOf [] = []
-tableOf (r ∷ rs) = numbersOf r ++ tableOf rs
+tableOf rs = rowsFrom 0 (map numbersOf rs)
 
 -- "start plus length passes the pool": for every row, an opening one too
 abbrev pub cellOf : List ℕ → ℕ → ℕ → ℕ → ℕ → Cell
@@ -44,9 +53,30 @@ cellsOf pool [] = []
 cellsOf pool (kind ∷ []) = broken ∷ []
 cellsOf pool (kind ∷ (level ∷ [])) = broken ∷ []
 cellsOf pool (kind ∷ (level ∷ (start ∷ []))) = broken ∷ []
-cellsOf pool (kind ∷ (level ∷ (start ∷ (len ∷ rows)))) = cellOf pool kind level start len ∷ cellsOf pool rows
+cellsOf pool (kind ∷ (level ∷ (start ∷ (len ∷ [])))) = broken ∷ []
+cellsOf pool (kind ∷ (level ∷ (start ∷ (len ∷ (skip ∷ rows))))) = cellOf pool kind level start len ∷ cellsOf pool rows
 
--- "with a quarter of its length, rounded down, as the room"
+-- where the whole rows stand, and their skip numbers
+unfoldable pub ranksOf : List ℕ → List Rank
+ranksOf [] = []
+ranksOf (kind ∷ []) = []
+ranksOf (kind ∷ (level ∷ [])) = []
+ranksOf (kind ∷ (level ∷ (start ∷ []))) = []
+ranksOf (kind ∷ (level ∷ (start ∷ (len ∷ [])))) = []
+ranksOf (kind ∷ (level ∷ (start ∷ (len ∷ (skip ∷ rows))))) = rank kind level ∷ ranksOf rows
+
+unfoldable pub skipsOf : List ℕ → List ℕ
+skipsOf [] = []
+skipsOf (kind ∷ []) = []
+skipsOf (kind ∷ (level ∷ [])) = []
+skipsOf (kind ∷ (level ∷ (start ∷ []))) = []
+skipsOf (kind ∷ (level ∷ (start ∷ (len ∷ [])))) = []
+skipsOf (kind ∷ (level ∷ (start ∷ (len ∷ (skip ∷ rows))))) = skip ∷ skipsOf rows
+
+unfoldable pub skipsHeld : List ℕ → Skips
+skipsHeld rows = heldAgainst 0 (skipsOf rows) (skipsFrom 0 (ranksOf rows))
+
+-- order 7: "Room is a fifth of the lent length"
 abbrev pub roomOf : List ℕ → ℕ
 roomOf lent = length lent / rowWidth
 
@@ -96,7 +126,7 @@ writeMemory lent (written bytes) = laidOver lent bytes
 
 -- the writer: edition, rows, the pool that they view and the output's room
 unfoldable pub write : ℕ → List ℕ → List ℕ → ℕ → Written
-write edition rows pool room = writtenUnder room (cellsOf pool rows) (labelOf edition)
+write edition rows pool room = writtenUnder room (cellsOf pool rows) (skipsHeld rows) (labelOf edition)
 
 unfoldable pub writeAnswer : ℕ → List ℕ → List ℕ → List ℕ → Reply
 writeAnswer edition rows pool output = writeReply (roomOf rows) (write edition rows pool (length output))

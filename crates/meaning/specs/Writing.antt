@@ -10,6 +10,7 @@ use Rattle.meaning.specs.Kinds.{extensionOpens, baseOpens, standardRepre
 use Rattle.meaning.specs.Told.{Edition, Label, known, unknown}
 use Rattle.meaning.specs.Editions.{State, state, closed, go, Form, text, date, number, block, itself, opens, quiet, isQuiet, Move, noCode, closing, moves}
 use Rattle.meaning.specs.Reading.{Row, Found, none, hit, find, orElse, hasCode, isClosed, tooDeep}
+use Rattle.meaning.specs.Skips.{Skips, right, wrongAt}
 use Rattle.meaning.specs.Headers.{envelopeMost, envelopesMost, start}
 
 abbrev pub isOnly : ℕ → List ℕ → Bool
@@ -223,13 +224,18 @@ abbrev pub limited : ℕ → List Envelope → Limit → Written
 limited room vs fine = roomed room (headerOf vs)
 limited room vs (exceeds i) = unwritten 5 i
 
-abbrev pub planned : ℕ → Plan → Written
-planned room (stuck i) = unwritten 15 i
-planned room (plan bs vs) = limited room vs (limits envelopesMost vs)
+-- order 7: "15 for a wrong skip number, at its row, after 15's other faults"; so 5 and 16 come after it
+abbrev pub skipped : ℕ → List Envelope → Skips → Written
+skipped room vs right = limited room vs (limits envelopesMost vs)
+skipped room vs (wrongAt i) = unwritten 15 i
 
-unfoldable pub writeRows : Edition → ℕ → List Cell → Written
-writeRows e room cs = planned room (wholePlan e cs)
+abbrev pub planned : ℕ → Skips → Plan → Written
+planned room skips (stuck i) = unwritten 15 i
+planned room skips (plan bs vs) = skipped room vs skips
 
-abbrev pub writtenUnder : ℕ → List Cell → Label → Written
-writtenUnder room cs unknown = unwritten 1 0
-writtenUnder room cs (known e) = writeRows e room cs
+unfoldable pub writeRows : Edition → ℕ → List Cell → Skips → Written
+writeRows e room cs skips = planned room skips (wholePlan e cs)
+
+abbrev pub writtenUnder : ℕ → List Cell → Skips → Label → Written
+writtenUnder room cs skips unknown = unwritten 1 0
+writtenUnder room cs skips (known e) = writeRows e room cs skips

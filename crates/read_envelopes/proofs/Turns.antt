@@ -5,7 +5,8 @@ use mathlib.Core.Path.{_≡_, _∙_}
 use lib.ListN.{length}
 use Rattle.meaning.specs.Told.{Told}
 use Rattle.meaning.specs.Headers.{envelopeMost, envelopesMost, header}
-use Rattle.laws.specs.Pouring.{Filling}
+use native.Mathlib.Omega.{arith}
+use Rattle.laws.specs.Pouring.{Filling, headerMost}
 use Rattle.laws.specs.Finishing.{finish, headerAt}
 use Rattle.read_rows.specs.declared.Stage.the-variants.{Go, Refused}
 use Rattle.read_envelopes.specs.declared.envelope.Envelope.{Envelope}
@@ -30,9 +31,9 @@ module _ {t : Told} {s : List ℕ} {left at n : ℕ} {m kept : List ℕ} {r : En
     unfolding behindEnvelope fillingOf PlaceFits
     header-refused h q a = let is = rw h at (a .is) in record { is = q ∙ is; fits = tt }
 
-    pub header-based : {p k : ℕ} → r ≡ envelope.Base p k → finish (header envelopesMost t 0 s) 0 before ≡ headerAt t s left at n m → EnvelopeRead t s left at n m r kept → HeaderRead t s before (Go p k) kept
+    pub header-based : {p k : ℕ} → at ≤ headerMost → r ≡ envelope.Base p k → finish (header envelopesMost t 0 s) 0 before ≡ headerAt t s left at n m → EnvelopeRead t s left at n m r kept → HeaderRead t s before (Go p k) kept
     unfolding behindEnvelope EnvelopeFits fillingOf PlaceFits
-    header-based h q a =
+    header-based few h q a =
         let is = rw h at (a .is) in
         let fits = rw h at (a .fits) in
-        record { is = q ∙ is; fits = fits .0 }
+        record { is = q ∙ is; fits = (fits .0, omega (arith, fits .1, fits .2)) }

@@ -1,4 +1,4 @@
--- The two passes agree, and rows put one by one are the table laid over the lent memory.
+-- The two passes agree, and rows put one by one, and then their skip numbers, are the table laid over the lent memory.
 use Prim.Native.Nat.{ℕ, _+_, _-_, _≤_, _<_}
 use mathlib.Core.List.{List, [], _∷_, _++_}
 use mathlib.Core.Bool.{true, false}
@@ -9,11 +9,12 @@ use lib.ListN.{length, take, drop, length-drop}
 use lib.Seq.{take-all}
 use borrow.Author.Tests.{le-leb, lt-leb}
 use Rattle.meaning.specs.Told.{labelOf, Strictness, strict}
-use Rattle.meaning.specs.Headers.{Answer, refused, accepted, labelled, readBy, read}
-use Rattle.meaning.specs.Memory.{reply, roomOf, answerBy, rowsBy}
+use Rattle.meaning.specs.Headers.{Answer, refused, accepted, envelopeMost, labelled, readBy, read}
+use Rattle.meaning.specs.Memory.{reply, tableOf, roomOf, laidOver, answerBy, rowsBy}
 use Rattle.meaning.specs.Payload.{partStart, partEnd, partBytes, payloadStart, payloadEnd, payloadBytes}
-use Rattle.laws.specs.Rows.{putAll, put-all-over}
-use Rattle.laws.specs.Pouring.{filled, stopped}
+use Rattle.laws.specs.Rows.{putAll}
+use Rattle.laws.specs.Skipping.{skipsLaid, all-laid-over}
+use Rattle.laws.specs.Pouring.{filled, stopped, headerMost}
 use Rattle.laws.specs.Finishing.{finish}
 use Rattle.table.specs.declared.reply.Reply.{Reply}
 use Rattle.table.specs.Reply.{replyOf}
@@ -47,12 +48,12 @@ module _ (strictness : declared.Strictness) (edition : ℕ) (input m : List ℕ)
 -- What the first pass found
 
 module _ (w : Strictness) (edition : ℕ) (input m left : List ℕ) where
-  accepted-by : (p n : ℕ) (a : Answer) → readBy w edition input ≡ a → finish a 0 m ≡ filled p n left → p ≤ length input → AcceptedHeader w edition input p n
-  accepted-by p n (refused refusal place) h q w = absurd (let z : _≡_ {A = ℕ} 0 1 = cc in omega arith)
-  accepted-by p n (accepted place rs) h q w =
+  accepted-by : (p n : ℕ) (a : Answer) → readBy w edition input ≡ a → finish a 0 m ≡ filled p n left → p ≤ length input → n ≤ headerMost + envelopeMost → AcceptedHeader w edition input p n
+  accepted-by p n (refused refusal place) h q u f = absurd (let z : _≡_ {A = ℕ} 0 1 = cc in omega arith)
+  accepted-by p n (accepted place rs) h q d f =
       let u : place ≡ p = cc in
       let v : 0 + length rs ≡ n = cc in
-      record { rows = rs; is = h ∙ ap (λ (x : ℕ). accepted x rs) u; count = omega arith; within = w }
+      record { rows = rs; is = h ∙ ap (λ (x : ℕ). accepted x rs) u; count = omega arith; within = d; few = f }
 
   refused-by : (refusal p : ℕ) (a : Answer) → finish a 0 m ≡ stopped refusal p → a ≡ refused refusal p
   refused-by refusal p (refused x place) q =
@@ -66,7 +67,7 @@ module _ (w : Strictness) (edition : ℕ) (input m left : List ℕ) where
   header-counted {p = p} {n = n} h a =
       let is = rw h at (a .is) in
       let fits = rw h at (a .fits) in
-      accepted-by p n (readBy w edition input) refl is fits
+      accepted-by p n (readBy w edition input) refl is (fits .0) (fits .1)
 
   header-refused : {r : Stage} {refusal p : ℕ} → r ≡ Refused p refusal → Surveyed w edition input m r left → readBy w edition input ≡ refused refusal p
   unfolding fillingOf
@@ -105,13 +106,16 @@ module _ (w : Strictness) (edition : ℕ) (input m : List ℕ) (place n : ℕ) (
   filled-by left (Go p k) q = cc
   filled-by left (Refused p refusal) q = absurd (let z : _≡_ {A = ℕ} 0 1 = cc in omega arith)
 
-  pub all-filled : (left : List ℕ) (r : Stage) → n ≤ roomOf m → Surveyed w edition input m r left → ReadsBy w edition input m (record { answer = 0; place = place; rows = n }) left
+  -- the rows, and then their skip numbers
+  pub all-filled : (mid left : List ℕ) (r : Stage) → n ≤ roomOf m → Surveyed w edition input m r mid → left ≡ skipsLaid mid n n → ReadsBy w edition input m (record { answer = 0; place = place; rows = n }) left
   unfolding answerBy rowsBy
-  all-filled left r h f =
+  all-filled mid left r h f l =
       let c = a .count in
       let q : leb (length (a .rows)) (roomOf m) ≡ true = le-leb (length (a .rows)) (roomOf m) (omega arith) in
-      let kept : putAll (a .rows) 0 m ≡ left = filled-by left r (ap (λ (x : Answer). finish x 0 m) (sym (a .is)) ∙ f .is) in
-      record { answers = rw (a .is, q, c) refl; rows = rw (a .is, q) (sym kept ∙ put-all-over (a .rows) m (omega arith)) }
+      let kept : putAll (a .rows) 0 m ≡ mid = filled-by mid r (ap (λ (x : Answer). finish x 0 m) (sym (a .is)) ∙ f .is) in
+      let laid : left ≡ laidOver m (tableOf (a .rows))
+      = l ∙ ap (λ (x : List ℕ). skipsLaid x n n) (sym kept) ∙ ap (λ (x : ℕ). skipsLaid (putAll (a .rows) 0 m) x x) (sym c) ∙ all-laid-over (a .rows) m (omega arith) in
+      record { answers = rw (a .is, q, c) refl; rows = rw (a .is, q) laid }
 
 -- lent no rows, the first pass leaves them as they are
 pub nothing-lent : (w : Strictness) (edition : ℕ) (input m : List ℕ) (none : List ℕ) (r : Reply) (left : List ℕ) → length none ≡ 0 → ReadsBy w edition input (none ++ m) r left → ReadsBy w edition input m r left

@@ -1,12 +1,13 @@
 -- What the public entries promise: the whole result and the final state of the lent rows, for every edition number, input and lent slice.
-use Prim.Native.Nat.{ℕ, _-_, _≤_}
+use Prim.Native.Nat.{ℕ, _+_, _-_, _≤_}
 use mathlib.Core.List.{List}
 use mathlib.Core.Path.{_≡_}
 use lib.ListN.{length, take, drop}
 use Rattle.meaning.specs.Told.{Strictness, strict, tolerant}
-use Rattle.meaning.specs.Headers.{Placed, accepted, readBy}
+use Rattle.meaning.specs.Headers.{Placed, accepted, envelopeMost, readBy}
 use Rattle.meaning.specs.Memory.{answerBy, rowsBy}
 use Rattle.meaning.specs.Payload.{payloadStart, payloadEnd, payloadBytes}
+use Rattle.laws.specs.Pouring.{headerMost}
 use Rattle.laws.specs.Finishing.{finish}
 use Rattle.table.specs.declared.reply.Reply.{Reply}
 use Rattle.table.specs.Reply.{replyOf}
@@ -49,3 +50,4 @@ pub record AcceptedHeader (strictness : Strictness) (edition : ℕ) (input : Lis
   pub is : readBy strictness edition input ≡ accepted place rows
   pub count : length rows ≡ n
   pub within : place ≤ length input
+  pub few : n ≤ headerMost + envelopeMost

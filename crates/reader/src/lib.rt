@@ -1,6 +1,7 @@
 // The reader: a header as rows in lent memory, and the payload behind it.
 use read_envelopes::header::read_header;
 use read_rows::Stage;
+use skips::lay::lay_skips;
 use table::refusals::EDITION_UNKNOWN;
 use table::refusals::ROWS_SHORT;
 use table::reply::Reply;
@@ -35,7 +36,8 @@ pub fn read_tolerant(edition: u32, input: &[u8], rows: &mut [u32]) -> Reply
     read_by(edition, Strictness::Tolerant, input, rows)
 }
 
-// Either of the two. Two passes of the same functions: the first, over no rows, validates and counts; the second fills.
+// Either of the two. Two passes of the same functions: the first, over no rows, validates and counts; the second fills. A third, over the
+// rows, lays their skip numbers.
 fn read_by(edition: u32, strictness: Strictness, input: &[u8], rows: &mut [u32]) -> Reply
     ensures { λ r. ⌜ ReadsBy (strictnessOf strictness) edition (now (input .entry)) (now (rows .entry)) r (now (rows .exit)) ⌝ }
 {
@@ -65,7 +67,8 @@ fn survey(edition: u32, strictness: Strictness, input: &[u8], rows: &mut [u32]) 
     read_header(input, rows, told)
 }
 
-// The second pass, over a header that is accepted and has n rows. "14: all well, but rows exceed the room": then no row changes.
+// The second pass, over a header that is accepted and has n rows, and then their skip numbers. "14: all well, but rows exceed the room": then no row
+// changes.
 fn fill(
     edition: u32,
     strictness: Strictness,
@@ -85,6 +88,7 @@ fn fill(
         };
     }
     survey(edition, strictness, input, rows);
+    lay_skips(rows, n);
     Reply {
         answer: 0,
         place: place,

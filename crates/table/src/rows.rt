@@ -1,15 +1,16 @@
-// "A row is four u32 numbers: kind, level, start, length." How many they are is said in this file and nowhere else in the code.
+// "A row is five u32 numbers: kind, level, start, length, skip." How many they are is said in this file and nowhere else in the code.
 ghost use mathlib.Core.Path.{_≡_};
 ghost use lib.Dec.{eqb};
-ghost use Prim.Native.Nat.{_+_, _/_, _%_, _≤_, _<_};
-ghost use lib.ListN.{length, getD};
+ghost use Prim.Native.Nat.{_+_, _*_, _/_, _%_, _≤_, _<_};
+ghost use lib.ListN.{length, getD, set};
 ghost use Rattle.meaning.specs.Memory.{rowWidth, roomOf};
 ghost use Rattle.laws.specs.Rows.{put};
+ghost use Rattle.laws.specs.Hopping.{givenAt};
 ghost use Rattle.table.specs.Rows.{u32Most, RowIs, noRow, AheadIs};
 
-pub const ROW_NUMBERS: usize = 4;
+pub const ROW_NUMBERS: usize = 5;
 
-// A row by its numbers.
+// A row by its numbers but the skip number.
 pub struct Row {
     pub kind: u32,
     pub level: u32,
@@ -25,7 +26,7 @@ pub struct Ahead {
     pub end: usize,
 }
 
-// Takes how many numbers are lent. Answers how many whole rows they hold: "a quarter of its length, rounded down, as the room".
+// Takes how many numbers are lent. Answers how many whole rows they hold: "room is a fifth of the lent length".
 pub fn room(numbers: usize) -> usize
     ensures { λ r. ⌜ r ≡ numbers / rowWidth ⌝ }
 {
@@ -39,7 +40,7 @@ pub fn whole(numbers: usize) -> bool
     numbers % ROW_NUMBERS == 0
 }
 
-// Row n of `rows`, where there is room for it; else nothing changes.
+// Row n of `rows` but its skip number, which stays, where there is room for it; else nothing changes.
 pub fn put_row(rows: &mut [u32], n: usize, kind: u32, level: u32, start: usize, length: usize)
     requires { ⌜ (n ≤ u32Most) × (start ≤ u32Most) × (length ≤ u32Most) ⌝ }
     ensures { λ _. ⌜ now (rows .exit) ≡ put (now (rows .entry)) n kind level start length ⌝ }
@@ -65,6 +66,38 @@ pub fn row_at(rows: &[u32], i: usize) -> Row
         start: number_at(rows, k + 2),
         length: number_at(rows, k + 3),
     }
+}
+
+// Takes a row's number. Answers its kind.
+pub fn kind_at(rows: &[u32], i: usize) -> u32
+    requires { ⌜ i < roomOf (now rows) ⌝ }
+    ensures { λ r. ⌜ r ≡ getD (now (rows .entry)) (i * rowWidth) 0 ⌝ }
+{
+    rows[i * ROW_NUMBERS]
+}
+
+// Takes a row's number. Answers its level.
+pub fn level_at(rows: &[u32], i: usize) -> u32
+    requires { ⌜ i < roomOf (now rows) ⌝ }
+    ensures { λ r. ⌜ r ≡ getD (now (rows .entry)) (i * rowWidth + 1) 0 ⌝ }
+{
+    rows[i * ROW_NUMBERS + 1]
+}
+
+// Takes a row's number. Answers its skip number.
+pub fn skip_at(rows: &[u32], i: usize) -> usize
+    requires { ⌜ i < roomOf (now rows) ⌝ }
+    ensures { λ r. ⌜ r ≡ givenAt (now (rows .entry)) i ⌝ }
+{
+    number_at(rows, i * ROW_NUMBERS + 4)
+}
+
+// Puts the skip number of row i; nothing else changes.
+pub fn put_skip(rows: &mut [u32], i: usize, skip: usize)
+    requires { ⌜ (i < roomOf (now rows)) × (skip ≤ u32Most) ⌝ }
+    ensures { λ _. ⌜ now (rows .exit) ≡ set (now (rows .entry)) (i * rowWidth + 4) skip ⌝ }
+{
+    rows[i * ROW_NUMBERS + 4] = skip as u32;
 }
 
 // Takes a place among the lent numbers. Answers the number there.

@@ -10,12 +10,13 @@ use borrow.Author.Tests.{le-leb, lt-leb}
 use Rattle.meaning.specs.Basics.{pick}
 use Rattle.meaning.specs.Told.{known, unknown, labelOf, Edition}
 use Rattle.meaning.specs.Writing.{Cell, Envelope, Plan, stuck, plan, wholePlan, headerOf, Limit, fine, exceeds, limits, Written, written, unwritten, limited, planned, writeRows}
-use Rattle.meaning.specs.Memory.{cellsOf, reply, laidOver, write, writeAnswer, writeOutput, roomOf}
+use Rattle.meaning.specs.Skips.{Skips, right, wrongAt}
+use Rattle.meaning.specs.Memory.{cellsOf, skipsHeld, reply, laidOver, write, writeAnswer, writeOutput, roomOf}
 use Rattle.laws.specs.Rows.{cellsAt, cells-are}
 use Rattle.meaning.specs.Headers.{envelopesMost}
-use Rattle.write_envelopes.specs.Whole.{Verdict, bad, needs, verdictOf, verdict, checkedOf, bytesOfPlan, CheckedAs, Writable}
+use Rattle.write_envelopes.specs.Whole.{Verdict, bad, needs, verdictOf, verdict, checkedOf, bytesOfPlan, Writable}
 use Rattle.table.specs.Reply.{replyOf}
-use Rattle.writer.specs.Promise.{WrittenAs, WritePromise}
+use Rattle.writer.specs.Promise.{WrittenAs, WritePromise, skipsVerdict, SkipsChecked}
 use Rattle.table.specs.declared.reply.Reply.{Reply}
 use Rattle.write_envelopes.specs.declared.measure.Checked.{Checked}
 use Rattle.write_envelopes.specs.declared.measure.Checked.the-variants.{Bad, Needs}
@@ -30,9 +31,10 @@ by-limit : (room : ℕ) (vs : List Envelope) (o : Limit) → limited room vs o �
 by-limit room vs fine = refl
 by-limit room vs (exceeds i) = refl
 
-by-verdict : (room : ℕ) (p : Plan) → planned room p ≡ answered room (bytesOfPlan p) (verdict envelopesMost 0 fine p)
-by-verdict room (stuck i) = refl
-by-verdict room (plan bytes vs) =
+by-verdict : (room : ℕ) (skips : Skips) (p : Plan) → planned room skips p ≡ answered room (bytesOfPlan p) (skipsVerdict skips p)
+by-verdict room skips (stuck i) = refl
+by-verdict room (wrongAt i) (plan bytes vs) = refl
+by-verdict room right (plan bytes vs) =
     let q : length (headerOf vs) ≡ 0 + length (headerOf vs) = omega arith in
     by-limit room vs (limits envelopesMost vs) ∙ ap (λ (x : ℕ). answered room (headerOf vs) (verdictOf x (limits envelopesMost vs))) q
 
@@ -56,30 +58,29 @@ module _ (edition : Edition) (pool rows before : List ℕ) where
   abbrev all : Plan
   all = wholePlan edition (cellsAt pool rows 0)
 
-  abbrev pub result : Written
-  result = writeRows edition (length before) (cellsOf pool rows)
+  abbrev found : Verdict
+  found = skipsVerdict (skipsHeld rows) all
 
-  result-is : result ≡ answered (length before) (bytesOfPlan all) (verdict envelopesMost 0 fine all)
+  abbrev pub result : Written
+  result = writeRows edition (length before) (cellsOf pool rows) (skipsHeld rows)
+
+  result-is : result ≡ answered (length before) (bytesOfPlan all) found
   unfolding writeRows
-  result-is = ap (λ (cs : List Cell). planned (length before) (wholePlan edition cs)) (cells-are pool rows) ∙ by-verdict (length before) all
+  result-is = ap (λ (cs : List Cell). planned (length before) (skipsHeld rows) (wholePlan edition cs)) (cells-are pool rows) ∙ by-verdict (length before) (skipsHeld rows) all
 
   written-as : {w : Written} {answer : Reply} {after : List ℕ} → result ≡ w → WrittenAs w rows before answer after → WrittenAs result rows before answer after
   written-as {w} {answer} {after} q x = rw q x
 
-  module _ {r : Checked} {lengths : List ℕ} (k : CheckedAs all r lengths) where
-    abbrev c : r ≡ checkedOf (verdict envelopesMost 0 fine all)
-    c = k .is
-
+  module _ {r : Checked} {lengths : List ℕ} (k : SkipsChecked all (skipsHeld rows) r lengths) where
     pub refuses : {answer place : ℕ} {a : Reply} → r ≡ Bad answer place → replyOf a ≡ reply answer place 0 → WrittenAs result rows before a before
-    refuses q e =
-        written-as (result-is ∙ ap (answered (length before) (bytesOfPlan all)) (verdict-bad (verdict envelopesMost 0 fine all) (sym c ∙ q))) (record { answers = e; leaves = refl })
+    refuses q e = written-as (result-is ∙ ap (answered (length before) (bytesOfPlan all)) (verdict-bad found (sym (k .is) ∙ q))) (record { answers = e; leaves = refl })
 
     module _ {many : ℕ} (q : r ≡ Needs many) where
-      passed : verdict envelopesMost 0 fine all ≡ needs many
-      passed = verdict-needs (verdict envelopesMost 0 fine all) (sym c ∙ q)
+      passed : found ≡ needs many
+      passed = verdict-needs found (sym (k .is) ∙ q)
 
       pub writable : length lengths ≡ envelopesMost → many ≤ length before → Writable edition rows pool lengths before
-      writable l h = record { bytes-needed = many; passed = passed; noted = k .noted many passed; long = l; room = h }
+      writable l h = let (p, n) = k .noted many passed in record { bytes-needed = many; passed = p; noted = n; long = l; room = h }
 
       pub too-short : {a : Reply} → length before < many → replyOf a ≡ reply 16 many 0 → WrittenAs result rows before a before
       too-short h e =
@@ -89,12 +90,12 @@ module _ (edition : Edition) (pool rows before : List ℕ) where
       pub accepts : {after : List ℕ} {n : ℕ} → many ≤ length before → after ≡ laidOver before (bytesOfPlan all) → n ≡ roomOf rows → WrittenAs result rows before (record { answer = 0; place = many; rows = n }) after
       accepts h e q =
           written-as (result-is ∙ ap (answered (length before) (bytesOfPlan all)) passed ∙ ap (λ (b : Bool). pick b (written (bytesOfPlan all)) (unwritten 16 many)) (le-leb many (length before) h))
-          (record { answers = ap (reply 0 many) q ∙ ap (λ (x : ℕ). reply 0 x (roomOf rows)) (sym (needs-length all many passed)); leaves = e })
+          (record { answers = ap (reply 0 many) q ∙ ap (λ (x : ℕ). reply 0 x (roomOf rows)) (sym (needs-length all many (k .noted many passed .0))); leaves = e })
 
 -- The edition's number
 
 module _ (number : ℕ) (rows pool before : List ℕ) {answer : Reply} {after : List ℕ} where
-  pub in-edition : {edition : Edition} → labelOf number ≡ known edition → WrittenAs (writeRows edition (length before) (cellsOf pool rows)) rows before answer after → WritePromise number rows pool before answer after
+  pub in-edition : {edition : Edition} → labelOf number ≡ known edition → WrittenAs (writeRows edition (length before) (cellsOf pool rows) (skipsHeld rows)) rows before answer after → WritePromise number rows pool before answer after
   unfolding writeAnswer writeOutput write
   in-edition q x = record { answers = x .answers ∙ rw q refl; leaves = x .leaves ∙ rw q refl }
 

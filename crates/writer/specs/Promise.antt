@@ -2,7 +2,12 @@
 use Prim.Native.Nat.{ℕ}
 use mathlib.Core.List.{List}
 use mathlib.Core.Path.{_≡_}
-use Rattle.meaning.specs.Writing.{Written}
+use Rattle.meaning.specs.Skips.{Skips, right, wrongAt}
+use Rattle.meaning.specs.Headers.{envelopesMost}
+use Rattle.meaning.specs.Writing.{Plan, stuck, plan, fine, Written}
+use Rattle.write_envelopes.specs.Whole.{Verdict, bad, needs, verdict, checkedOf, insidesOf, Begins}
+use Rattle.write_envelopes.specs.declared.measure.Checked.{Checked}
+use Rattle.write_envelopes.specs.declared.measure.Checked.the-variants.{Bad}
 use Rattle.meaning.specs.Memory.{roomOf, writeReply, writeMemory, writeAnswer, writeOutput}
 use Rattle.table.specs.declared.reply.Reply.{Reply}
 use Rattle.table.specs.Reply.{replyOf}
@@ -15,3 +20,19 @@ pub record WritePromise (edition : ℕ) (rows pool before : List ℕ) (answer : 
 pub record WrittenAs (w : Written) (rows before : List ℕ) (answer : Reply) (after : List ℕ) : Type 0 where
   pub answers : replyOf answer ≡ writeReply (roomOf rows) w
   pub leaves : after ≡ writeMemory before w
+
+-- what the check of the skip numbers makes of an answer: a wrong one is 15 at its row
+abbrev pub unlessWrong : Skips → Checked → Checked
+unlessWrong right c = c
+unlessWrong (wrongAt i) c = Bad 15 i
+
+-- the verdict, with a wrong skip number behind 15's other faults and before 5
+abbrev pub skipsVerdict : Skips → Plan → Verdict
+skipsVerdict skips (stuck i) = bad 15 i
+skipsVerdict right (plan bytes vs) = verdict envelopesMost 0 fine (plan bytes vs)
+skipsVerdict (wrongAt i) (plan bytes vs) = bad 15 i
+
+-- what the whole check promises: the verdict, and if it is passed the envelopes' lengths
+pub record SkipsChecked (p : Plan) (skips : Skips) (r : Checked) (lengths : List ℕ) : Type 0 where
+  pub is : r ≡ checkedOf (skipsVerdict skips p)
+  pub noted : (t : ℕ) → skipsVerdict skips p ≡ needs t → (verdict envelopesMost 0 fine p ≡ needs t) × Begins (insidesOf p) lengths

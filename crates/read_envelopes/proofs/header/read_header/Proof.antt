@@ -47,7 +47,7 @@ same-length-2 : tie.Need-same-length-2 Inv-loop μ-loop
 same-length-2 c = search needs
 
 returns-2 : tie.Need-returns-2 Inv-loop μ-loop
-returns-2 c = header-based (c .before .r2 .given .1) (c .before .before .before .before .before .before .before .loop .inv .4) (c .before .before .before .before .before .read-envelope .ensures)
+returns-2 c = header-based (omega (arith, c .before .before .before .before .before .before .before .loop .inv .2)) (c .before .r2 .given .1) (c .before .before .before .before .before .before .before .loop .inv .4) (c .before .before .before .before .before .read-envelope .ensures)
 
 enum-known-r-3 : tie.Need-enum-known-r-3 Inv-loop μ-loop
 enum-known-r-3 c = search needs

@@ -1,0 +1,3 @@
+pub mod Owning
+pub mod Hops
+pub mod Passes

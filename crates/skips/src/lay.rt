@@ -1,0 +1,55 @@
+// Skip numbers laid over rows that were read.
+use crate::hop::above_end;
+use crate::hop::beside_end;
+use crate::hop::deeper_end;
+use crate::owner::Owner;
+use crate::owner::owner_of;
+use table::kinds::ADDRESS;
+use table::kinds::AGENT_NAME;
+use table::kinds::ANY_BYTES;
+use table::kinds::ANY_TEXT;
+use table::kinds::BASE_OPENS;
+use table::kinds::ENCRYPTED_ITEM;
+use table::kinds::OWN_VALUE;
+use table::rows::kind_at;
+use table::rows::put_skip;
+ghost use mathlib.Core.Path.{_≡_};
+ghost use Prim.Native.Nat.{_≤_};
+ghost use Rattle.meaning.specs.Memory.{roomOf};
+ghost use Rattle.laws.specs.Hopping.{skipAt};
+ghost use Rattle.laws.specs.Skipping.{skipsLaid};
+ghost use Rattle.table.specs.Rows.{u32Most};
+ghost use Rattle.skips.specs.Owners.{Hoppable};
+
+// Lays the skip numbers of the first n rows, from the last to the first; nothing else changes.
+pub fn lay_skips(rows: &mut [u32], n: usize)
+    requires { ⌜ (n ≤ roomOf (now rows)) × (n ≤ u32Most) ⌝ }
+    ensures { λ _. ⌜ now (rows .exit) ≡ skipsLaid (now (rows .entry)) n n ⌝ }
+{
+    let mut next = n;
+    while 0 < next {
+        let i = next - 1;
+        let skip = behind(rows, n, i);
+        put_skip(rows, i, skip);
+        next = i;
+    }
+}
+
+// Takes row i of n, behind which the skip numbers are right. Answers its own. `hold` has the same function: called from one place only,
+// the compiler puts it there.
+fn behind(rows: &[u32], n: usize, i: usize) -> usize
+    requires { ⌜ Hoppable (now rows) n i ⌝ }
+    ensures { λ r. ⌜ (r ≡ skipAt (now (rows .entry)) n i) × (r ≤ n) ⌝ }
+{
+    let owner = owner_of(kind_at(rows, i));
+    match owner {
+        Owner::Nothing => i + 1,
+        Owner::Deeper => deeper_end(rows, n, i),
+        Owner::Envelope => above_end(rows, n, i, BASE_OPENS),
+        Owner::Agent => above_end(rows, n, i, AGENT_NAME),
+        Owner::Addresses => beside_end(rows, n, i, ADDRESS, ADDRESS),
+        Owner::Valued => beside_end(rows, n, i, ANY_TEXT, ANY_BYTES),
+        Owner::Encrypted => beside_end(rows, n, i, ENCRYPTED_ITEM, ENCRYPTED_ITEM),
+        Owner::OwnKey => beside_end(rows, n, i, OWN_VALUE, OWN_VALUE),
+    }
+}
