@@ -3,6 +3,7 @@ pub mod Logic
 pub mod From
 pub mod HighFirst
 pub mod Nesting
+pub mod Firsts
 pub mod Rows
 pub mod Hopping
 pub mod Skipping
