@@ -6,6 +6,8 @@ pub mod Nesting
 pub mod Firsts
 pub mod Rows
 pub mod Hopping
+pub mod Tabled
+pub mod AllTabled
 pub mod Skipping
 pub mod RightSkips
 pub mod Values

@@ -23,4 +23,5 @@ pub mod Days
 pub mod Breaks
 pub mod Widths
 pub mod Hops
+pub mod Presence
 pub mod Bounds

@@ -1,5 +1,5 @@
 -- Document 02, order 6: "a word for each envelope with bit n for each parameter code n (00, 02 to 0B; never the closing 01) that occurs".
-use Prim.Native.Nat.{ℕ, _+_, _^_}
+use Prim.Native.Nat.{ℕ, zero, suc, _+_, _/_, _%_, _^_}
 use mathlib.Core.List.{List, [], _∷_}
 use mathlib.Core.Bool.{Bool, false, _||_}
 use lib.ListN.{take}
@@ -30,3 +30,22 @@ wordsOf [] = []
 wordsOf (r ∷ rest) =
     let more : List ℕ = wordsOf rest in
     pick (isEnvelope (r .kind)) (wordOf (take (belonging r rest) rest) ∷ more) more
+
+-- the codes that occur, each once
+abbrev pub codesAmong : List ℕ → List Rank → List ℕ
+codesAmong [] rows = []
+codesAmong (code ∷ codes) rows =
+    let more : List ℕ = codesAmong codes rows in
+    pick (occurs code rows) (code ∷ more) more
+
+abbrev pub codesIn : List Rank → List ℕ
+codesIn rows = codesAmong parameterCodes rows
+
+-- "how many different codes it carries, from the word itself": the ones among so many binary digits, the lowest first
+unfoldable pub onesWithin : ℕ → ℕ → ℕ
+onesWithin zero n = 0
+onesWithin (suc digits) n = n % 2 + onesWithin digits (n / 2)
+
+-- .. of a u32
+unfoldable pub onesOf : ℕ → ℕ
+onesOf word = onesWithin 32 word
