@@ -6,8 +6,10 @@ pub mod Nesting
 pub mod Firsts
 pub mod Rows
 pub mod Hopping
+pub mod Presence
 pub mod Tabled
 pub mod AllTabled
+pub mod Wording
 pub mod Skipping
 pub mod RightSkips
 pub mod Values
