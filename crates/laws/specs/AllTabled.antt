@@ -101,3 +101,12 @@ accepted-tabled w edition input place rows q = subst (AnswerIs envelopesMost) q 
     by : (l : Label) → AnswerIs envelopesMost (labelled w input l)
     by unknown = tt
     by (known e) = header-is envelopesMost (toldBy w e) 0 input
+
+-- so it has a row
+pub some-row : (most : ℕ) (rows : List Placed) → AtMost most (ranksRead rows) → 1 ≤ length rows
+some-row most [] (n, few, t) = absurd (none t refl)
+  where
+    none : {n : ℕ} {ranks : List Rank} → Tabled n ranks → ranks ≡ [] → ⊥
+    none (the-last head inner h t) q = let z : _≡_ {A = ℕ} 0 1 = cc q in absurd (omega arith)
+    none (one-more head inner rest n h t more) q = let z : _≡_ {A = ℕ} 0 1 = cc q in absurd (omega arith)
+some-row most (r ∷ rows) a = omega arith
