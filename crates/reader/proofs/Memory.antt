@@ -16,14 +16,14 @@ use Rattle.meaning.specs.Words.{wordsOf}
 use Rattle.meaning.specs.Memory.{reply, tableOf, roomOf, laidOver, roomWith, answerBy, rowsBy, wordsBy}
 use Rattle.meaning.specs.Payload.{partStart, partEnd, partBytes, payloadStart, payloadEnd, payloadBytes}
 use Rattle.laws.specs.Rows.{putAll}
-use Rattle.laws.specs.Hopping.{ranksAt}
-use Rattle.laws.specs.Skipping.{skipsLaid, all-laid-over}
+use Rattle.laws.specs.Hopping.{rankAt, ranksAt, ranks-next}
+use Rattle.laws.specs.Skipping.{skipsLaid, laid-kind, laid-level, all-laid-over}
 use Rattle.laws.specs.AllTabled.{ranksRead, AtMost, accepted-tabled, some-row}
-use Rattle.laws.specs.Wording.{Split, tabled-split}
+use Rattle.laws.specs.Wording.{Split, nothing, first, tabled-split}
 use Rattle.laws.specs.Beside.{put-stands, beside-ranks, beside-right, beside-room}
 use Rattle.laws.specs.Pouring.{filled, stopped, headerMost}
 use Rattle.laws.specs.Finishing.{finish}
-use Rattle.skips.specs.Laying.{Stands}
+use Rattle.skips.specs.Laying.{IsTop, Stands}
 use Rattle.words.specs.Laying.{WordsFit}
 use Rattle.table.specs.declared.reply.Reply.{Reply}
 use Rattle.table.specs.Reply.{replyOf}
@@ -101,6 +101,10 @@ module _ (edition : ℕ) (input m left : List ℕ) where
 
 -- The second pass, and what is promised
 
+begins-with : {k : ℕ} {ranks rest : List Rank} {r : Rank} → Split k ranks → r ∷ rest ≡ ranks → IsTop r
+begins-with nothing q = absurd (let z : _≡_ {A = ℕ} 0 1 = cc q in omega arith)
+begins-with (first b inner rest n t z e more) q = (b, cc q)
+
 module _ (w : Strictness) (edition : ℕ) (input m words : List ℕ) (place n : ℕ) (a : AcceptedHeader w edition input place n) where
   -- "14: all well, but rows exceed the room"
   pub too-many : roomWith m words < n → ReadsBy w edition input m words (record { answer = 14; place = place; rows = n }) m words
@@ -130,8 +134,15 @@ module _ (w : Strictness) (edition : ℕ) (input m words : List ℕ) (place n : 
     kept : putAll (a .rows) 0 m ≡ mid
     kept = filled-by mid r (ap (λ (x : Answer). finish x 0 m) (sym (a .is)) ∙ f .is)
 
-    pub filled-stands : Stands mid n
-    filled-stands = put-stands (a .rows) m mid n kept (a .count) (enough h .0) (tabled-split (tabled .2))
+    -- the first row is an envelope's own
+    first-row : length mid ≡ length m → 0 < n → IsTop (rankAt mid 0)
+    first-row same some =
+        let left = skipsLaid mid n n in
+        let ranks = beside-ranks (a .rows) m mid n kept (a .count) (enough h .0) left refl same in
+        subst IsTop (rw (laid-kind mid n n 0, laid-level mid n n 0) refl) (begins-with (tabled-split (tabled .2)) (sym (ranks-next left n 0 some) ∙ ranks))
+
+    pub filled-stands : length mid ≡ length m → Stands mid n
+    filled-stands same = record { opens = first-row same; each = put-stands (a .rows) m mid n kept (a .count) (enough h .0) (tabled-split (tabled .2)) }
 
     module _ (same : length mid ≡ length m) (left : List ℕ) (l : left ≡ skipsLaid mid n n) where
       pub words-fit : WordsFit left n words

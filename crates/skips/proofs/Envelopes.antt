@@ -1,27 +1,22 @@
--- An envelope has all rows up to the next one's; and what owner a row is told to be tells whether it is an envelope's own.
+-- An envelope has all rows up to the next one's; so a pass over its rows, from the last to its own, lays them all.
 use Prim.Native.Nat.{ℕ, zero, suc, _+_, _-_, _*_, _≤_, _<_}
 use mathlib.Core.List.{List}
-use mathlib.Core.Bool.{Bool, true, false, _&&_, _||_}
+use mathlib.Core.Bool.{Bool, true, false}
 use mathlib.Core.Logic.{_⊎_, inl, inr}
 use mathlib.Core.Path.{_≡_, refl, ap, sym, _∙_, subst}
 use native.Mathlib.Omega.{arith}
 use lib.Dec.{eqb, ltb}
-use lib.ListN.{getD}
+use lib.ListN.{length, getD, set}
 use borrow.Author.Tests.{eqb-true, eqb-false, ltb-true, ltb-false}
-use Rattle.meaning.specs.Skips.{Rank, rank, belongs}
-use Rattle.meaning.specs.Memory.{rowWidth}
-use Rattle.laws.specs.Nesting.{by-beside, value-is, Belongs, belongs-how}
+use Rattle.meaning.specs.Skips.{Rank, belongs}
+use Rattle.meaning.specs.Memory.{rowWidth, roomOf}
 use Rattle.laws.specs.Hopping.{rankAt, skipAt, HopsTo, hop-begins, hop-ends, hop-stops, step-on}
-use Rattle.laws.specs.Skipping.{skipsLaid, laid-kind, laid-level}
+use Rattle.laws.specs.Skipping.{skipsLaid, laid-more, laid-length, laid-kind, laid-level}
 use Rattle.laws.specs.Wording.{top, three-belongs, top-not}
-use Rattle.skips.specs.Owners.{Hoppable, Owned, owns}
-use Rattle.skips.specs.Laying.{IsTop, Stands, Reaches, BehindIs}
-use Rattle.skips.specs.declared.owner.Owner.{Owner}
-use Rattle.skips.specs.declared.owner.Owner.the-variants.{Envelope}
-use Rattle.skips.specs.declared.lay.Found.{Found}
-
-false-not : {A : Type 0} → false ≡ true → A
-false-not q = let z : _≡_ {A = ℕ} 0 1 = cc q in absurd (omega arith)
+use Rattle.table.specs.Rows.{u32Most}
+use Rattle.skips.specs.Owners.{Hoppable}
+use Rattle.skips.specs.Laying.{IsTop, Stands, LaidFrom, InsideLaid}
+use Rattle.skips.proofs.Passes.{laid-hoppable, laid-again, laid-begins, laid-ends}
 
 module _ (m : List ℕ) (n i : ℕ) (l : i < n) where
   -- all rows up to a belong to row i, and the row there does not
@@ -31,91 +26,134 @@ module _ (m : List ℕ) (n i : ℕ) (l : i < n) where
       let before = runs-to k (λ j x y. h j x (omega arith)) (omega arith) in
       subst (HopsTo m n i) (omega arith) (step-on m n i before (omega arith) (h (i + 1 + k) (omega arith) (omega arith)))
 
-  pub envelope-run : {a : ℕ} → IsTop (rankAt m i) → Reaches m n (i + 1) a → skipAt m n i ≡ a
-  envelope-run {a} (b, q) r =
-      let e : i + 1 + (a - (i + 1)) ≡ a = omega (arith, r .from) in
-      let own : (j : ℕ) → i < j → j < a → belongs (rankAt m i) (rankAt m j) ≡ true = λ j x y. ap (λ (s : Rank). belongs s (rankAt m j)) q ∙ three-belongs b (rankAt m j) (r .none j (omega arith) y) in
-      let h : HopsTo m n i a = subst (HopsTo m n i) e (runs-to (a - (i + 1)) (λ j x y. own j x (omega arith)) (omega (arith, e, r .most))) in
+  envelope-run : (a : ℕ) → IsTop (rankAt m i) → i < a → a ≤ n → ((j : ℕ) → i < j → j < a → 3 ≤ rankAt m j .kind) → (a < n → IsTop (rankAt m a)) → skipAt m n i ≡ a
+  envelope-run a (b, q) f u inner there =
+      let e : i + 1 + (a - (i + 1)) ≡ a = omega arith in
+      let own : (j : ℕ) → i < j → j < a → belongs (rankAt m i) (rankAt m j) ≡ true = λ j x y. ap (λ (s : Rank). belongs s (rankAt m j)) q ∙ three-belongs b (rankAt m j) (inner j x y) in
+      let h : HopsTo m n i a = subst (HopsTo m n i) e (runs-to (a - (i + 1)) (λ j x y. own j x (omega arith)) (omega arith)) in
       at h (ltb a n) refl
     where
       at : HopsTo m n i a → (z : Bool) → ltb a n ≡ z → skipAt m n i ≡ a
       at h true z =
-          let (c, p) = r .there (ltb-true a n z) in
+          let (c, p) = there (ltb-true a n z) in
           hop-stops m n i h (ltb-true a n z) (ap (λ (s : Rank). belongs s (rankAt m a)) q ∙ ap (belongs (top b)) p ∙ top-not b c)
       at h false z = hop-ends m n i h (ltb-false a n z)
 
--- a kind above an envelope's has no row of kind 3 beside it
-three-not : (kind : ℕ) → 3 ≤ kind → belongs (rank kind 0) (rank 3 0) ≡ true → ⊥
-three-not kind h q = by (belongs-how (rank kind 0) (rank 3 0) q)
-  where
-    by : Belongs (rank kind 0) (rank 3 0) → ⊥
-    by (inl (d, l)) = absurd (omega arith)
-    by (inr (l, b)) =
-        by-beside (λ f. f 3 ≡ true → ⊥) kind (λ k i. absurd (omega arith)) (λ k i. absurd (omega arith)) (λ k i. false-not i) (λ k i. false-not i) (λ k i. false-not i) (λ k i. false-not i) (λ k i. false-not i) (λ k i. false-not i) (λ i. false-not i) b
-
-module _ (m : List ℕ) (n i : ℕ) {kind : ℕ} {o o′ : Owner} (l : i < n) (q : kind ≡ getD m (i * rowWidth) 0) (f : (level : ℕ) (s : Rank) → belongs (rank kind level) s ≡ owns o level s) (e : o ≡ o′) (stands : Stands m n) where
-  own-test : belongs (rank kind 0) (rank 3 0) ≡ owns o′ 0 (rank 3 0)
-  own-test = f 0 (rank 3 0) ∙ ap (λ (x : Owner). owns x 0 (rank 3 0)) e
-
-  -- told to be an envelope's own row, it is; told anything else, it is none
-  pub is-top : owns o′ 0 (rank 3 0) ≡ true → IsTop (rankAt m i)
-  is-top h = by (stands i l)
-    where
-      by : (3 ≤ rankAt m i .kind) ⊎ IsTop (rankAt m i) → IsTop (rankAt m i)
-      by (inl three) = absurd (three-not kind (omega arith) (own-test ∙ h))
-      by (inr t) = t
-
-  pub is-inner : owns o′ 0 (rank 3 0) ≡ false → 3 ≤ rankAt m i .kind
-  is-inner h = by (stands i l)
-    where
-      by : (3 ≤ rankAt m i .kind) ⊎ IsTop (rankAt m i) → 3 ≤ rankAt m i .kind
-      by (inl three) = three
-      by (inr (b, t)) =
-          let k : rankAt m i .kind ≡ top b .kind = ap (λ (r : Rank). r .kind) t in
-          let x : belongs (rank kind 0) (rank 3 0) ≡ true = ap (λ (c : ℕ). belongs (rank c 0) (rank 3 0)) (q ∙ k) ∙ three-belongs b (rank 3 0) (omega arith) in
-          false-not (sym h ∙ sym own-test ∙ x)
-
-module _ {m : List ℕ} {n i a : ℕ} (l : i < n) (r : Reaches m n (i + 1) a) where
-  pub top-behind : {b : Found} → IsTop (rankAt m i) → (b .skip ≡ a) × (b .envelope ≡ i) → BehindIs m n i b
-  top-behind t (p, q) = record {
-    skips = p ∙ sym (envelope-run m n i l t r);
-    within = omega (arith, r .most);
-    reaches = subst (Reaches m n i) (sym q) (record { from = omega arith; most = omega arith; none = λ j x y. absurd (omega arith); there = λ u. t });
-  }
-
-  pub other-behind : {skip : ℕ} {b : Found} → 3 ≤ rankAt m i .kind → (skip ≡ skipAt m n i) × (skip ≤ n) → (b .skip ≡ skip) × (b .envelope ≡ a) → BehindIs m n i b
-  other-behind three (s, w) (p, q) = record {
-    skips = p ∙ s;
-    within = omega arith;
-    reaches = subst (Reaches m n i) (sym q) (record { from = omega (arith, r .from); most = r .most; none = λ j x y. at j x y (eqb j i) refl; there = r .there });
-  }
-    where
-      at : (j : ℕ) → i ≤ j → j < a → (z : Bool) → eqb j i ≡ z → 3 ≤ rankAt m j .kind
-      at j x y true z = subst (λ (k : ℕ). 3 ≤ rankAt m k .kind) (sym (eqb-true j i z)) three
-      at j x y false z = let u = eqb-false j i z in r .none j (omega arith) y
-
 -- skip numbers laid change no row's place
-laid-rank : (m : List ℕ) (n d j : ℕ) → rankAt (skipsLaid m n d) j ≡ rankAt m j
-laid-rank m n d j = rw (laid-kind m n d j, laid-level m n d j) refl
+ranks-stay : (m rows : List ℕ) (n d : ℕ) → rows ≡ skipsLaid m n d → (j : ℕ) → rankAt rows j ≡ rankAt m j
+ranks-stay m rows n d q j = ap (λ (x : List ℕ). rankAt x j) q ∙ rw (laid-kind m n d j, laid-level m n d j) refl
 
-pub laid-stands : (m rows : List ℕ) (n d : ℕ) → rows ≡ skipsLaid m n d → Stands m n → Stands rows n
-laid-stands m rows n d q s j l = subst (λ (r : Rank). (3 ≤ r .kind) ⊎ IsTop r) (sym (ap (λ (x : List ℕ). rankAt x j) q ∙ laid-rank m n d j)) (s j l)
+-- Inside an envelope, from its last row back
 
--- the same memory by its ranks alone
-pub reaches-same : (m rows : List ℕ) (n i a : ℕ) → ((j : ℕ) → rankAt rows j ≡ rankAt m j) → Reaches m n i a → Reaches rows n i a
-reaches-same m rows n i a q r = record {
-  from = r .from;
-  most = r .most;
-  none = λ j x y. subst (λ (s : Rank). 3 ≤ s .kind) (sym (q j)) (r .none j x y);
-  there = λ u. subst IsTop (sym (q a)) (r .there u);
-}
+pub record Back (before : List ℕ) (n end : ℕ) (rows : List ℕ) (next : ℕ) : Type 0 where
+  pub from : LaidFrom before n end
+  pub some : 0 < next
+  pub most : next ≤ end
+  pub long : length rows ≡ length before
+  pub inner : (j : ℕ) → next ≤ j → j < end → 3 ≤ rankAt before j .kind
+  pub laid : (m : List ℕ) → before ≡ skipsLaid m n (n - end) → rows ≡ skipsLaid m n (n - next)
 
-pub laid-ranks : (m rows : List ℕ) (n d : ℕ) → rows ≡ skipsLaid m n d → (j : ℕ) → rankAt rows j ≡ rankAt m j
-laid-ranks m rows n d q j = ap (λ (x : List ℕ). rankAt x j) q ∙ laid-rank m n d j
+pub from-end : {before : List ℕ} {n end : ℕ} → LaidFrom before n end → Back before n end before end
+from-end p = record { from = p; some = p .some; most = omega arith; long = refl; inner = λ j x y. absurd (omega arith); laid = λ m q. q }
 
-pub none-reached : (m : List ℕ) (n : ℕ) → Reaches m n n n
-none-reached m n = record { from = omega arith; most = omega arith; none = λ j x y. absurd (omega arith); there = λ u. absurd (omega arith) }
+module _ {before : List ℕ} {n end : ℕ} {rows : List ℕ} {next : ℕ} (b : Back before n end rows next) where
+  abbrev p : LaidFrom before n end
+  p = b .from
 
--- the rows behind row next - 1 of memory whose last rows have their skip numbers
-pub reaches-on : (m rows : List ℕ) (n d next a : ℕ) → 0 < next → rows ≡ skipsLaid m n d → Reaches m n next a → Reaches rows n (next - 1 + 1) a
-reaches-on m rows n d next a h q r = let e : next ≡ next - 1 + 1 = omega arith in reaches-same m rows n (next - 1 + 1) a (laid-ranks m rows n d q) (subst (λ (x : ℕ). Reaches m n x a) e r)
+  here : rows ≡ skipsLaid (p .m) n (n - next)
+  here = b .laid (p .m) (p .is)
+
+  pub row-inside : next - 1 < roomOf rows
+  row-inside = omega (arith, ap length here, laid-length (p .m) n (n - next), b .some, b .most, p .few, p .room)
+
+  pub back-hoppable : Hoppable rows n (next - 1)
+  back-hoppable = laid-hoppable (p .m) n next (b .some) (omega (arith, b .most, p .few)) rows here (p .room)
+
+  before-rank : (j : ℕ) → rankAt rows j ≡ rankAt before j
+  before-rank j = ranks-stay (p .m) rows n (n - next) here j ∙ sym (ranks-stay (p .m) before n (n - end) (p .is) j)
+
+  stands-before : (3 ≤ rankAt before (next - 1) .kind) ⊎ IsTop (rankAt before (next - 1))
+  stands-before = subst (λ (r : Rank). (3 ≤ r .kind) ⊎ IsTop r) (sym (ranks-stay (p .m) before n (n - end) (p .is) (next - 1))) (p .stands .each (next - 1) (omega (arith, b .some, b .most, p .few)))
+
+  module _ {kind : ℕ} (k : kind ≡ getD rows ((next - 1) * rowWidth) 0) where
+    kind-before : kind ≡ rankAt before (next - 1) .kind
+    kind-before = k ∙ ap (λ (r : Rank). r .kind) (before-rank (next - 1))
+
+    pub reaches-own : kind ≤ 2 → InsideLaid before rows n end (next - 1)
+    reaches-own h = record {
+      less = omega (arith, b .some, b .most);
+      opened = at stands-before;
+      inner = λ j x y. b .inner j (omega (arith, b .some)) y;
+      laid = λ m q. b .laid m q ∙ ap (λ (x : ℕ). skipsLaid m n (n - x)) (let e : next ≡ suc (next - 1) = omega (arith, b .some) in e);
+    }
+      where
+        at : (3 ≤ rankAt before (next - 1) .kind) ⊎ IsTop (rankAt before (next - 1)) → IsTop (rankAt before (next - 1))
+        at (inl three) = absurd (omega (arith, kind-before))
+        at (inr t) = t
+
+    module _ (h : 2 < kind) where
+      not-first : 0 < next - 1
+      not-first = at (eqb (next - 1) 0) refl
+        where
+          at : (z : Bool) → eqb (next - 1) 0 ≡ z → 0 < next - 1
+          at false z = let u = eqb-false (next - 1) 0 z in omega arith
+          at true z =
+              let e = eqb-true (next - 1) 0 z in
+              let (c, t) = p .stands .opens (omega (arith, p .some, p .few)) in
+              let q : rankAt before (next - 1) .kind ≡ top c .kind = ap (λ (x : ℕ). rankAt before x .kind) e ∙ ap (λ (r : Rank). r .kind) (ranks-stay (p .m) before n (n - end) (p .is) 0 ∙ t) in
+              absurd (low c q)
+            where
+              low : (c : Bool) → rankAt before (next - 1) .kind ≡ top c .kind → ⊥
+              low true q = absurd (omega (arith, kind-before))
+              low false q = absurd (omega (arith, kind-before))
+
+      pub back-again : {skip : ℕ} {after : List ℕ} → skip ≡ skipAt rows n (next - 1) → after ≡ set rows ((next - 1) * rowWidth + 4) skip → length after ≡ length rows → Back before n end after (next - 1)
+      back-again e s long = record {
+        from = p;
+        some = not-first;
+        most = omega (arith, b .most);
+        long = long ∙ b .long;
+        inner = λ j x y. at j x y (eqb j (next - 1)) refl;
+        laid = λ m q. laid-again m n next (b .some) (omega (arith, b .most, p .few)) rows (b .laid m q) e s;
+      }
+        where
+          at : (j : ℕ) → next - 1 ≤ j → j < end → (z : Bool) → eqb j (next - 1) ≡ z → 3 ≤ rankAt before j .kind
+          at j x y true z = subst (λ (i : ℕ). 3 ≤ rankAt before i .kind) (sym (eqb-true j (next - 1) z)) (omega (arith, kind-before))
+          at j x y false z = let u = eqb-false j (next - 1) z in b .inner j (omega (arith, b .some)) y
+
+-- Envelope by envelope
+
+pub record Whole (m : List ℕ) (n : ℕ) (rows : List ℕ) (next : ℕ) : Type 0 where
+  pub few : next ≤ n
+  pub long : length rows ≡ length m
+  pub is : rows ≡ skipsLaid m n (n - next)
+  pub there : next < n → IsTop (rankAt m next)
+
+pub none-yet : (m : List ℕ) (n : ℕ) → Whole m n m n
+none-yet m n = record { few = omega arith; long = refl; is = laid-begins m n; there = λ u. absurd (omega arith) }
+
+pub all-done : {m : List ℕ} {n : ℕ} {rows : List ℕ} {next : ℕ} → Whole m n rows next → next ≤ 0 → rows ≡ skipsLaid m n n
+all-done {m} {n} {rows} {next} w h = laid-ends m rows n next h (w .is)
+
+module _ {m : List ℕ} {n : ℕ} {rows : List ℕ} {next : ℕ} (w : Whole m n rows next) (room : n ≤ roomOf m) (most : n ≤ u32Most) (stands : Stands m n) (some : 0 < next) where
+  pub whole-from : LaidFrom rows n next
+  whole-from = record { m = m; room = room; most = most; stands = stands; some = some; few = w .few; is = w .is }
+
+  module _ {mid : List ℕ} {i : ℕ} (b : InsideLaid rows mid n next i) where
+    stays : (j : ℕ) → rankAt rows j ≡ rankAt m j
+    stays = ranks-stay m rows n (n - next) (w .is)
+
+    pub own-inside : length mid ≡ length rows → i < roomOf mid
+    own-inside l = omega (arith, l, w .long, b .less, w .few, room)
+
+    pub one-more-laid : {after : List ℕ} → after ≡ set mid (i * rowWidth + 4) next → length after ≡ length m → Whole m n after i
+    one-more-laid s l =
+        let own : IsTop (rankAt m i) = subst IsTop (stays i) (b .opened) in
+        let skip : skipAt m n i ≡ next = envelope-run m n i (omega (arith, b .less, w .few)) next own (b .less) (w .few) (λ j x y. subst (λ (r : Rank). 3 ≤ r .kind) (stays j) (b .inner j x y)) (w .there) in
+        let d : suc (n - suc i) ≡ n - i = omega (arith, b .less, w .few) in
+        record {
+          few = omega (arith, b .less, w .few);
+          long = l;
+          is = s ∙ ap (λ (x : List ℕ). set x (i * rowWidth + 4) next) (b .laid m (w .is)) ∙ ap (set (skipsLaid m n (n - suc i)) (i * rowWidth + 4)) (sym skip) ∙ sym (laid-more m n (n - suc i) i (omega (arith, b .less, w .few))) ∙ ap (skipsLaid m n) d;
+          there = λ u. own;
+        }

@@ -5,7 +5,7 @@ use mathlib.Core.Bool.{Bool, true, false}
 use mathlib.Core.Path.{_≡_, refl, ap, sym, _∙_}
 use native.Mathlib.Nat.{pow-suc}
 use native.Mathlib.Omega.{arith}
-use borrow.Author.Tests.{ne-eqb}
+use borrow.Author.Tests.{eqb-true, eqb-false, ne-eqb}
 use lib.Count.{ones, ones-step}
 use lib.Dec.{eqb}
 use Rattle.meaning.specs.Skips.{rank}
@@ -25,14 +25,14 @@ unfolding onesOf
 ones-are word h = ones-within 32 word h
 
 -- a row at another level has none, one at level 0 the bit of its kind
-pub deeper-none : (kind level : ℕ) → (level ≡ 0 → ⊥) → 0 ≡ wordOf (rank kind level ∷ [])
+deeper-none : (kind level : ℕ) → (level ≡ 0 → ⊥) → 0 ≡ wordOf (rank kind level ∷ [])
 unfolding wordOf occurs
 deeper-none kind level h = rw (ne-eqb level 0 h) refl
 
 pub bit-is : {kind level bit : ℕ} (k : ℕ) → kind ≡ k → level ≡ 0 → bit ≡ wordOf (rank k 0 ∷ []) → bit ≡ wordOf (rank kind level ∷ [])
 bit-is {kind} k p q e = e ∙ ap (λ (x : ℕ). wordOf (rank x 0 ∷ [])) (sym p) ∙ ap (λ (x : ℕ). wordOf (rank kind x ∷ [])) (sym q)
 
-pub no-bit : (kind : ℕ) → (kind ≡ 27 → ⊥) → (kind ≡ 12 → ⊥) → (kind ≡ 13 → ⊥) → (kind ≡ 3 → ⊥) → (kind ≡ 4 → ⊥) → (kind ≡ 22 → ⊥) → (kind ≡ 23 → ⊥) → (kind ≡ 24 → ⊥) → (kind ≡ 25 → ⊥) → (kind ≡ 14 → ⊥) → (kind ≡ 8 → ⊥) → (kind ≡ 29 → ⊥) → 0 ≡ wordOf (rank kind 0 ∷ [])
+no-bit : (kind : ℕ) → (kind ≡ 27 → ⊥) → (kind ≡ 12 → ⊥) → (kind ≡ 13 → ⊥) → (kind ≡ 3 → ⊥) → (kind ≡ 4 → ⊥) → (kind ≡ 22 → ⊥) → (kind ≡ 23 → ⊥) → (kind ≡ 24 → ⊥) → (kind ≡ 25 → ⊥) → (kind ≡ 14 → ⊥) → (kind ≡ 8 → ⊥) → (kind ≡ 29 → ⊥) → 0 ≡ wordOf (rank kind 0 ∷ [])
 unfolding wordOf occurs
 no-bit kind n₂₇ n₁₂ n₁₃ n₃ n₄ n₂₂ n₂₃ n₂₄ n₂₅ n₁₄ n₈ n₂₉ = at (eqb kind 5) (eqb kind 6) (eqb kind 7) refl refl refl
   where
@@ -42,8 +42,13 @@ no-bit kind n₂₇ n₁₂ n₁₃ n₃ n₄ n₂₂ n₂₃ n₂₄ n₂₅ n�
     at false false true p q r = rw (ne-eqb kind 27 n₂₇, ne-eqb kind 12 n₁₂, ne-eqb kind 13 n₁₃, ne-eqb kind 3 n₃, ne-eqb kind 4 n₄, ne-eqb kind 22 n₂₂, ne-eqb kind 23 n₂₃, ne-eqb kind 24 n₂₄, ne-eqb kind 25 n₂₅, ne-eqb kind 14 n₁₄, ne-eqb kind 8 n₈, ne-eqb kind 29 n₂₉, p, q, r) refl
     at false false false p q r = rw (ne-eqb kind 27 n₂₇, ne-eqb kind 12 n₁₂, ne-eqb kind 13 n₁₃, ne-eqb kind 3 n₃, ne-eqb kind 4 n₄, ne-eqb kind 22 n₂₂, ne-eqb kind 23 n₂₃, ne-eqb kind 24 n₂₄, ne-eqb kind 25 n₂₅, ne-eqb kind 14 n₁₄, ne-eqb kind 8 n₈, ne-eqb kind 29 n₂₉, p, q, r) refl
 
-pub no-bit-at : (kind : ℕ) {level : ℕ} → level ≡ 0 → 0 ≡ wordOf (rank kind 0 ∷ []) → 0 ≡ wordOf (rank kind level ∷ [])
-no-bit-at kind q e = e ∙ ap (λ (x : ℕ). wordOf (rank kind x ∷ [])) (sym q)
+-- .. where level and kind are looked at as one number
+pub no-bit-at : (kind level standing : ℕ) → standing ≡ 4294967296 * level + kind → (standing ≡ 27 → ⊥) → (standing ≡ 12 → ⊥) → (standing ≡ 13 → ⊥) → (standing ≡ 3 → ⊥) → (standing ≡ 4 → ⊥) → (standing ≡ 22 → ⊥) → (standing ≡ 23 → ⊥) → (standing ≡ 24 → ⊥) → (standing ≡ 25 → ⊥) → (standing ≡ 14 → ⊥) → (standing ≡ 8 → ⊥) → (standing ≡ 29 → ⊥) → 0 ≡ wordOf (rank kind level ∷ [])
+no-bit-at kind level standing e n₂₇ n₁₂ n₁₃ n₃ n₄ n₂₂ n₂₃ n₂₄ n₂₅ n₁₄ n₈ n₂₉ = at (eqb level 0) refl
+  where
+    at : (z : Bool) → eqb level 0 ≡ z → 0 ≡ wordOf (rank kind level ∷ [])
+    at true z = let l = eqb-true level 0 z in no-bit kind (λ q. n₂₇ (omega arith)) (λ q. n₁₂ (omega arith)) (λ q. n₁₃ (omega arith)) (λ q. n₃ (omega arith)) (λ q. n₄ (omega arith)) (λ q. n₂₂ (omega arith)) (λ q. n₂₃ (omega arith)) (λ q. n₂₄ (omega arith)) (λ q. n₂₅ (omega arith)) (λ q. n₁₄ (omega arith)) (λ q. n₈ (omega arith)) (λ q. n₂₉ (omega arith)) ∙ ap (λ (x : ℕ). wordOf (rank kind x ∷ [])) (sym l)
+    at false z = deeper-none kind level (eqb-false level 0 z)
 
 -- the bits, kind by kind
 pub bit₂₇ : 1 ≡ wordOf (rank 27 0 ∷ [])

@@ -58,29 +58,52 @@ fn word_of(rows: &[u32], i: usize, end: usize) -> u32
     word
 }
 
-// Takes a row's kind and level. Answers the bit of the parameter that it opens or holds; none for a row that is no parameter's first.
+// Takes a row's kind and level. Answers the bit of the parameter that it opens or holds; none for a row that is no parameter's first. Level and
+// kind are looked at as one number, which for a row of level 0 is its kind.
 fn bit_of(kind: u32, level: u32) -> u32
     ensures { λ r. ⌜ r ≡ wordOf (rank kind level ∷ []) ⌝ }
 {
-    if level != 0 {
-        return 0;
-    }
-    match kind {
-        OWN_KEY => 0x001,
-        TO_OPENS => 0x004,
-        FROM_OPENS => 0x008,
-        STANDARD_REPRESENTATION => 0x010,
-        OWN_REPRESENTATION => 0x010,
-        COMMENTS => 0x020,
-        PAYLOAD_LENGTH => 0x040,
-        PAYLOAD_ENCODING => 0x080,
-        ENCRYPTED_OPENS => 0x100,
-        RECEIVER_OPENS => 0x200,
-        RECEIVED_BY => 0x400,
-        BEHAVIOUR_OPENS => 0x800,
+    let standing = 4294967296 * (level as u64) + (kind as u64);
+    match standing {
+        OWN_KEY_ON_TOP => 0x001,
+        TO_OPENS_ON_TOP => 0x004,
+        FROM_OPENS_ON_TOP => 0x008,
+        STANDARD_REPRESENTATION_ON_TOP => 0x010,
+        OWN_REPRESENTATION_ON_TOP => 0x010,
+        COMMENTS_ON_TOP => 0x020,
+        PAYLOAD_LENGTH_ON_TOP => 0x040,
+        PAYLOAD_ENCODING_ON_TOP => 0x080,
+        ENCRYPTED_OPENS_ON_TOP => 0x100,
+        RECEIVER_OPENS_ON_TOP => 0x200,
+        RECEIVED_BY_ON_TOP => 0x400,
+        BEHAVIOUR_OPENS_ON_TOP => 0x800,
         _ => 0,
     }
 }
+
+const OWN_KEY_ON_TOP: u64 = OWN_KEY as u64;
+
+const TO_OPENS_ON_TOP: u64 = TO_OPENS as u64;
+
+const FROM_OPENS_ON_TOP: u64 = FROM_OPENS as u64;
+
+const STANDARD_REPRESENTATION_ON_TOP: u64 = STANDARD_REPRESENTATION as u64;
+
+const OWN_REPRESENTATION_ON_TOP: u64 = OWN_REPRESENTATION as u64;
+
+const COMMENTS_ON_TOP: u64 = COMMENTS as u64;
+
+const PAYLOAD_LENGTH_ON_TOP: u64 = PAYLOAD_LENGTH as u64;
+
+const PAYLOAD_ENCODING_ON_TOP: u64 = PAYLOAD_ENCODING as u64;
+
+const ENCRYPTED_OPENS_ON_TOP: u64 = ENCRYPTED_OPENS as u64;
+
+const RECEIVER_OPENS_ON_TOP: u64 = RECEIVER_OPENS as u64;
+
+const RECEIVED_BY_ON_TOP: u64 = RECEIVED_BY as u64;
+
+const BEHAVIOUR_OPENS_ON_TOP: u64 = BEHAVIOUR_OPENS as u64;
 
 // "how many different codes it carries, from the word itself": the count of ones of any word.
 pub fn ones(word: u32) -> u32

@@ -16,7 +16,7 @@ survey-requires : tie.Need-survey-requires
 survey-requires c κs = search needs
 
 lay-skips-requires : tie.Need-lay-skips-requires
-lay-skips-requires c κs = let s = (c .before .before .before .before .before .before .before .before .before .before) in let a = s .args in let fits = rw (c .before .before .before .before .before .before .room-with .ensures) at (c .before .before .before .before .before .if1 .left) in let survey = (c .before .before .before .survey) in (omega (arith, enough _ (a .edition) (a .input .now) (a .rows .now) (a .words .now) (a .place) (a .n) (s .pre) fits .0, survey .kept .1 .1 .1 .0), omega (arith, s .pre .few), filled-stands _ (a .edition) (a .input .now) (a .rows .now) (a .words .now) (a .place) (a .n) (s .pre) (survey .last .1 .1 .1 .0) (survey .result) fits (survey .ensures))
+lay-skips-requires c κs = let s = (c .before .before .before .before .before .before .before .before .before .before) in let a = s .args in let fits = rw (c .before .before .before .before .before .before .room-with .ensures) at (c .before .before .before .before .before .if1 .left) in let survey = (c .before .before .before .survey) in (omega (arith, enough _ (a .edition) (a .input .now) (a .rows .now) (a .words .now) (a .place) (a .n) (s .pre) fits .0, survey .kept .1 .1 .1 .0), omega (arith, s .pre .few), filled-stands _ (a .edition) (a .input .now) (a .rows .now) (a .words .now) (a .place) (a .n) (s .pre) (survey .last .1 .1 .1 .0) (survey .result) fits (survey .ensures) (survey .kept .1 .1 .1 .0))
 
 lay-words-requires : tie.Need-lay-words-requires
 lay-words-requires c κs = let s = (c .before .before .before .before .before .before .before .before .before .before .before .before .before .before .before) in let a = s .args in let fits = rw (c .before .before .before .before .before .before .before .before .before .before .before .room-with .ensures) at (c .before .before .before .before .before .before .before .before .before .before .if1 .left) in let survey = (c .before .before .before .before .before .before .before .before .survey) in words-fit _ (a .edition) (a .input .now) (a .rows .now) (a .words .now) (a .place) (a .n) (s .pre) (survey .last .1 .1 .1 .0) (survey .result) fits (survey .ensures) (survey .kept .1 .1 .1 .0) (c .before .before .before .before .lay-skips .last .0) (c .before .before .before .before .lay-skips .ensures)
