@@ -1,4 +1,4 @@
-//! The archive's ten entries for Rust, as `include/gamulisyan.h` declares them, and `read`, `read_tolerant` and `write` over slices.
+//! The archive's ten entries for Rust, as `include/gamulisyan.h` declares them, and `read`, `read_tolerant`, `write` and others over slices.
 //! Copy this file; docs/RUST.md says how to link it.
 #![allow(dead_code)]
 
@@ -203,7 +203,7 @@ mod tests {
 
     #[test]
     fn reads_and_writes() {
-        let (rows, length) = read(EDITION_B, &M).unwrap();
+        let Header { rows, length, .. } = read(EDITION_B, &M).unwrap();
         assert_eq!((rows.len(), length), (3, 15));
         let mut output = [0; 15];
         assert_eq!(write(EDITION_B, &rows, &M, &mut output), Ok(15));
@@ -219,11 +219,22 @@ mod tests {
     fn takes_a_wide_length() {
         let wide = *b"\xFE\x00\x15\x12\x20\x31\x11\x16\x19\x15\x37\x62\x59\x20\x0B\x19\x00\x00\x00\x00\x01";
         assert_eq!(read(EDITION_D, &wide), Err(Answer { answer: LENGTH_FORM_WIDE, place: 15, rows: 0 }));
-        let (rows, length) = read_tolerant(EDITION_D, &wide).unwrap();
+        let Header { rows, length, .. } = read_tolerant(EDITION_D, &wide).unwrap();
         assert_eq!((rows.len(), length), (5, 21));
         let mut output = [0; 18];
         assert_eq!(write(EDITION_D, &rows, &wide, &mut output), Ok(18));
-        assert_eq!(read(EDITION_D, &output).unwrap().0.len(), 5);
+        assert_eq!(read(EDITION_D, &output).unwrap().rows.len(), 5);
+    }
+
+    #[test]
+    fn says_which_parameters() {
+        let words = read(EDITION_B, &M).unwrap().words;
+        assert_eq!((words[0], words[1]), (1 << 4, 0));
+        let mut rows = [[0; ROW_NUMBERS]; 3];
+        let mut few = [7; WORDS - 1];
+        let short = unsafe { gamulisyan_read(EDITION_B, M.as_ptr(), M.len(), rows.as_mut_ptr().cast(), 15, few.as_mut_ptr(), few.len()) };
+        assert_eq!((short, few), (Answer { answer: ROWS_SHORT, place: 15, rows: 3 }, [7; WORDS - 1]));
+        assert_eq!((ones(words[0]), ones(u32::MAX)), (1, 32));
     }
 
     #[test]

@@ -73,7 +73,8 @@ pub one-piece : (answer place count : ℕ) (rows bytes : List ℕ) {line byte : 
 one-piece answer place count rows bytes p q = one-answer p q
 
 -- reading a table for the listing: what the reader has
-pub one-table : {edition : ℕ} {input before after later : List ℕ} {a b : declared.Reply} → TablePromise edition input before a after → TablePromise edition input before b later → (a ≡ b) × (after ≡ later)
+pub one-table : {edition : ℕ} {input before words after words₁ later words₂ : List ℕ} {a b : declared.Reply} → TablePromise edition input before words a after words₁ → TablePromise edition input before words b later words₂
+    → (a ≡ b) × (after ≡ later) × (words₁ ≡ words₂)
 one-table p q = one-read (p .reads) (q .reads)
 
 -- the line of an input that is too long: there is such an input

@@ -59,26 +59,27 @@ pub record Carried (rows words words′ : List ℕ) : Type 0 where
   pub heads : HeadBits (wordsOf (ranksOf rows))
   pub each : AreWords (wordsOf (ranksOf rows))
 
-pub words-carried : {w : Strictness} {edition : ℕ} {input before words after words′ : List ℕ} {a : declared.Reply} → ReadsBy w edition input before words a after words′ → a .answer ≡ 0 → Carried (firstRows (a .rows) after) words words′
-words-carried {w} {edition} {input} {words = words} {words′ = words′} p z =
-    let (place, found, is, f) = accepted-call p z in
-    let (n, few, tabled) = accepted-tabled w edition input place found is in
-    let count : length (wordsRead found) ≡ n = words-count (tabled-split tabled) in
-    let ranks : ranksOf (firstRows _ _) ≡ ranksRead found = ap ranksOf (rows-read f) ∙ ranks-again 0 (map numbersOf found) in
-    let same : wordsOf (ranksOf (firstRows _ _)) ≡ wordsRead found = ap wordsOf ranks in
-    record {
-      envelopes = n;
-      few = few;
-      walked = ap (take n) (f .carries) ∙ laid-front words (wordsRead found) count ∙ sym same;
-      unused = ap (drop n) (f .carries) ∙ laid-behind words (wordsRead found) count;
-      one-each = ap length same ∙ count;
-      heads = subst HeadBits (sym same) (head-bits tabled);
-      each = words-are (ranksOf (firstRows _ _));
-    }
+module _ {w : Strictness} {edition : ℕ} {input before words after words′ : List ℕ} {a : declared.Reply} (p : ReadsBy w edition input before words a after words′) where
+  pub words-carried : a .answer ≡ 0 → Carried (firstRows (a .rows) after) words words′
+  words-carried z =
+      let (place, found, is, f) = accepted-call p z in
+      let (n, few, tabled) = accepted-tabled w edition input place found is in
+      let rows = firstRows (a .rows) after in
+      let count : length (wordsRead found) ≡ n = words-count (tabled-split tabled) in
+      let same : wordsOf (ranksOf rows) ≡ wordsRead found = ap (λ (x : List ℕ). wordsOf (ranksOf x)) (rows-read f) ∙ ap wordsOf (ranks-again 0 (map numbersOf found)) in
+      record {
+        envelopes = n;
+        few = few;
+        walked = ap (take n) (f .carries) ∙ laid-front words (wordsRead found) count ∙ sym same;
+        unused = ap (drop n) (f .carries) ∙ laid-behind words (wordsRead found) count;
+        one-each = ap length same ∙ count;
+        heads = subst HeadBits (sym same) (head-bits tabled);
+        each = words-are (ranksOf rows);
+      }
 
 -- the count of ones of any word: one answer, and there is one
-pub one-ones : {word r s : ℕ} → r ≡ onesOf word → s ≡ onesOf word → r ≡ s
-one-ones p q = p ∙ sym q
+pub one-ones : (word : ℕ) {r s : ℕ} → r ≡ onesOf word → s ≡ onesOf word → r ≡ s
+one-ones word p q = p ∙ sym q
 
 pub some-ones : (word : ℕ) → (r : ℕ) × (r ≡ onesOf word)
 some-ones word = (onesOf word, refl)
