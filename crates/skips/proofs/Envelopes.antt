@@ -8,13 +8,15 @@ use native.Mathlib.Omega.{arith}
 use lib.Dec.{eqb, ltb}
 use lib.ListN.{length, getD, set}
 use borrow.Author.Tests.{eqb-true, eqb-false, ltb-true, ltb-false}
-use Rattle.meaning.specs.Skips.{Rank, belongs}
+use Rattle.meaning.specs.Skips.{Rank, rank, belongs}
 use Rattle.meaning.specs.Memory.{rowWidth, roomOf}
+use Rattle.laws.specs.Nesting.{by-beside, Belongs, belongs-how}
 use Rattle.laws.specs.Hopping.{rankAt, skipAt, HopsTo, hop-begins, hop-ends, hop-stops, step-on}
 use Rattle.laws.specs.Skipping.{skipsLaid, laid-more, laid-length, laid-kind, laid-level}
 use Rattle.laws.specs.Wording.{top, three-belongs, top-not}
 use Rattle.table.specs.Rows.{u32Most}
-use Rattle.skips.specs.Owners.{Hoppable}
+use Rattle.skips.specs.Owners.{Hoppable, owns}
+use Rattle.skips.specs.declared.owner.Owner.{Owner}
 use Rattle.skips.specs.Laying.{IsTop, Stands, LaidFrom, InsideLaid}
 use Rattle.skips.proofs.Passes.{laid-hoppable, laid-again, laid-begins, laid-ends}
 
@@ -38,6 +40,18 @@ module _ (m : List ℕ) (n i : ℕ) (l : i < n) where
           let (c, p) = there (ltb-true a n z) in
           hop-stops m n i h (ltb-true a n z) (ap (λ (s : Rank). belongs s (rankAt m a)) q ∙ ap (belongs (top b)) p ∙ top-not b c)
       at h false z = hop-ends m n i h (ltb-false a n z)
+
+false-not : {A : Type 0} → false ≡ true → A
+false-not q = let z : _≡_ {A = ℕ} 0 1 = cc q in absurd (omega arith)
+
+-- a kind above an envelope's has no row of kind 3 beside it
+three-not : (kind : ℕ) → 3 ≤ kind → belongs (rank kind 0) (rank 3 0) ≡ true → ⊥
+three-not kind h q = by (belongs-how (rank kind 0) (rank 3 0) q)
+  where
+    by : Belongs (rank kind 0) (rank 3 0) → ⊥
+    by (inl (d, l)) = absurd (omega arith)
+    by (inr (l, b)) =
+        by-beside (λ f. f 3 ≡ true → ⊥) kind (λ k i. absurd (omega arith)) (λ k i. absurd (omega arith)) (λ k i. false-not i) (λ k i. false-not i) (λ k i. false-not i) (λ k i. false-not i) (λ k i. false-not i) (λ k i. false-not i) (λ i. false-not i) b
 
 -- skip numbers laid change no row's place
 ranks-stay : (m rows : List ℕ) (n d : ℕ) → rows ≡ skipsLaid m n d → (j : ℕ) → rankAt rows j ≡ rankAt m j
@@ -75,11 +89,15 @@ module _ {before : List ℕ} {n end : ℕ} {rows : List ℕ} {next : ℕ} (b : B
   stands-before : (3 ≤ rankAt before (next - 1) .kind) ⊎ IsTop (rankAt before (next - 1))
   stands-before = subst (λ (r : Rank). (3 ≤ r .kind) ⊎ IsTop r) (sym (ranks-stay (p .m) before n (n - end) (p .is) (next - 1))) (p .stands .each (next - 1) (omega (arith, b .some, b .most, p .few)))
 
-  module _ {kind : ℕ} (k : kind ≡ getD rows ((next - 1) * rowWidth) 0) where
+  -- told of its kind whether a row of kind 3 beside it would belong to it: to an envelope's own row it would, to no other
+  module _ (o : Owner) {kind : ℕ} {z : Bool} (k : kind ≡ getD rows ((next - 1) * rowWidth) 0) (f : (level : ℕ) (s : Rank) → belongs (rank kind level) s ≡ owns o level s) (t : z ≡ owns o 0 (rank 3 0)) where
     kind-before : kind ≡ rankAt before (next - 1) .kind
     kind-before = k ∙ ap (λ (r : Rank). r .kind) (before-rank (next - 1))
 
-    pub reaches-own : kind ≤ 2 → InsideLaid before rows n end (next - 1)
+    tested : belongs (rank kind 0) (rank 3 0) ≡ z
+    tested = f 0 (rank 3 0) ∙ sym t
+
+    pub reaches-own : z ≡ true → InsideLaid before rows n end (next - 1)
     reaches-own h = record {
       less = omega (arith, b .some, b .most);
       opened = at stands-before;
@@ -88,24 +106,31 @@ module _ {before : List ℕ} {n end : ℕ} {rows : List ℕ} {next : ℕ} (b : B
     }
       where
         at : (3 ≤ rankAt before (next - 1) .kind) ⊎ IsTop (rankAt before (next - 1)) → IsTop (rankAt before (next - 1))
-        at (inl three) = absurd (omega (arith, kind-before))
-        at (inr t) = t
+        at (inl three) = absurd (three-not kind (omega (arith, kind-before)) (tested ∙ h))
+        at (inr own) = own
 
-    module _ (h : 2 < kind) where
+    module _ (h : z ≡ false) where
+      own-not : IsTop (rankAt before (next - 1)) → ⊥
+      own-not (c, q) =
+          let x : belongs (rank kind 0) (rank 3 0) ≡ true = ap (λ (y : ℕ). belongs (rank y 0) (rank 3 0)) (kind-before ∙ ap (λ (r : Rank). r .kind) q) ∙ three-belongs c (rank 3 0) (omega arith) in
+          false-not (sym (tested ∙ h) ∙ x)
+
+      is-inner : 3 ≤ rankAt before (next - 1) .kind
+      is-inner = at stands-before
+        where
+          at : (3 ≤ rankAt before (next - 1) .kind) ⊎ IsTop (rankAt before (next - 1)) → 3 ≤ rankAt before (next - 1) .kind
+          at (inl three) = three
+          at (inr own) = absurd (own-not own)
+
       not-first : 0 < next - 1
       not-first = at (eqb (next - 1) 0) refl
         where
-          at : (z : Bool) → eqb (next - 1) 0 ≡ z → 0 < next - 1
-          at false z = let u = eqb-false (next - 1) 0 z in omega arith
-          at true z =
-              let e = eqb-true (next - 1) 0 z in
-              let (c, t) = p .stands .opens (omega (arith, p .some, p .few)) in
-              let q : rankAt before (next - 1) .kind ≡ top c .kind = ap (λ (x : ℕ). rankAt before x .kind) e ∙ ap (λ (r : Rank). r .kind) (ranks-stay (p .m) before n (n - end) (p .is) 0 ∙ t) in
-              absurd (low c q)
-            where
-              low : (c : Bool) → rankAt before (next - 1) .kind ≡ top c .kind → ⊥
-              low true q = absurd (omega (arith, kind-before))
-              low false q = absurd (omega (arith, kind-before))
+          at : (y : Bool) → eqb (next - 1) 0 ≡ y → 0 < next - 1
+          at false y = let u = eqb-false (next - 1) 0 y in omega arith
+          at true y =
+              let e = eqb-true (next - 1) 0 y in
+              let (c, q) = p .stands .opens (omega (arith, p .some, p .few)) in
+              absurd (own-not (c, ap (rankAt before) e ∙ ranks-stay (p .m) before n (n - end) (p .is) 0 ∙ q))
 
       pub back-again : {skip : ℕ} {after : List ℕ} → skip ≡ skipAt rows n (next - 1) → after ≡ set rows ((next - 1) * rowWidth + 4) skip → length after ≡ length rows → Back before n end after (next - 1)
       back-again e s long = record {
@@ -117,9 +142,9 @@ module _ {before : List ℕ} {n end : ℕ} {rows : List ℕ} {next : ℕ} (b : B
         laid = λ m q. laid-again m n next (b .some) (omega (arith, b .most, p .few)) rows (b .laid m q) e s;
       }
         where
-          at : (j : ℕ) → next - 1 ≤ j → j < end → (z : Bool) → eqb j (next - 1) ≡ z → 3 ≤ rankAt before j .kind
-          at j x y true z = subst (λ (i : ℕ). 3 ≤ rankAt before i .kind) (sym (eqb-true j (next - 1) z)) (omega (arith, kind-before))
-          at j x y false z = let u = eqb-false j (next - 1) z in b .inner j (omega (arith, b .some)) y
+          at : (j : ℕ) → next - 1 ≤ j → j < end → (y : Bool) → eqb j (next - 1) ≡ y → 3 ≤ rankAt before j .kind
+          at j x y true q = subst (λ (i : ℕ). 3 ≤ rankAt before i .kind) (sym (eqb-true j (next - 1) q)) is-inner
+          at j x y false q = let u = eqb-false j (next - 1) q in b .inner j (omega (arith, b .some)) y
 
 -- Envelope by envelope
 

@@ -3,6 +3,7 @@ use crate::hop::above_end;
 use crate::hop::beside_end;
 use crate::hop::deeper_end;
 use crate::owner::Owner;
+use crate::owner::is_envelope;
 use crate::owner::owner_of;
 use table::kinds::ADDRESS;
 use table::kinds::AGENT_NAME;
@@ -41,15 +42,15 @@ fn lay_inside(rows: &mut [u32], n: usize, end: usize) -> usize
     requires { ⌜ LaidFrom (now rows) n end ⌝ }
     ensures { λ r. ⌜ InsideLaid (now (rows .entry)) (now (rows .exit)) n end r ⌝ }
 {
-    let mut next = end;
+    let mut i = end;
     loop {
-        let i = next - 1;
-        if kind_at(rows, i) <= BASE_OPENS {
+        i -= 1;
+        let owner = owner_of(kind_at(rows, i));
+        if is_envelope(owner) {
             return i;
         }
         let skip = behind(rows, n, i);
         put_skip(rows, i, skip);
-        next = i;
     }
 }
 
