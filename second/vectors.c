@@ -104,6 +104,14 @@ static uint32_t *lend_words(struct bench *bench)
     return as_rows(lend(&bench->words, WORDS * sizeof(uint32_t)));
 }
 
+/* Only words for at most sixteen envelopes were set, and after a refusal none. */
+static bool words_kept(struct bench *bench, struct second_reply got)
+{
+    size_t used = got.answer == ACCEPTED ? bench->words.length : 0;
+    memcpy(bench->expected, inside(&bench->words), used);
+    return holds_only(&bench->words, bench->expected, used);
+}
+
 /* edition, what is lent, input, answer, place, rows, rows themselves; room: the numbers lent */
 static bool check_reading(const char *const *text, size_t room, struct bench *bench)
 {
@@ -120,7 +128,8 @@ static bool check_reading(const char *const *text, size_t room, struct bench *be
     bool well = answer == ACCEPTED || answer == ROOM_EXCEEDED;
     if (got.answer == answer && got.place == place && got.rows == number(text[5])
         && payload.start == (well ? place : 0) && payload.length == (well ? length - place : 0)
-        && holds_only(&bench->source, bench->given, length) && holds_only(&bench->target, bench->expected, expected))
+        && holds_only(&bench->source, bench->given, length) && holds_only(&bench->target, bench->expected, expected)
+        && words_kept(bench, got))
         return true;
     printf("  got %" PRIu32 "\t%" PRIu64 "\t%" PRIu64 "\t", got.answer, got.place, got.rows);
     print_list(inside(&bench->target), got.answer == ACCEPTED ? got.rows * ROW_NUMBERS * sizeof *rows : 0);

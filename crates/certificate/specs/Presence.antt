@@ -1,19 +1,19 @@
 -- Order 6, of calls of `read`, `read_tolerant` and `ones`: after an accepted call the words at the front of those lent are what a walk over the rows at
 -- the front of those lent finds, one for each envelope, and no other word has changed; what the bits of a word are, and how many.
-use Prim.Native.Nat.{ℕ, suc, _/_, _%_, _≤_, _<_}
+use Prim.Native.Nat.{ℕ, _/_, _%_, _≤_, _<_}
 use mathlib.Core.List.{List, [], _∷_, map}
 use mathlib.Core.Bool.{Bool, true, false}
 use mathlib.Core.Path.{_≡_, refl, ap, sym, _∙_, subst}
-use native.Mathlib.Omega.{arith}
 use lib.ListN.{length, take, drop}
 use Rattle.meaning.specs.Basics.{pick}
 use Rattle.meaning.specs.Told.{Strictness}
 use Rattle.meaning.specs.Skips.{Rank, isEnvelope, belonging}
 use Rattle.meaning.specs.Words.{wordOf, wordsOf, codesIn, onesOf}
-use Rattle.meaning.specs.Headers.{Placed, envelopesMost}
-use Rattle.meaning.specs.Memory.{Numbers, rankOf, numbersOf, rowsFrom, tableOf, ranksOf, wordsRead}
+use Rattle.meaning.specs.Headers.{envelopesMost}
+use Rattle.meaning.specs.Memory.{numbersOf, ranksOf, wordsRead}
+use Rattle.laws.specs.RightSkips.{table-ranks}
 use Rattle.laws.specs.Presence.{ones-codes, no-other-bit}
-use Rattle.laws.specs.AllTabled.{ranksRead, accepted-tabled}
+use Rattle.laws.specs.AllTabled.{accepted-tabled}
 use Rattle.laws.specs.Wording.{tabled-split, words-count, HeadBits, head-bits}
 use Rattle.table.specs.declared.reply.Reply as declared
 use Rattle.reader.specs.Promises.{ReadsBy}
@@ -43,12 +43,6 @@ words-are (r ∷ rest) = at (isEnvelope (r .kind)) (words-are rest)
     at true more = (word-is (take (belonging r rest) rest), more)
     at false more = more
 
--- the rows in memory stand where they were read
-ranks-again : (i : ℕ) (rs : List Numbers) → ranksOf (rowsFrom i rs) ≡ map rankOf rs
-unfolding ranksOf
-ranks-again i [] = refl
-ranks-again i (r ∷ rs) = ap (λ (x : List Rank). rankOf r ∷ x) (ranks-again (suc i) rs)
-
 -- what an accepted call leaves beside its rows
 pub record Carried (rows words words′ : List ℕ) : Type 0 where
   pub envelopes : ℕ
@@ -66,7 +60,7 @@ module _ {w : Strictness} {edition : ℕ} {input before words after words′ : L
       let (n, few, tabled) = accepted-tabled w edition input place found is in
       let rows = firstRows (a .rows) after in
       let count : length (wordsRead found) ≡ n = words-count (tabled-split tabled) in
-      let same : wordsOf (ranksOf rows) ≡ wordsRead found = ap (λ (x : List ℕ). wordsOf (ranksOf x)) (rows-read f) ∙ ap wordsOf (ranks-again 0 (map numbersOf found)) in
+      let same : wordsOf (ranksOf rows) ≡ wordsRead found = ap (λ (x : List ℕ). wordsOf (ranksOf x)) (rows-read f) ∙ ap wordsOf (table-ranks 0 (map numbersOf found)) in
       record {
         envelopes = n;
         few = few;

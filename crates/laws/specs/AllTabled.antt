@@ -1,10 +1,10 @@
 -- The rows of every accepted header are those of a table of at most sixteen envelopes, and have a word for each.
 use Prim.Native.Nat.{ℕ, zero, suc, _+_, _-_, _≤_}
-use mathlib.Core.List.{List, [], _∷_, _++_, append-assoc, map}
+use mathlib.Core.List.{List, [], _∷_, _++_, map}
 use mathlib.Core.Bool.{Bool, true, false}
 use mathlib.Core.Path.{_≡_, refl, ap, sym, _∙_, subst}
 use native.Mathlib.Omega.{arith}
-use lib.Dec.{T, eqb, ltb}
+use lib.Dec.{eqb, ltb}
 use lib.ListN.{length, take, drop}
 use Rattle.meaning.specs.Basics.{pick, every}
 use Rattle.meaning.specs.Bytes.{Count, counted, short, highFirst}
@@ -13,7 +13,7 @@ use Rattle.meaning.specs.Reading.{Seen, Out, dry, fault, done, inside}
 use Rattle.meaning.specs.Skips.{Rank, rank}
 use Rattle.meaning.specs.Headers.{Placed, placedRow, placed, Answer, refused, accepted, behind, envelopeMost, envelopesMost, opening, start, Onward, ends, envelope, shortLeast, longLeast, longForm, sized, Identifier, extension, base, neither, identifierOf, identified, seventeenth, header, labelled, readBy}
 use Rattle.meaning.specs.Memory.{rankOf, numbersOf}
-use Rattle.laws.specs.Tabled.{isInner, rankSeen, Tabled, the-last, one-more, InsideIs, inside-is}
+use Rattle.laws.specs.Tabled.{rankSeen, Tabled, the-last, one-more, InsideIs, inside-is}
 
 -- the ranks of rows that were read
 abbrev pub ranksRead : List Placed → List Rank

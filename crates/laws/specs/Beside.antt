@@ -1,7 +1,7 @@
 -- Rows that were read, put and given their skip numbers: what the passes over them may take for granted. By what their header's ranks are.
-use Prim.Native.Nat.{ℕ, zero, suc, _+_, _-_, _*_, _≤_, _<_}
+use Prim.Native.Nat.{ℕ, zero, suc, _+_, _-_, _≤_, _<_}
 use mathlib.Core.List.{List, [], _∷_, _++_}
-use mathlib.Core.Bool.{Bool, true, false}
+use mathlib.Core.Bool.{Bool}
 use mathlib.Core.Logic.{_⊎_, inl, inr}
 use mathlib.Core.Path.{_≡_, refl, ap, sym, _∙_, subst}
 use native.Mathlib.Omega.{arith}
@@ -10,7 +10,7 @@ use lib.ListN.{length}
 use Rattle.meaning.specs.Basics.{every}
 use Rattle.meaning.specs.Skips.{Rank}
 use Rattle.meaning.specs.Headers.{Placed}
-use Rattle.meaning.specs.Memory.{rowWidth, roomOf}
+use Rattle.meaning.specs.Memory.{roomOf}
 use Rattle.laws.specs.Logic.{left-of, right-of}
 use Rattle.laws.specs.Rows.{putAll, fourOf, put-all-over}
 use Rattle.laws.specs.Hopping.{rankAt, ranksFor, ranksAt, ranks-length, givenAt, skipAt, AllRight}

@@ -5,7 +5,6 @@ use mathlib.Core.Bool.{Bool, true, false, _||_}
 use mathlib.Core.Path.{_≡_, refl, ap, sym, _∙_}
 use native.Mathlib.Omega.{arith}
 use lib.Bits.{bitOr, or-step}
-use lib.Dec.{eqb}
 use lib.ListN.{length}
 use Rattle.meaning.specs.Basics.{pick}
 use Rattle.meaning.specs.Skips.{Rank}

@@ -13,12 +13,12 @@ use Rattle.meaning.specs.Bytes.{Taken, took, failed}
 use Rattle.meaning.specs.Kinds.{agentName}
 use Rattle.meaning.specs.Told.{Edition, B, D, Told}
 use Rattle.meaning.specs.Editions.{Room, receivedBegins, headRepresentation, headDate, parameters, ownText, parameterRepresentation, behaviourValue, encryptedTexts, receivedDate, afterDate, afterFrom, afterId, afterVia, receivedExtra, agentList, oneAgent, afterName, addressTexts, afterAddresses, afterResolvers, agentExtra, closed, State, state, Next, outer, inner, innerOne, stay, deeper, listEnds, agentEnds, listEnd, go, isQuiet, Move, shared, own, moves}
-use Rattle.meaning.specs.Reading.{Seen, seen, takeValue, seenBy, Found, none, hit, look, isClosed, strange, tooDeep, Step, fails, over, next, stepTaken, valueFrom, stepMove, step, Out, dry, fault, done, withRows, onward, run, inside}
+use Rattle.meaning.specs.Reading.{Seen, seen, takeValue, Found, none, hit, look, isClosed, strange, tooDeep, Step, fails, over, next, stepTaken, valueFrom, stepMove, step, Out, dry, fault, done, withRows, onward, run, inside}
 use Rattle.meaning.specs.Skips.{Rank, rank}
 use Rattle.meaning.specs.Codes.{hasValue}
 use Rattle.meaning.specs.Headers.{opening, start}
 use Rattle.laws.specs.Logic.{left-of, right-of, both, is-true, not-both}
-use Rattle.laws.specs.Tables.{In, every-in, allRooms, each-room}
+use Rattle.laws.specs.Tables.{every-in, allRooms, each-room}
 use Rattle.laws.specs.Lookups.{Looked, looked}
 
 -- a row inside an envelope

@@ -1,9 +1,9 @@
 -- Order 6: the words of headers, given as numbers and not by the definition; the room that they take; and counts of ones.
-use Prim.Native.Nat.{ℕ, zero, suc, _-_}
+use Prim.Native.Nat.{ℕ, zero, suc}
 use mathlib.Core.List.{List, [], _∷_, _++_}
-use mathlib.Core.Bool.{Bool, false, _&&_}
+use mathlib.Core.Bool.{Bool, _&&_}
 use lib.Dec.{eqb}
-use lib.ListN.{replicate, drop, length}
+use lib.ListN.{replicate}
 use Rattle.meaning.specs.Basics.{every}
 use Rattle.meaning.specs.Told.{strict, tolerant}
 use Rattle.meaning.specs.Words.{onesOf}

@@ -59,7 +59,7 @@ ranks-stay m rows n d q j = ap (λ (x : List ℕ). rankAt x j) q ∙ rw (laid-ki
 
 -- Inside an envelope, from its last row back
 
-pub record Back (before : List ℕ) (n end : ℕ) (rows : List ℕ) (next : ℕ) : Type 0 where
+pub record LaidBack (before : List ℕ) (n end : ℕ) (rows : List ℕ) (next : ℕ) : Type 0 where
   pub from : LaidFrom before n end
   pub some : 0 < next
   pub most : next ≤ end
@@ -67,10 +67,10 @@ pub record Back (before : List ℕ) (n end : ℕ) (rows : List ℕ) (next : ℕ)
   pub inner : (j : ℕ) → next ≤ j → j < end → 3 ≤ rankAt before j .kind
   pub laid : (m : List ℕ) → before ≡ skipsLaid m n (n - end) → rows ≡ skipsLaid m n (n - next)
 
-pub from-end : {before : List ℕ} {n end : ℕ} → LaidFrom before n end → Back before n end before end
+pub from-end : {before : List ℕ} {n end : ℕ} → LaidFrom before n end → LaidBack before n end before end
 from-end p = record { from = p; some = p .some; most = omega arith; long = refl; inner = λ j x y. absurd (omega arith); laid = λ m q. q }
 
-module _ {before : List ℕ} {n end : ℕ} {rows : List ℕ} {next : ℕ} (b : Back before n end rows next) where
+module _ {before : List ℕ} {n end : ℕ} {rows : List ℕ} {next : ℕ} (b : LaidBack before n end rows next) where
   abbrev p : LaidFrom before n end
   p = b .from
 
@@ -132,7 +132,7 @@ module _ {before : List ℕ} {n end : ℕ} {rows : List ℕ} {next : ℕ} (b : B
               let (c, q) = p .stands .opens (omega (arith, p .some, p .few)) in
               absurd (own-not (c, ap (rankAt before) e ∙ ranks-stay (p .m) before n (n - end) (p .is) 0 ∙ q))
 
-      pub back-again : {skip : ℕ} {after : List ℕ} → skip ≡ skipAt rows n (next - 1) → after ≡ set rows ((next - 1) * rowWidth + 4) skip → length after ≡ length rows → Back before n end after (next - 1)
+      pub back-again : {skip : ℕ} {after : List ℕ} → skip ≡ skipAt rows n (next - 1) → after ≡ set rows ((next - 1) * rowWidth + 4) skip → length after ≡ length rows → LaidBack before n end after (next - 1)
       back-again e s long = record {
         from = p;
         some = not-first;
@@ -148,19 +148,19 @@ module _ {before : List ℕ} {n end : ℕ} {rows : List ℕ} {next : ℕ} (b : B
 
 -- Envelope by envelope
 
-pub record Whole (m : List ℕ) (n : ℕ) (rows : List ℕ) (next : ℕ) : Type 0 where
+pub record EnvelopesLaid (m : List ℕ) (n : ℕ) (rows : List ℕ) (next : ℕ) : Type 0 where
   pub few : next ≤ n
   pub long : length rows ≡ length m
   pub is : rows ≡ skipsLaid m n (n - next)
   pub there : next < n → IsTop (rankAt m next)
 
-pub none-yet : (m : List ℕ) (n : ℕ) → Whole m n m n
+pub none-yet : (m : List ℕ) (n : ℕ) → EnvelopesLaid m n m n
 none-yet m n = record { few = omega arith; long = refl; is = laid-begins m n; there = λ u. absurd (omega arith) }
 
-pub all-done : {m : List ℕ} {n : ℕ} {rows : List ℕ} {next : ℕ} → Whole m n rows next → next ≤ 0 → rows ≡ skipsLaid m n n
+pub all-done : {m : List ℕ} {n : ℕ} {rows : List ℕ} {next : ℕ} → EnvelopesLaid m n rows next → next ≤ 0 → rows ≡ skipsLaid m n n
 all-done {m} {n} {rows} {next} w h = laid-ends m rows n next h (w .is)
 
-module _ {m : List ℕ} {n : ℕ} {rows : List ℕ} {next : ℕ} (w : Whole m n rows next) (room : n ≤ roomOf m) (most : n ≤ u32Most) (stands : Stands m n) (some : 0 < next) where
+module _ {m : List ℕ} {n : ℕ} {rows : List ℕ} {next : ℕ} (w : EnvelopesLaid m n rows next) (room : n ≤ roomOf m) (most : n ≤ u32Most) (stands : Stands m n) (some : 0 < next) where
   pub whole-from : LaidFrom rows n next
   whole-from = record { m = m; room = room; most = most; stands = stands; some = some; few = w .few; is = w .is }
 
@@ -171,7 +171,7 @@ module _ {m : List ℕ} {n : ℕ} {rows : List ℕ} {next : ℕ} (w : Whole m n 
     pub own-inside : length mid ≡ length rows → i < roomOf mid
     own-inside l = omega (arith, l, w .long, b .less, w .few, room)
 
-    pub one-more-laid : {after : List ℕ} → after ≡ set mid (i * rowWidth + 4) next → length after ≡ length m → Whole m n after i
+    pub one-more-laid : {after : List ℕ} → after ≡ set mid (i * rowWidth + 4) next → length after ≡ length m → EnvelopesLaid m n after i
     one-more-laid s l =
         let own : IsTop (rankAt m i) = subst IsTop (stays i) (b .opened) in
         let skip : skipAt m n i ≡ next = envelope-run m n i (omega (arith, b .less, w .few)) next own (b .less) (w .few) (λ j x y. subst (λ (r : Rank). 3 ≤ r .kind) (stays j) (b .inner j x y)) (w .there) in

@@ -1,7 +1,6 @@
 -- Words laid envelope by envelope, from the first row on.
 use Prim.Native.Nat.{ℕ, zero, suc, _+_, _-_, _≤_, _<_}
 use mathlib.Core.List.{List, [], _∷_, _++_, append-assoc, append-nil}
-use mathlib.Core.Bool.{Bool, true, false}
 use mathlib.Core.Path.{_≡_, refl, ap, sym, _∙_, subst}
 use native.Mathlib.Omega.{arith}
 use lib.Dec.{T}
@@ -77,7 +76,7 @@ each-inner m (r ∷ inner) i q t j a b =
 
 -- Turns of the loop
 
-pub record Laying (m : List ℕ) (n : ℕ) (before : List ℕ) (i k : ℕ) (words : List ℕ) : Type 0 where
+pub record WordsLaid (m : List ℕ) (n : ℕ) (before : List ℕ) (i k : ℕ) (words : List ℕ) : Type 0 where
   pub within : i ≤ n
   pub left : ℕ
   pub split : Split left (ranksAt m n i)
@@ -87,7 +86,7 @@ pub record Laying (m : List ℕ) (n : ℕ) (before : List ℕ) (i k : ℕ) (word
   pub whole : wordsOf (ranksAt m n 0) ≡ front ++ wordsOf (ranksAt m n i)
   pub laid : words ≡ laidOver before front
 
-pub starts : (m : List ℕ) (n : ℕ) (words : List ℕ) → WordsFit m n words → Laying m n words 0 0 words
+pub starts : (m : List ℕ) (n : ℕ) (words : List ℕ) → WordsFit m n words → WordsLaid m n words 0 0 words
 unfolding laidOver
 starts m n words f = record { within = omega arith; left = f .count; split = f .split; few = omega (arith, f .few); front = []; long = refl; whole = refl; laid = refl }
 
@@ -95,7 +94,7 @@ no-more : wordsOf [] ≡ []
 unfolding wordsOf
 no-more = refl
 
-pub all-laid : {m : List ℕ} {n : ℕ} {before : List ℕ} {i k : ℕ} {words : List ℕ} → Laying m n before i k words → n ≤ i → words ≡ laidOver before (wordsOf (ranksAt m n 0))
+pub all-laid : {m : List ℕ} {n : ℕ} {before : List ℕ} {i k : ℕ} {words : List ℕ} → WordsLaid m n before i k words → n ≤ i → words ≡ laidOver before (wordsOf (ranksAt m n 0))
 all-laid {m} {n} {before} {i} y h =
     let none : n - i ≡ 0 = omega arith in
     let rest : wordsOf (ranksAt m n i) ≡ [] = ap (λ (k : ℕ). wordsOf (ranksFor m i k)) none ∙ no-more in
@@ -114,7 +113,7 @@ one-laid before front k x q h =
     set-over front (drop (length front) before) k 0 x (omega arith) ∙ ap (λ (z : List ℕ). front ++ z) (set-first before (length front) x e) ∙ sym (append-assoc front (x ∷ []) (drop (suc (length front)) before))
     ∙ ap (λ (z : ℕ). (front ++ (x ∷ [])) ++ drop z before) (sym long)
 
-module _ {m : List ℕ} {n : ℕ} {before : List ℕ} {i k : ℕ} {words : List ℕ} (f : WordsFit m n before) (y : Laying m n before i k words) (l : i < n) where
+module _ {m : List ℕ} {n : ℕ} {before : List ℕ} {i k : ℕ} {words : List ℕ} (f : WordsFit m n before) (y : WordsLaid m n before i k words) (l : i < n) where
   abbrev o : Opened m n i (y .left)
   o = opened m n i l (y .split)
 
@@ -137,7 +136,7 @@ module _ {m : List ℕ} {n : ℕ} {before : List ℕ} {i k : ℕ} {words : List 
   pub further : {end : ℕ} → end ≡ givenAt m i → n - end < n - i
   further q = omega (arith, end-is q)
 
-  pub lays-one : {end word : ℕ} {after : List ℕ} → end ≡ givenAt m i → word ≡ wordOf (ranksFor m (suc i) (end - suc i)) → after ≡ set words k word → Laying m n before end (k + 1) after
+  pub lays-one : {end word : ℕ} {after : List ℕ} → end ≡ givenAt m i → word ≡ wordOf (ranksFor m (suc i) (end - suc i)) → after ≡ set words k word → WordsLaid m n before end (k + 1) after
   lays-one {end} {word} {after} q w s =
       let e = end-is q in
       let d : end - suc i ≡ length (o .inner) = omega arith in

@@ -6,7 +6,7 @@ use mathlib.Core.Path.{_≡_, refl, ap, sym, _∙_, subst}
 use native.Mathlib.Omega.{arith}
 use lib.Bits.{bitOr}
 use lib.Dec.{T, ltb}
-use lib.ListN.{length, getD, take}
+use lib.ListN.{getD, take}
 use borrow.Author.Tests.{ltb-true, ltb-false}
 use Rattle.meaning.specs.Skips.{Rank, rank, belongs, belonging}
 use Rattle.meaning.specs.Words.{occurs, wordOf}

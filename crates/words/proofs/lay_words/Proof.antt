@@ -3,12 +3,12 @@ use Prim.Native.Nat.{_-_}
 use mathlib.Core.Path.{_≡_, refl, _∙_}
 use native.Mathlib.Omega.{arith}
 use lib.ListN.{length, length-set}
-use Rattle.words.proofs.Laid.{Laying, starts, all-laid, within-envelope, has-word, further, lays-one}
+use Rattle.words.proofs.Laid.{WordsLaid, starts, all-laid, within-envelope, has-word, further, lays-one}
 use Rattle.words.proofs.lay_words.Statement.{statement}
 use Rattle.words.proofs.lay_words.Tie as tie
 
 abbrev Inv-loop : tie.InvT-loop
-Inv-loop rows n words₀ i₀ k₀ words i k = (length words ≡ length words₀) × Laying rows n words₀ i k words
+Inv-loop rows n words₀ i₀ k₀ words i k = (length words ≡ length words₀) × WordsLaid rows n words₀ i k words
 
 abbrev μ-loop : tie.MeasureT-loop
 μ-loop rows n words₀ i₀ k₀ words i k = n - i

@@ -2,10 +2,6 @@
 use Prim.Native.Nat.{_-_}
 use native.Mathlib.Omega.{arith}
 use borrow.Author.Needs.{needs}
-use mathlib.Core.List.{[], _∷_}
-use mathlib.Core.Path.{ap, _∙_}
-use Rattle.meaning.specs.Skips.{rank}
-use Rattle.meaning.specs.Words.{wordOf}
 use Rattle.words.specs.Laying.{Within}
 use Rattle.words.proofs.Runs.{Passed, begins, here, falls, goes-on, ended, bit-at}
 use Rattle.words.proofs.word_of.Statement.{statement}

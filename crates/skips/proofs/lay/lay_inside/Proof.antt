@@ -1,13 +1,12 @@
 -- `lay::lay_inside`: the invariant says that the rows from i up to `end` are inside an envelope and have their skip numbers.
-use mathlib.Core.Path.{_∙_}
 use native.Mathlib.Omega.{arith}
 use borrow.Author.Needs.{needs}
-use Rattle.skips.proofs.Envelopes.{Back, from-end, row-inside, back-hoppable, reaches-own, back-again}
+use Rattle.skips.proofs.Envelopes.{LaidBack, from-end, row-inside, back-hoppable, reaches-own, back-again}
 use Rattle.skips.proofs.lay.lay_inside.Statement.{statement}
 use Rattle.skips.proofs.lay.lay_inside.Tie as tie
 
 abbrev Inv-loop : tie.InvT-loop
-Inv-loop rows₀ n end i₀ rows i = Back rows₀ n end rows i
+Inv-loop rows₀ n end i₀ rows i = LaidBack rows₀ n end rows i
 
 abbrev μ-loop : tie.MeasureT-loop
 μ-loop rows₀ n end i₀ rows i = i

@@ -1,12 +1,12 @@
 -- `lay::lay_skips`: the invariant says that the rows from `next` on have their skip numbers, and that `next` is an envelope's row or n.
 use mathlib.Core.Path.{_∙_}
 use native.Mathlib.Omega.{arith}
-use Rattle.skips.proofs.Envelopes.{Whole, none-yet, all-done, whole-from, own-inside, one-more-laid}
+use Rattle.skips.proofs.Envelopes.{EnvelopesLaid, none-yet, all-done, whole-from, own-inside, one-more-laid}
 use Rattle.skips.proofs.lay.lay_skips.Statement.{statement}
 use Rattle.skips.proofs.lay.lay_skips.Tie as tie
 
 abbrev Inv-loop : tie.InvT-loop
-Inv-loop rows₀ n next₀ rows next = Whole rows₀ n rows next
+Inv-loop rows₀ n next₀ rows next = EnvelopesLaid rows₀ n rows next
 
 abbrev μ-loop : tie.MeasureT-loop
 μ-loop rows₀ n next₀ rows next = next
