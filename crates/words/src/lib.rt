@@ -27,6 +27,31 @@ ghost use Rattle.words.specs.Laying.{Within, WordsFit};
 // "The reader then borrows sixteen words more".
 pub const WORDS_BORROWED: usize = 16;
 
+// Where a row of level 0 stands, level and kind as one number: by its kind alone.
+const OWN_KEY_ON_TOP: u64 = OWN_KEY as u64;
+
+const TO_OPENS_ON_TOP: u64 = TO_OPENS as u64;
+
+const FROM_OPENS_ON_TOP: u64 = FROM_OPENS as u64;
+
+const STANDARD_REPRESENTATION_ON_TOP: u64 = STANDARD_REPRESENTATION as u64;
+
+const OWN_REPRESENTATION_ON_TOP: u64 = OWN_REPRESENTATION as u64;
+
+const COMMENTS_ON_TOP: u64 = COMMENTS as u64;
+
+const PAYLOAD_LENGTH_ON_TOP: u64 = PAYLOAD_LENGTH as u64;
+
+const PAYLOAD_ENCODING_ON_TOP: u64 = PAYLOAD_ENCODING as u64;
+
+const ENCRYPTED_OPENS_ON_TOP: u64 = ENCRYPTED_OPENS as u64;
+
+const RECEIVER_OPENS_ON_TOP: u64 = RECEIVER_OPENS as u64;
+
+const RECEIVED_BY_ON_TOP: u64 = RECEIVED_BY as u64;
+
+const BEHAVIOUR_OPENS_ON_TOP: u64 = BEHAVIOUR_OPENS as u64;
+
 // Lays the words of n rows over the front of `words`, one for each envelope; the words behind them stay.
 pub fn lay_words(rows: &[u32], n: usize, words: &mut [u32])
     requires { ⌜ WordsFit (now rows) n (now words) ⌝ }
@@ -58,8 +83,7 @@ fn word_of(rows: &[u32], i: usize, end: usize) -> u32
     word
 }
 
-// Takes a row's kind and level. Answers the bit of the parameter that it opens or holds; none for a row that is no parameter's first. Level and
-// kind are looked at as one number, which for a row of level 0 is its kind.
+// Takes a row's kind and level. Answers the bit of the parameter that it opens or holds; none for a row that is no parameter's first.
 fn bit_of(kind: u32, level: u32) -> u32
     ensures { λ r. ⌜ r ≡ wordOf (rank kind level ∷ []) ⌝ }
 {
@@ -80,30 +104,6 @@ fn bit_of(kind: u32, level: u32) -> u32
         _ => 0,
     }
 }
-
-const OWN_KEY_ON_TOP: u64 = OWN_KEY as u64;
-
-const TO_OPENS_ON_TOP: u64 = TO_OPENS as u64;
-
-const FROM_OPENS_ON_TOP: u64 = FROM_OPENS as u64;
-
-const STANDARD_REPRESENTATION_ON_TOP: u64 = STANDARD_REPRESENTATION as u64;
-
-const OWN_REPRESENTATION_ON_TOP: u64 = OWN_REPRESENTATION as u64;
-
-const COMMENTS_ON_TOP: u64 = COMMENTS as u64;
-
-const PAYLOAD_LENGTH_ON_TOP: u64 = PAYLOAD_LENGTH as u64;
-
-const PAYLOAD_ENCODING_ON_TOP: u64 = PAYLOAD_ENCODING as u64;
-
-const ENCRYPTED_OPENS_ON_TOP: u64 = ENCRYPTED_OPENS as u64;
-
-const RECEIVER_OPENS_ON_TOP: u64 = RECEIVER_OPENS as u64;
-
-const RECEIVED_BY_ON_TOP: u64 = RECEIVED_BY as u64;
-
-const BEHAVIOUR_OPENS_ON_TOP: u64 = BEHAVIOUR_OPENS as u64;
 
 // "how many different codes it carries, from the word itself": the count of ones of any word.
 pub fn ones(word: u32) -> u32
