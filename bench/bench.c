@@ -23,7 +23,7 @@ enum { BATCH = 1000000, LONG_ENOUGH = 2000000000 };
 
 enum call { READ, WRITE };
 
-typedef struct second_reply reading(uint32_t, const uint8_t *, size_t, uint32_t *, size_t);
+typedef struct second_reply reading(uint32_t, const uint8_t *, size_t, uint32_t *, size_t, uint32_t *, size_t);
 typedef struct second_reply writing(uint32_t, const uint32_t *, size_t, const uint8_t *, size_t, uint8_t *, size_t);
 
 struct program {
@@ -41,12 +41,14 @@ struct tables {
 static struct headers headers;
 static struct tables tables;
 static uint32_t lent_rows[MOST_NUMBERS];
+static uint32_t lent_words[GAMULISYAN_WORDS];
 static uint8_t lent_output[MOST_BYTES];
 
 /* The copy of an answer's three numbers is in the archive's time, but not in its count. */
-static struct second_reply archive_read(uint32_t edition, const uint8_t *input, size_t length, uint32_t *rows, size_t numbers)
+static struct second_reply archive_read(uint32_t edition, const uint8_t *input, size_t length, uint32_t *rows, size_t numbers, uint32_t *words,
+                                        size_t word_count)
 {
-    struct gamulisyan_answer read = gamulisyan_read(edition, input, length, rows, numbers);
+    struct gamulisyan_answer read = gamulisyan_read(edition, input, length, rows, numbers, words, word_count);
     return (struct second_reply){read.answer, read.place, read.rows};
 }
 
@@ -90,7 +92,7 @@ static void require(int holds, const char *program, const char *call, size_t num
 
 static struct second_reply read_one(const struct program *program, size_t number)
 {
-    return program->read(EDITION, header_at(number), header_length(number), lent_rows, MOST_NUMBERS);
+    return program->read(EDITION, header_at(number), header_length(number), lent_rows, MOST_NUMBERS, lent_words, GAMULISYAN_WORDS);
 }
 
 static struct second_reply write_one(const struct program *program, size_t number)

@@ -21,6 +21,7 @@ static ucontext_t there;
 static struct headers headers;
 static uint32_t rows[MOST_NUMBERS];
 static size_t numbers;
+static uint32_t words[GAMULISYAN_WORDS];
 static uint8_t output[MOST_BYTES];
 
 static const uint8_t designated_date[10] = {0x31, 0x11, 0x13, 0x3A, 0x15, 0x37, 0x62, 0x59, 0x20, 0x5A}; /* 29 February 2000 */
@@ -28,9 +29,9 @@ static const struct gamulisyan_date plain_date = {2000, 2, 29, 4, 26, 51, 481, '
 static const uint8_t most_number[6] = {0x53, 0xA5, 0xA7, 0x83, 0xA6, 0x00};
 
 /* The entries, and functions of the same types that do nothing. */
-static struct gamulisyan_answer no_read(uint32_t e, const uint8_t *i, size_t l, uint32_t *r, size_t n)
+static struct gamulisyan_answer no_read(uint32_t e, const uint8_t *i, size_t l, uint32_t *r, size_t n, uint32_t *w, size_t c)
 {
-    (void)e, (void)i, (void)l, (void)r, (void)n;
+    (void)e, (void)i, (void)l, (void)r, (void)n, (void)w, (void)c;
     return (struct gamulisyan_answer){0, 0, 0};
 }
 
@@ -71,7 +72,7 @@ static struct gamulisyan_coded no_date_encode(uint32_t k, struct gamulisyan_date
 }
 
 /* What is called next; volatile, so that the compiler sees through none of them. */
-static struct gamulisyan_answer (*volatile read_entry)(uint32_t, const uint8_t *, size_t, uint32_t *, size_t);
+static struct gamulisyan_answer (*volatile read_entry)(uint32_t, const uint8_t *, size_t, uint32_t *, size_t, uint32_t *, size_t);
 static struct gamulisyan_answer (*volatile write_entry)(uint32_t, const uint32_t *, size_t, const uint8_t *, size_t, uint8_t *, size_t);
 static struct gamulisyan_part (*volatile payload_entry)(uint32_t, const uint8_t *, size_t);
 static struct gamulisyan_number (*volatile number_decode_entry)(const uint8_t *, size_t);
@@ -86,7 +87,7 @@ static struct gamulisyan_number number;
 static struct gamulisyan_coded coded;
 static struct gamulisyan_dated dated;
 
-static void read_call(void) { answer = read_entry(EDITION, headers.bytes, headers.places[1], rows, MOST_NUMBERS); }
+static void read_call(void) { answer = read_entry(EDITION, headers.bytes, headers.places[1], rows, MOST_NUMBERS, words, GAMULISYAN_WORDS); }
 static void write_call(void) { answer = write_entry(EDITION, rows, numbers, headers.bytes, headers.places[1], output, sizeof output); }
 static void payload_call(void) { part = payload_entry(EDITION, headers.bytes, headers.places[1]); }
 static void number_decode_call(void) { number = number_decode_entry(most_number, sizeof most_number); }

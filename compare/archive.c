@@ -9,14 +9,21 @@ static struct second_reply reply_of(struct gamulisyan_answer answer)
     return (struct second_reply){answer.answer, answer.place, answer.rows};
 }
 
-struct second_reply archive_read(uint32_t edition, const uint8_t *input, size_t length, uint32_t *rows, size_t rows_length)
+struct second_reply archive_read(uint32_t edition, const uint8_t *input, size_t length, uint32_t *rows, size_t rows_length, uint32_t *words,
+                                 size_t word_count)
 {
-    return reply_of(gamulisyan_read(edition, input, length, rows, rows_length));
+    return reply_of(gamulisyan_read(edition, input, length, rows, rows_length, words, word_count));
 }
 
-struct second_reply archive_read_tolerant(uint32_t edition, const uint8_t *input, size_t length, uint32_t *rows, size_t rows_length)
+struct second_reply archive_read_tolerant(uint32_t edition, const uint8_t *input, size_t length, uint32_t *rows, size_t rows_length,
+                                          uint32_t *words, size_t word_count)
 {
-    return reply_of(gamulisyan_read_tolerant(edition, input, length, rows, rows_length));
+    return reply_of(gamulisyan_read_tolerant(edition, input, length, rows, rows_length, words, word_count));
+}
+
+uint32_t archive_ones(uint32_t word)
+{
+    return gamulisyan_ones(word);
 }
 
 struct second_reply archive_write(uint32_t edition, const uint32_t *rows, size_t rows_length, const uint8_t *pool, size_t pool_length,

@@ -2,6 +2,7 @@
    the second program. A listing stays the second program's, for the archive has none. */
 #define second_read archive_read
 #define second_read_tolerant archive_read_tolerant
+#define second_ones archive_ones
 #define second_write archive_write
 #define second_payload archive_payload
 #define second_number_decode archive_number_decode

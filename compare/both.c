@@ -3,6 +3,7 @@
 #include "gamulisyan.h"
 #include "header.h"
 #include "second.h"
+#include "words.h"
 
 #include <stdio.h>
 #include <string.h>
@@ -56,8 +57,8 @@ static int count(struct tally *tally, int same)
     return same;
 }
 
-typedef struct gamulisyan_answer archive_reader(uint32_t, const uint8_t *, size_t, uint32_t *, size_t);
-typedef struct second_reply second_reader(uint32_t, const uint8_t *, size_t, uint32_t *, size_t);
+typedef struct gamulisyan_answer archive_reader(uint32_t, const uint8_t *, size_t, uint32_t *, size_t, uint32_t *, size_t);
+typedef struct second_reply second_reader(uint32_t, const uint8_t *, size_t, uint32_t *, size_t, uint32_t *, size_t);
 
 static struct answer both_read_by(archive_reader *archive_read, second_reader *second_read_by, struct tally *tally, uint32_t edition,
                                   const uint8_t *input, size_t length, size_t numbers, uint32_t *rows)
@@ -67,14 +68,15 @@ static struct answer both_read_by(archive_reader *archive_read, second_reader *s
     lend(lent_rows[1], size);
     uint32_t *first = (uint32_t *)(void *)(lent_rows[0] + GUARD);
     uint32_t *other = (uint32_t *)(void *)(lent_rows[1] + GUARD);
-    struct gamulisyan_answer a = archive_read(edition, input, length, first, numbers);
-    struct second_reply b = second_read_by(edition, input, length, other, numbers);
+    lend_words();
+    struct gamulisyan_answer a = archive_read(edition, input, length, first, numbers, words_of(0), words_lent);
+    struct second_reply b = second_read_by(edition, input, length, other, numbers, words_of(1), words_lent);
     struct answer archive = {a.answer, a.place, a.rows};
     struct answer second = {b.answer, (size_t)b.place, (size_t)b.rows};
     size_t used = archive.answer == GAMULISYAN_ACCEPTED ? archive.rows * ROW_NUMBERS * sizeof(uint32_t) : 0;
     if (!count(tally, same_answers(archive, second) && memcmp(lent_rows[0], lent_rows[1], GUARD + size + GUARD) == 0
-                          && untouched(lent_rows[0], used, size))) {
-        printf("%s differs: edition %u, %zu numbers lent\n", archive_read == gamulisyan_read ? "read" : "read_tolerant", edition, numbers);
+                          && untouched(lent_rows[0], used, size) && words_hold(first, used / sizeof *first / ROW_NUMBERS))) {
+        printf("%s differs: edition %u, %zu numbers and %zu words lent\n", archive_read == gamulisyan_read ? "read" : "read_tolerant", edition, numbers, words_lent);
         print_answers(archive, second);
         print_bytes("input", input, length);
     }

@@ -4,6 +4,7 @@
 #include "damage.h"
 #include "generate.h"
 #include "tables.h"
+#include "words.h"
 
 #include <inttypes.h>
 #include <stdio.h>
@@ -144,11 +145,24 @@ static void check_limits(struct tally *tally)
         }
 }
 
+/* With fewer words than a reading needs, and with more. */
+static void check_words(struct source *source, struct tally *tally, uint32_t edition, const struct header *header, size_t numbers)
+{
+    words_lent = random_below(source, MOST_WORDS + 1);
+    both_read(tally, edition, header->bytes, header->length, numbers, NULL);
+    both_read_tolerant(tally, edition, header->bytes, header->length, numbers, NULL);
+    words_lent = WORDS_NEEDED + random_below(source, MOST_WORDS - WORDS_NEEDED + 1);
+    uint32_t word = (uint32_t)random_word(source) >> random_below(source, 32);
+    demand(tally, same_ones(word), "ones", edition, header->bytes, header->length);
+}
+
 static void check_header(struct source *source, struct tally *tally, uint32_t edition, const struct header *header)
 {
     size_t most = header->length > 4096 ? MOST_ROWS / 16 : 256;
     struct answer read = both_read(tally, edition, header->bytes, header->length, most * ROW_NUMBERS, table);
     check_tolerant(tally, edition, header, read, most * ROW_NUMBERS);
+    if (random_once_in(source, 4))
+        check_words(source, tally, edition, header, most * ROW_NUMBERS);
     if (random_once_in(source, 8)) {
         uint32_t label = (uint32_t)random_below(source, 4);
         size_t numbers = random_below(source, 64);

@@ -1,4 +1,4 @@
-//! The archive's nine entries for Rust, as `include/gamulisyan.h` declares them, and `read`, `read_tolerant` and `write` over slices.
+//! The archive's ten entries for Rust, as `include/gamulisyan.h` declares them, and `read`, `read_tolerant`, `write` and others over slices.
 //! Copy this file; docs/RUST.md says how to link it.
 #![allow(dead_code)]
 
@@ -62,8 +62,25 @@ pub struct Dated {
 
 #[link(name = "gamulisyan", kind = "static")]
 extern "C" {
-    pub fn gamulisyan_read(edition: u32, input: *const u8, length: usize, rows: *mut u32, numbers: usize) -> Answer;
-    pub fn gamulisyan_read_tolerant(edition: u32, input: *const u8, length: usize, rows: *mut u32, numbers: usize) -> Answer;
+    pub fn gamulisyan_read(
+        edition: u32,
+        input: *const u8,
+        length: usize,
+        rows: *mut u32,
+        numbers: usize,
+        words: *mut u32,
+        word_count: usize,
+    ) -> Answer;
+    pub fn gamulisyan_read_tolerant(
+        edition: u32,
+        input: *const u8,
+        length: usize,
+        rows: *mut u32,
+        numbers: usize,
+        words: *mut u32,
+        word_count: usize,
+    ) -> Answer;
+    pub fn gamulisyan_ones(word: u32) -> u32;
     pub fn gamulisyan_write(
         edition: u32,
         rows: *const u32,
@@ -86,38 +103,65 @@ pub type Row = [u32; ROW_NUMBERS];
 
 pub const ROW_NUMBERS: usize = 5;
 
+/// The words that a reading borrows. Bit n of an envelope's word says that it has the parameter with code n.
+pub const WORDS: usize = 16;
+
 const USUAL_ROWS: usize = 32;
 
 /// `gamulisyan_read` or `gamulisyan_read_tolerant`.
-type Reader = unsafe extern "C" fn(u32, *const u8, usize, *mut u32, usize) -> Answer;
+type Reader = unsafe extern "C" fn(u32, *const u8, usize, *mut u32, usize, *mut u32, usize) -> Answer;
 
-fn read_into(reader: Reader, edition: u32, input: &[u8], rows: &mut [Row]) -> Answer {
-    // the entry asks nothing of its caller but two valid slices, and rows of five numbers lie one behind the other
-    unsafe { reader(edition, input.as_ptr(), input.len(), rows.as_mut_ptr().cast(), rows.len() * ROW_NUMBERS) }
+fn read_into(reader: Reader, edition: u32, input: &[u8], rows: &mut [Row], words: &mut [u32; WORDS]) -> Answer {
+    // the entry asks nothing of its caller but valid slices, and rows of five numbers lie one behind the other
+    unsafe {
+        reader(
+            edition,
+            input.as_ptr(),
+            input.len(),
+            rows.as_mut_ptr().cast(),
+            rows.len() * ROW_NUMBERS,
+            words.as_mut_ptr(),
+            words.len(),
+        )
+    }
 }
 
-/// The rows of the header at the front of `input`, and the header's length; or the refusal.
-pub fn read(edition: u32, input: &[u8]) -> Result<(Vec<Row>, usize), Answer> {
+/// A header as it was read: its rows, a word for each envelope, the first envelopes' first, and its length.
+#[derive(Clone, Debug, PartialEq, Eq)]
+pub struct Header {
+    pub rows: Vec<Row>,
+    pub words: [u32; WORDS],
+    pub length: usize,
+}
+
+/// How many different parameters the envelope of this word has.
+pub fn ones(word: u32) -> u32 {
+    unsafe { gamulisyan_ones(word) }
+}
+
+/// The header at the front of `input`; or the refusal.
+pub fn read(edition: u32, input: &[u8]) -> Result<Header, Answer> {
     read_by(gamulisyan_read, edition, input)
 }
 
 /// The same, where a byte block's length may stand wider than it needs: 11 is never the refusal.
-pub fn read_tolerant(edition: u32, input: &[u8]) -> Result<(Vec<Row>, usize), Answer> {
+pub fn read_tolerant(edition: u32, input: &[u8]) -> Result<Header, Answer> {
     read_by(gamulisyan_read_tolerant, edition, input)
 }
 
-fn read_by(reader: Reader, edition: u32, input: &[u8]) -> Result<(Vec<Row>, usize), Answer> {
+fn read_by(reader: Reader, edition: u32, input: &[u8]) -> Result<Header, Answer> {
     let mut rows = vec![[0; ROW_NUMBERS]; USUAL_ROWS];
-    let mut read = read_into(reader, edition, input, &mut rows);
+    let mut words = [0; WORDS];
+    let mut read = read_into(reader, edition, input, &mut rows, &mut words);
     if read.answer == ROWS_SHORT {
         rows.resize(read.rows, [0; ROW_NUMBERS]);
-        read = read_into(reader, edition, input, &mut rows);
+        read = read_into(reader, edition, input, &mut rows, &mut words);
     }
     if read.answer != ACCEPTED {
         return Err(read);
     }
     rows.truncate(read.rows);
-    Ok((rows, read.place))
+    Ok(Header { rows, words, length: read.place })
 }
 
 /// Writes the table over the front of `output`: the bytes written, or the refusal. Refused with 16, `place` is the room needed.
@@ -159,7 +203,7 @@ mod tests {
 
     #[test]
     fn reads_and_writes() {
-        let (rows, length) = read(EDITION_B, &M).unwrap();
+        let Header { rows, length, .. } = read(EDITION_B, &M).unwrap();
         assert_eq!((rows.len(), length), (3, 15));
         let mut output = [0; 15];
         assert_eq!(write(EDITION_B, &rows, &M, &mut output), Ok(15));
@@ -175,11 +219,22 @@ mod tests {
     fn takes_a_wide_length() {
         let wide = *b"\xFE\x00\x15\x12\x20\x31\x11\x16\x19\x15\x37\x62\x59\x20\x0B\x19\x00\x00\x00\x00\x01";
         assert_eq!(read(EDITION_D, &wide), Err(Answer { answer: LENGTH_FORM_WIDE, place: 15, rows: 0 }));
-        let (rows, length) = read_tolerant(EDITION_D, &wide).unwrap();
+        let Header { rows, length, .. } = read_tolerant(EDITION_D, &wide).unwrap();
         assert_eq!((rows.len(), length), (5, 21));
         let mut output = [0; 18];
         assert_eq!(write(EDITION_D, &rows, &wide, &mut output), Ok(18));
-        assert_eq!(read(EDITION_D, &output).unwrap().0.len(), 5);
+        assert_eq!(read(EDITION_D, &output).unwrap().rows.len(), 5);
+    }
+
+    #[test]
+    fn says_which_parameters() {
+        let words = read(EDITION_B, &M).unwrap().words;
+        assert_eq!((words[0], words[1]), (1 << 4, 0));
+        let mut rows = [[0; ROW_NUMBERS]; 3];
+        let mut few = [7; WORDS - 1];
+        let short = unsafe { gamulisyan_read(EDITION_B, M.as_ptr(), M.len(), rows.as_mut_ptr().cast(), 15, few.as_mut_ptr(), few.len()) };
+        assert_eq!((short, few), (Answer { answer: ROWS_SHORT, place: 15, rows: 3 }, [7; WORDS - 1]));
+        assert_eq!((ones(words[0]), ones(u32::MAX)), (1, 32));
     }
 
     #[test]

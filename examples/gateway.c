@@ -1,13 +1,13 @@
 /* gateway b|d [FILE]: an example of the archive's use. Reads the header at the front of FILE, or of standard input, in the
-   edition given; prints whom it is for; writes it again from its rows, and holds the bytes against those that it read. A header
+   edition given; prints which parameters it has and whom it is for; writes it again from its rows, and holds the bytes against those that it read. A header
    that is refused only because a length stands too wide is read tolerantly, and then written with its shortest lengths.
 
    Build it at the top of the repository, on x86-64:
        rt staticlib gamulisyan
        cc -std=c11 -O2 -I include -o gateway examples/gateway.c target/staticlib/libgamulisyan.a
 
-   A line for each agent of `to` and of the intended receiver: the list, the name, the addresses. Then the bytes of the
-   header and of the payload. Fields are parted by tabs, which no name and no address holds.
+   A line for each envelope, as a monitor prints it: how many different parameters it has, and which. A line for each agent of `to` and of
+   the intended receiver: the list, the name, the addresses. Then the bytes of the header and of the payload. Fields are parted by tabs, which no name and no address holds.
    Status: 0 if all went well; 1 for a header that is refused; 2 for wrong use, a file that cannot be read, no memory. */
 #include "gamulisyan.h"
 
@@ -76,26 +76,28 @@ static uint32_t *lend_rows(uint32_t *rows, size_t count)
 }
 
 /* gamulisyan_read or gamulisyan_read_tolerant */
-typedef struct gamulisyan_answer reader(uint32_t edition, const uint8_t *input, size_t length, uint32_t *rows, size_t numbers);
+typedef struct gamulisyan_answer reader(uint32_t edition, const uint8_t *input, size_t length, uint32_t *rows, size_t numbers, uint32_t *words,
+                                        size_t word_count);
 
 /* Answer 14 says how many rows are needed: with those the same call cannot be short again. */
-static struct gamulisyan_answer read_rows_by(reader *read_header, uint32_t edition, struct bytes input, uint32_t **rows)
+static struct gamulisyan_answer read_rows_by(reader *read_header, uint32_t edition, struct bytes input, uint32_t **rows, uint32_t *words)
 {
     *rows = lend_rows(*rows, USUAL_ROWS);
-    struct gamulisyan_answer read = read_header(edition, input.at, input.length, *rows, USUAL_ROWS * GAMULISYAN_ROW_NUMBERS);
+    struct gamulisyan_answer read =
+        read_header(edition, input.at, input.length, *rows, USUAL_ROWS * GAMULISYAN_ROW_NUMBERS, words, GAMULISYAN_WORDS);
     if (read.answer != GAMULISYAN_ROWS_SHORT)
         return read;
     *rows = lend_rows(*rows, read.rows);
-    return read_header(edition, input.at, input.length, *rows, read.rows * GAMULISYAN_ROW_NUMBERS);
+    return read_header(edition, input.at, input.length, *rows, read.rows * GAMULISYAN_ROW_NUMBERS, words, GAMULISYAN_WORDS);
 }
 
-static struct gamulisyan_answer read_rows(uint32_t edition, struct bytes input, uint32_t **rows)
+static struct gamulisyan_answer read_rows(uint32_t edition, struct bytes input, uint32_t **rows, uint32_t *words)
 {
-    struct gamulisyan_answer read = read_rows_by(gamulisyan_read, edition, input, rows);
+    struct gamulisyan_answer read = read_rows_by(gamulisyan_read, edition, input, rows, words);
     if (read.answer != GAMULISYAN_LENGTH_FORM_WIDE)
         return read;
     printf("a length at %zu stands too wide\n", read.place);
-    return read_rows_by(gamulisyan_read_tolerant, edition, input, rows);
+    return read_rows_by(gamulisyan_read_tolerant, edition, input, rows, words);
 }
 
 static struct row row_at(const uint32_t *rows, size_t place)
@@ -160,6 +162,36 @@ static void print_receivers(struct bytes input, const uint32_t *rows, size_t cou
     }
 }
 
+/* From the envelope's word alone: no row is looked at. */
+static void print_word(uint32_t word)
+{
+    static const char *const names[] = {
+        [GAMULISYAN_PARAMETER_OWN] = "own",
+        [GAMULISYAN_PARAMETER_TO] = "to",
+        [GAMULISYAN_PARAMETER_FROM] = "from",
+        [GAMULISYAN_PARAMETER_REPRESENTATION] = "representation",
+        [GAMULISYAN_PARAMETER_COMMENTS] = "comments",
+        [GAMULISYAN_PARAMETER_PAYLOAD_LENGTH] = "payload length",
+        [GAMULISYAN_PARAMETER_PAYLOAD_ENCODING] = "payload encoding",
+        [GAMULISYAN_PARAMETER_ENCRYPTED] = "encrypted",
+        [GAMULISYAN_PARAMETER_RECEIVER] = "intended receiver",
+        [GAMULISYAN_PARAMETER_RECEIVED] = "received",
+        [GAMULISYAN_PARAMETER_BEHAVIOUR] = "transport behaviour",
+    };
+    printf("has %u", (unsigned)gamulisyan_ones(word));
+    for (unsigned code = 0; code < sizeof names / sizeof *names; code++)
+        if (word >> code & 1)
+            printf("\t%s", names[code]);
+    putchar('\n');
+}
+
+/* Hops from envelope to envelope. */
+static void print_words(const uint32_t *rows, size_t count, const uint32_t *words)
+{
+    for (size_t place = 0; place < count; place = row_at(rows, place).skip)
+        print_word(*words++);
+}
+
 static int say_refusal(const char *call, struct gamulisyan_answer answer)
 {
     fprintf(stderr, "gateway: %s refused with %u at %zu\n", call, (unsigned)answer.answer, answer.place);
@@ -194,9 +226,11 @@ static int write_again(uint32_t edition, struct bytes input, const uint32_t *row
 static int pass_on(uint32_t edition, struct bytes input)
 {
     uint32_t *rows = NULL;
-    struct gamulisyan_answer read = read_rows(edition, input, &rows);
+    uint32_t words[GAMULISYAN_WORDS];
+    struct gamulisyan_answer read = read_rows(edition, input, &rows, words);
     int status;
     if (read.answer == GAMULISYAN_ACCEPTED) {
+        print_words(rows, read.rows, words);
         print_receivers(input, rows, read.rows);
         status = write_again(edition, input, rows, read);
     } else {

@@ -4,7 +4,7 @@
 
 mod gamulisyan;
 
-use gamulisyan::{Answer, Row, EDITION_B, EDITION_D, LENGTH_FORM_WIDE};
+use gamulisyan::{Answer, Header, Row, EDITION_B, EDITION_D, LENGTH_FORM_WIDE};
 use std::io::{Read, Write};
 use std::process::ExitCode;
 
@@ -13,6 +13,38 @@ const BASE_OPENS: u32 = 2;
 const TO_OPENS: u32 = 12;
 const RECEIVER_OPENS: u32 = 14;
 const ADDRESSES_OPEN: u32 = 16;
+
+/// Parameters by their codes.
+const PARAMETERS: [&str; 12] = [
+    "own",
+    "",
+    "to",
+    "from",
+    "representation",
+    "comments",
+    "payload length",
+    "payload encoding",
+    "encrypted",
+    "intended receiver",
+    "received",
+    "transport behaviour",
+];
+
+/// A line for each envelope, from its word alone: how many different parameters it has, and which.
+fn parameters(header: &Header) -> Vec<u8> {
+    let mut lines = Vec::new();
+    let envelopes = header.rows.iter().filter(|row| row[0] <= BASE_OPENS).count();
+    for word in &header.words[..envelopes] {
+        lines.extend(format!("has {}", gamulisyan::ones(*word)).bytes());
+        for (code, name) in PARAMETERS.iter().enumerate() {
+            if word >> code & 1 == 1 {
+                lines.extend(format!("\t{name}").bytes());
+            }
+        }
+        lines.push(b'\n');
+    }
+    lines
+}
 
 /// The name of the list that a row opens, none if whoever is in it does not receive the message.
 fn list_opened(kind: u32) -> Option<&'static str> {
@@ -73,7 +105,7 @@ fn say_refusal(call: &str, refusal: Answer) -> ExitCode {
 }
 
 /// A header that is refused only because a length stands too wide is read tolerantly; a line says so.
-fn read(edition: u32, input: &[u8], lines: &mut Vec<u8>) -> Result<(Vec<Row>, usize), Answer> {
+fn read(edition: u32, input: &[u8], lines: &mut Vec<u8>) -> Result<Header, Answer> {
     match gamulisyan::read(edition, input) {
         Err(refusal) if refusal.answer == LENGTH_FORM_WIDE => {
             lines.extend(format!("a length at {} stands too wide\n", refusal.place).bytes());
@@ -85,17 +117,19 @@ fn read(edition: u32, input: &[u8], lines: &mut Vec<u8>) -> Result<(Vec<Row>, us
 
 fn pass_on(edition: u32, input: &[u8]) -> ExitCode {
     let mut lines = Vec::new();
-    let (rows, length) = match read(edition, input, &mut lines) {
+    let header = match read(edition, input, &mut lines) {
         Ok(read) => read,
         Err(refusal) => return say_refusal("reading", refusal),
     };
+    let length = header.length;
     let mut output = vec![0; length];
-    let written = match gamulisyan::write(edition, &rows, input, &mut output) {
+    let written = match gamulisyan::write(edition, &header.rows, input, &mut output) {
         Ok(written) => written,
         Err(refusal) => return say_refusal("writing", refusal),
     };
     let same = output[..written] == input[..length];
-    lines.extend(receivers(input, &rows));
+    lines.extend(parameters(&header));
+    lines.extend(receivers(input, &header.rows));
     let verdict = if same { "the same".to_string() } else { format!("in {written}") };
     let payload = input.len() - length;
     lines.extend(format!("header {length} bytes, written again {verdict}\npayload {payload} bytes\n").bytes());

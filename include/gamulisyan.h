@@ -1,6 +1,6 @@
 /* Gamulisyan: the proved coder of the FIPA bit-efficient message envelope, editions B (1) and D (2).
    Documents 01 and 02 rule every answer. The caller lends all memory; a pointer with length 0 may be null.
-   A refused call changes nothing lent; an accepted one only the bytes or rows that it reports. What a call may change must not
+   A refused call changes nothing lent; an accepted one only the bytes or rows that it reports, and the words of its envelopes. What a call may change must not
    overlap what it reads. */
 #ifndef GAMULISYAN_H
 #define GAMULISYAN_H
@@ -34,7 +34,8 @@ enum {
     GAMULISYAN_CLOSED_EARLY = 13,
     GAMULISYAN_ROWS_SHORT = 14,
     GAMULISYAN_TABLE_WRONG = 15,
-    GAMULISYAN_OUTPUT_SHORT = 16
+    GAMULISYAN_OUTPUT_SHORT = 16,
+    GAMULISYAN_PARAMETER_UNKNOWN = 17
 };
 
 enum { GAMULISYAN_EDITION_B = 1, GAMULISYAN_EDITION_D = 2 };
@@ -78,6 +79,23 @@ enum {
     GAMULISYAN_BEHAVIOUR_OPENS = 29
 };
 
+/* Parameters by their codes: the own parameters, and those that the documents name. 20 is no parameter's, but the code by which the base
+   envelope's own date is asked for. */
+enum {
+    GAMULISYAN_PARAMETER_OWN = 0x00,
+    GAMULISYAN_PARAMETER_TO = 0x02,
+    GAMULISYAN_PARAMETER_FROM = 0x03,
+    GAMULISYAN_PARAMETER_REPRESENTATION = 0x04,
+    GAMULISYAN_PARAMETER_COMMENTS = 0x05,
+    GAMULISYAN_PARAMETER_PAYLOAD_LENGTH = 0x06,
+    GAMULISYAN_PARAMETER_PAYLOAD_ENCODING = 0x07,
+    GAMULISYAN_PARAMETER_ENCRYPTED = 0x08,
+    GAMULISYAN_PARAMETER_RECEIVER = 0x09,
+    GAMULISYAN_PARAMETER_RECEIVED = 0x0a,
+    GAMULISYAN_PARAMETER_BEHAVIOUR = 0x0b,
+    GAMULISYAN_PARAMETER_DATE = 0x20
+};
+
 struct gamulisyan_answer {
     uint32_t answer;
     size_t place; /* the header's length if accepted, else as document 01's table says */
@@ -118,17 +136,43 @@ struct gamulisyan_dated {
     struct gamulisyan_date date;
 };
 
-/* Takes an input and rows lent: `numbers` counts their uint32_t, five for each row. Reads the header at the front of the input.
-   Answers 0, the place of the payload's first byte and the rows read; or a refusal and its place, and only for 14 the rows
-   needed, to be lent by a second call. Leaves the rows read at the front of `rows`, their starts being places in the input, and
-   after a refusal nothing. */
-struct gamulisyan_answer gamulisyan_read(uint32_t edition, const uint8_t *input, size_t length, uint32_t *rows, size_t numbers);
+/* A presence word says which parameters an envelope has: bit n for each parameter code n that occurs in it, the value in its fixed head
+   counted. A base always has representation and an extension received; no other bit than these eleven is ever set. A reading borrows
+   sixteen words, one for each envelope that a header can have. */
+enum {
+    GAMULISYAN_HAS_OWN = 1 << GAMULISYAN_PARAMETER_OWN,
+    GAMULISYAN_HAS_TO = 1 << GAMULISYAN_PARAMETER_TO,
+    GAMULISYAN_HAS_FROM = 1 << GAMULISYAN_PARAMETER_FROM,
+    GAMULISYAN_HAS_REPRESENTATION = 1 << GAMULISYAN_PARAMETER_REPRESENTATION,
+    GAMULISYAN_HAS_COMMENTS = 1 << GAMULISYAN_PARAMETER_COMMENTS,
+    GAMULISYAN_HAS_PAYLOAD_LENGTH = 1 << GAMULISYAN_PARAMETER_PAYLOAD_LENGTH,
+    GAMULISYAN_HAS_PAYLOAD_ENCODING = 1 << GAMULISYAN_PARAMETER_PAYLOAD_ENCODING,
+    GAMULISYAN_HAS_ENCRYPTED = 1 << GAMULISYAN_PARAMETER_ENCRYPTED,
+    GAMULISYAN_HAS_RECEIVER = 1 << GAMULISYAN_PARAMETER_RECEIVER,
+    GAMULISYAN_HAS_RECEIVED = 1 << GAMULISYAN_PARAMETER_RECEIVED,
+    GAMULISYAN_HAS_BEHAVIOUR = 1 << GAMULISYAN_PARAMETER_BEHAVIOUR
+};
+
+enum { GAMULISYAN_WORDS = 16 };
+
+/* Takes an input, rows lent: `numbers` counts their uint32_t, five for each row, and `word_count` words lent, at least sixteen. Reads the
+   header at the front of the input. Answers 0, the place of the payload's first byte and the rows read; or a refusal and its place, and only
+   for 14, which is also given where fewer words are lent, the rows needed, to be lent by a second call. Leaves the rows read at the front of
+   `rows`, their starts being places in the input, and the word of each envelope at the front of `words`, in the order of the envelopes, with
+   all words behind them as they were; and after a refusal nothing. */
+struct gamulisyan_answer gamulisyan_read(uint32_t edition, const uint8_t *input, size_t length, uint32_t *rows, size_t numbers, uint32_t *words,
+                                         size_t word_count);
 
 /* The same, for headers whose sender writes the length of a byte block in more bytes than it needs: such a length is taken, and 11 is never
-   the answer. Where gamulisyan_read does not answer 11, this gives the same answer and rows; where it does, this accepts the header or
+   the answer. Where gamulisyan_read does not answer 11, this gives the same answer, rows and words; where it does, this accepts the header or
    refuses it for a fault behind that place. Written from its rows, a header has the shortest lengths, which gamulisyan_read takes. An
    envelope's own length is held as strictly as there. */
-struct gamulisyan_answer gamulisyan_read_tolerant(uint32_t edition, const uint8_t *input, size_t length, uint32_t *rows, size_t numbers);
+struct gamulisyan_answer gamulisyan_read_tolerant(uint32_t edition, const uint8_t *input, size_t length, uint32_t *rows, size_t numbers,
+                                                  uint32_t *words, size_t word_count);
+
+/* Takes a presence word, or any other number. Answers how many of its bits are set: how many different parameter codes its envelope has.
+   Changes no memory. */
+uint32_t gamulisyan_ones(uint32_t word);
 
 /* Takes rows, `numbers` again counting uint32_t, the pool whose bytes they view (for rows just read: their input) and an output
    lent. Answers 0, the bytes written and the rows; or a refusal, checked in this order: 1; 15 at the row that is wrong, and only where no row is wrong otherwise at the lowest with

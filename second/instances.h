@@ -13,6 +13,7 @@ struct bench {
     struct header header;
     uint8_t output[MOST_BYTES];
     uint32_t rows[MOST_ROWS * ROW_NUMBERS];
+    uint32_t words[WORDS + 1];
     unsigned passed;
     unsigned failed;
 };
@@ -27,5 +28,6 @@ void run_reading(struct bench *bench);
 void run_writing(struct bench *bench);
 void run_values(struct bench *bench);
 void run_listing(struct bench *bench);
+void run_words(struct bench *bench);
 
 #endif

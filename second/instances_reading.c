@@ -21,12 +21,12 @@ static void expect_read(struct bench *bench, const char *name, uint32_t edition,
 {
     const struct header *header = &bench->header;
     struct second_reply got = second_read(edition, header->bytes, header->length, bench->rows,
-                                          MOST_ROWS * ROW_NUMBERS);
+                                          MOST_ROWS * ROW_NUMBERS, bench->words, WORDS);
     bool passed = same(got, answer, place, rows);
     if (passed && answer == ACCEPTED) {
         size_t numbers = (size_t)rows * ROW_NUMBERS;
-        struct second_reply tight = second_read(edition, header->bytes, header->length, bench->rows, numbers - 1);
-        struct second_reply exact = second_read(edition, header->bytes, header->length, bench->rows, numbers + ROW_NUMBERS - 1);
+        struct second_reply tight = second_read(edition, header->bytes, header->length, bench->rows, numbers - 1, bench->words, WORDS);
+        struct second_reply exact = second_read(edition, header->bytes, header->length, bench->rows, numbers + ROW_NUMBERS - 1, bench->words, WORDS);
         passed = same(tight, ROOM_EXCEEDED, place, rows) && same(exact, ACCEPTED, place, rows)
                  && writes_back(bench, edition, place, rows);
     }
@@ -100,7 +100,7 @@ static void expect_wide(struct bench *bench, const char *name, uint64_t code)
     const struct header *header = &bench->header;
     expect_both(bench, name, FORM_TOO_WIDE, code, 0);
     for (uint32_t edition = EDITION_B; edition <= EDITION_D; edition++) {
-        struct second_reply got = second_read_tolerant(edition, header->bytes, header->length, bench->rows, MOST_ROWS * ROW_NUMBERS);
+        struct second_reply got = second_read_tolerant(edition, header->bytes, header->length, bench->rows, MOST_ROWS * ROW_NUMBERS, bench->words, WORDS);
         judge(bench, name, same(got, ACCEPTED, header->length, 5));
     }
 }

@@ -26,7 +26,8 @@ void second_listing(uint32_t edition, const uint8_t *input, size_t length, FILE 
         fputs("too long\n", listing);
         return;
     }
-    struct second_reply reply = second_read(edition, input, length, rows, SECOND_LISTING_ROWS * ROW_NUMBERS);
+    uint32_t words[WORDS];
+    struct second_reply reply = second_read(edition, input, length, rows, SECOND_LISTING_ROWS * ROW_NUMBERS, words, WORDS);
     fprintf(listing, "%" PRIu32 "\t%" PRIu64 "\t%" PRIu64 "\n", reply.answer, reply.place, reply.rows);
     if (reply.answer != ACCEPTED)
         return;

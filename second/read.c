@@ -15,6 +15,8 @@ struct reader {
     uint32_t answer;
     uint32_t *rows; /* NULL while rows are only counted */
     uint64_t row_count;
+    uint32_t word;   /* a bit for each parameter code met in the envelope being read */
+    uint32_t *words; /* where the next envelope's word goes; NULL while rows are only counted */
 };
 
 /* Every stage below hands the refusal up by answering false. */
@@ -314,6 +316,7 @@ static bool read_parameters(struct reader *reader)
             return reader->place == reader->end || refuse(reader, CLOSED_EARLY, reader->place);
         if (!read_parameter(reader, code))
             return false;
+        reader->word |= UINT32_C(1) << code;
     }
     return false;
 }
@@ -362,12 +365,17 @@ static bool read_envelope(struct reader *reader, unsigned earlier, bool *base)
     *base = byte == IDENTIFIER_BASE;
     add_row(reader, *base ? KIND_BASE : KIND_EXTENSION, LEVEL_ENVELOPE, identifier, 0);
     bool head = *base ? read_representation(reader) && read_date(reader, LEVEL_ENVELOPE) : read_received(reader);
-    return ends_row(reader, opening, head && read_parameters(reader));
+    reader->word = UINT32_C(1) << (*base ? CODE_REPRESENTATION : CODE_RECEIVED);
+    bool read = ends_row(reader, opening, head && read_parameters(reader));
+    if (read && reader->words != NULL)
+        *reader->words++ = reader->word;
+    return read;
 }
 
-static struct reader read_header(uint32_t edition, bool tolerant, const uint8_t *input, size_t length, uint32_t *rows)
+static struct reader read_header(uint32_t edition, bool tolerant, const uint8_t *input, size_t length, uint32_t *rows,
+                                 uint32_t *words)
 {
-    struct reader reader = {.edition = edition, .tolerant = tolerant, .input = input, .length = length, .rows = rows};
+    struct reader reader = {.edition = edition, .tolerant = tolerant, .input = input, .length = length, .rows = rows, .words = words};
     if (!edition_known(edition)) {
         refuse(&reader, NO_SUCH_EDITION, 0);
         return reader;
@@ -380,35 +388,35 @@ static struct reader read_header(uint32_t edition, bool tolerant, const uint8_t 
 }
 
 static struct second_reply read_into(uint32_t edition, bool tolerant, const uint8_t *input, size_t length,
-                                     uint32_t *rows, size_t rows_length)
+                                     uint32_t *rows, size_t rows_length, uint32_t *words, size_t word_count)
 {
-    struct reader counted = read_header(edition, tolerant, input, length, NULL);
+    struct reader counted = read_header(edition, tolerant, input, length, NULL, NULL);
     struct second_reply reply = {.answer = counted.answer, .place = counted.place};
     if (counted.answer != ACCEPTED)
         return reply;
     reply.rows = counted.row_count;
-    if (counted.row_count > rows_length / ROW_NUMBERS)
+    if (counted.row_count > rows_length / ROW_NUMBERS || word_count < WORDS)
         reply.answer = ROOM_EXCEEDED;
     else
-        read_header(edition, tolerant, input, length, rows);
+        read_header(edition, tolerant, input, length, rows, words);
     return reply;
 }
 
 struct second_reply second_read(uint32_t edition, const uint8_t *input, size_t length,
-                                uint32_t *rows, size_t rows_length)
+                                uint32_t *rows, size_t rows_length, uint32_t *words, size_t word_count)
 {
-    return read_into(edition, false, input, length, rows, rows_length);
+    return read_into(edition, false, input, length, rows, rows_length, words, word_count);
 }
 
 struct second_reply second_read_tolerant(uint32_t edition, const uint8_t *input, size_t length,
-                                         uint32_t *rows, size_t rows_length)
+                                         uint32_t *rows, size_t rows_length, uint32_t *words, size_t word_count)
 {
-    return read_into(edition, true, input, length, rows, rows_length);
+    return read_into(edition, true, input, length, rows, rows_length, words, word_count);
 }
 
 struct second_part second_payload(uint32_t edition, const uint8_t *input, size_t length)
 {
-    struct reader header = read_header(edition, false, input, length, NULL);
+    struct reader header = read_header(edition, false, input, length, NULL, NULL);
     if (header.answer != ACCEPTED)
         return (struct second_part){.start = 0, .length = 0};
     return (struct second_part){.start = header.place, .length = length - header.place};

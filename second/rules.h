@@ -10,6 +10,7 @@ enum { EDITION_B = 1, EDITION_D = 2 };
 enum {
     ENVELOPE_LIMIT = 1048576,
     ENVELOPES = 16, /* the base counted */
+    WORDS = 16,     /* lent to a reading: document 02, order 6 */
     AGENT_LEVELS = 8,
     SHORT_FRONT = 3, /* identifier and two length bytes */
     LONG_FRONT = 7,  /* identifier, two zero bytes and four length bytes */

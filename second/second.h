@@ -37,13 +37,17 @@ struct second_date {
     uint32_t designator; /* 0 for none */
 };
 
-/* `rows_length` counts u32 numbers; five make a row, and the room is the whole rows among them. */
+/* `rows_length` counts u32 numbers; five make a row, and the room is the whole rows among them. Of the words, of which sixteen must be lent,
+   one is set for each envelope: bit n for each parameter code n that it has, its fixed head's too. */
 struct second_reply second_read(uint32_t edition, const uint8_t *input, size_t length,
-                                uint32_t *rows, size_t rows_length);
+                                uint32_t *rows, size_t rows_length, uint32_t *words, size_t word_count);
 
 /* The same, but a byte block's length may stand in a wider form than it needs: FORM_TOO_WIDE is never the answer. */
 struct second_reply second_read_tolerant(uint32_t edition, const uint8_t *input, size_t length,
-                                         uint32_t *rows, size_t rows_length);
+                                         uint32_t *rows, size_t rows_length, uint32_t *words, size_t word_count);
+
+/* How many different codes a word carries: its ones. */
+uint32_t second_ones(uint32_t word);
 
 struct second_reply second_write(uint32_t edition, const uint32_t *rows, size_t rows_length,
                                  const uint8_t *pool, size_t pool_length,

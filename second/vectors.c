@@ -1,4 +1,4 @@
-/* Runs the recorded cases of one folder: read.tsv, write.tsv, number.tsv, date.tsv, days.tsv, breaks.tsv, tolerant.tsv and skips.tsv. Each case is given its own lent
+/* Runs the recorded cases of one folder: read.tsv, write.tsv, number.tsv, date.tsv, days.tsv, breaks.tsv, tolerant.tsv, skips.tsv and words.tsv. Each case is given its own lent
    memory between guards, and the whole of it is compared afterwards. */
 #include "second.h"
 
@@ -23,6 +23,7 @@ struct bench {
     struct lent source; /* input, rows to write, or bytes to decode */
     struct lent pool;
     struct lent target; /* rows to fill, or output */
+    struct lent words;
     uint8_t expected[MOST_LENT];
     uint8_t given[MOST_LENT];
 };
@@ -97,6 +98,20 @@ static void print_lent(struct lent *lent)
     print_hex(inside(lent) + lent->length, GUARD);
 }
 
+/* Sixteen words, as every reading needs. */
+static uint32_t *lend_words(struct bench *bench)
+{
+    return as_rows(lend(&bench->words, WORDS * sizeof(uint32_t)));
+}
+
+/* Only words for at most sixteen envelopes were set, and after a refusal none. */
+static bool words_kept(struct bench *bench, struct second_reply got)
+{
+    size_t used = got.answer == ACCEPTED ? bench->words.length : 0;
+    memcpy(bench->expected, inside(&bench->words), used);
+    return holds_only(&bench->words, bench->expected, used);
+}
+
 /* edition, what is lent, input, answer, place, rows, rows themselves; room: the numbers lent */
 static bool check_reading(const char *const *text, size_t room, struct bench *bench)
 {
@@ -108,12 +123,13 @@ static bool check_reading(const char *const *text, size_t room, struct bench *be
     uint8_t *input = lend_copy(&bench->source, bench->given, length);
     uint32_t *rows = as_rows(lend(&bench->target, room * sizeof *rows));
 
-    struct second_reply got = second_read(edition, input, length, rows, room);
+    struct second_reply got = second_read(edition, input, length, rows, room, lend_words(bench), WORDS);
     struct second_part payload = second_payload(edition, input, length);
     bool well = answer == ACCEPTED || answer == ROOM_EXCEEDED;
     if (got.answer == answer && got.place == place && got.rows == number(text[5])
         && payload.start == (well ? place : 0) && payload.length == (well ? length - place : 0)
-        && holds_only(&bench->source, bench->given, length) && holds_only(&bench->target, bench->expected, expected))
+        && holds_only(&bench->source, bench->given, length) && holds_only(&bench->target, bench->expected, expected)
+        && words_kept(bench, got))
         return true;
     printf("  got %" PRIu32 "\t%" PRIu64 "\t%" PRIu64 "\t", got.answer, got.place, got.rows);
     print_list(inside(&bench->target), got.answer == ACCEPTED ? got.rows * ROW_NUMBERS * sizeof *rows : 0);
@@ -285,7 +301,7 @@ static bool written_short(const struct fields *fields, struct bench *bench, stru
     struct second_reply wrote = second_write(edition, rows, numbers, inside(&bench->source), length, output, bytes);
     if (wrote.answer != ACCEPTED || wrote.place != bytes || !holds_only(&bench->pool, bench->expected, bytes))
         return false;
-    struct second_reply strictly = second_read(edition, bench->expected, bytes, rows, numbers);
+    struct second_reply strictly = second_read(edition, bench->expected, bytes, rows, numbers, lend_words(bench), WORDS);
     struct second_reply again = second_write(edition, rows, numbers, bench->expected, bytes, output, bytes);
     return strictly.answer == ACCEPTED && strictly.place == bytes && again.answer == ACCEPTED && again.place == bytes
            && holds_only(&bench->pool, bench->expected, bytes);
@@ -299,10 +315,10 @@ static bool check_tolerant(const struct fields *fields, struct bench *bench)
     size_t length = hex_bytes(fields->text[2], bench->given);
     uint8_t *input = lend_copy(&bench->source, bench->given, length);
     uint32_t *rows = as_rows(lend(&bench->target, room * sizeof *rows));
-    struct second_reply strictly = second_read(edition, input, length, rows, room);
+    struct second_reply strictly = second_read(edition, input, length, rows, room, lend_words(bench), WORDS);
     bool alike = strictly.answer != FORM_TOO_WIDE;
     rows = as_rows(lend(&bench->target, room * sizeof *rows));
-    struct second_reply got = second_read_tolerant(edition, input, length, rows, room);
+    struct second_reply got = second_read_tolerant(edition, input, length, rows, room, lend_words(bench), WORDS);
     if (strictly.answer == number(fields->text[3]) && strictly.place == number(fields->text[4]) && strictly.rows == number(fields->text[5])
         && tolerant_rows(fields, bench, got, length)
         && (!alike || (got.answer == strictly.answer && got.place == strictly.place && got.rows == strictly.rows))
@@ -310,6 +326,34 @@ static bool check_tolerant(const struct fields *fields, struct bench *bench)
         return true;
     printf("  got %" PRIu32 "\t%" PRIu64 "\t%" PRIu64 "\tand %" PRIu32 "\t%" PRIu64 "\t%" PRIu64, strictly.answer, strictly.place, strictly.rows,
            got.answer, got.place, got.rows);
+    return false;
+}
+
+/* ones, word, how many; or read or read_tolerant, edition, numbers lent, input, all words before, answer, place, rows, rows themselves, all
+   words after */
+static bool check_words(const struct fields *fields, struct bench *bench)
+{
+    const char *const *text = fields->text;
+    if (strcmp(text[0], "ones") == 0)
+        return second_ones((uint32_t)number(text[1])) == number(text[2]);
+    uint32_t edition = (uint32_t)number(text[1]);
+    size_t room = number(text[2]);
+    size_t length = hex_bytes(text[3], bench->given);
+    uint8_t *input = lend_copy(&bench->source, bench->given, length);
+    size_t words_bytes = list_bytes(text[4], bench->expected);
+    uint32_t *words = as_rows(lend_copy(&bench->words, bench->expected, words_bytes));
+    uint32_t *rows = as_rows(lend(&bench->target, room * sizeof *rows));
+    struct second_reply got = (strcmp(text[0], "read") == 0 ? second_read : second_read_tolerant)(edition, input, length, rows, room, words,
+                                                                                                  words_bytes / sizeof *words);
+    size_t expected = list_bytes(text[8], bench->expected);
+    bool kept = holds_only(&bench->source, bench->given, length) && holds_only(&bench->target, bench->expected, expected);
+    list_bytes(text[9], bench->expected);
+    if (got.answer == number(text[5]) && got.place == number(text[6]) && got.rows == number(text[7]) && kept
+        && holds_only(&bench->words, bench->expected, words_bytes))
+        return true;
+    printf("  got %" PRIu32 "\t%" PRIu64 "\t%" PRIu64 "\t", got.answer, got.place, got.rows);
+    print_list(inside(&bench->words), words_bytes);
+    print_lent(&bench->words);
     return false;
 }
 
@@ -349,6 +393,7 @@ int main(int count, char **arguments)
     check_file(arguments[1], "breaks.tsv", check_named, &bench, &tally);
     check_file(arguments[1], "tolerant.tsv", check_tolerant, &bench, &tally);
     check_file(arguments[1], "skips.tsv", check_named, &bench, &tally);
+    check_file(arguments[1], "words.tsv", check_words, &bench, &tally);
     printf("%u passed, %u failed\n", tally.passed, tally.failed);
     return tally.failed == 0 ? 0 : 1;
 }

@@ -14,7 +14,7 @@ use Rattle.meaning.specs.Basics.{pick}
 use Rattle.meaning.specs.Told.{Edition, Strictness, strict}
 use Rattle.meaning.specs.Headers.{Placed, Answer, refused, accepted, readBy, read}
 use Rattle.meaning.specs.Writing.{Written, written, unwritten}
-use Rattle.meaning.specs.Memory.{tableOf, cellsOf, skipsOf, roomOf, laidOver, Reply, readReply, readMemory, answerBy, rowsBy, writeReply, writeMemory, write, writeAnswer, writeOutput}
+use Rattle.meaning.specs.Memory.{tableOf, cellsOf, skipsOf, roomOf, laidOver, Reply, readReply, readMemory, wordsRead, roomWith, answerBy, rowsBy, wordsBy, writeReply, writeMemory, write, writeAnswer, writeOutput}
 use Rattle.meaning.specs.Payload.{partStart, partEnd, partBytes, payloadStart, payloadEnd, payloadBytes}
 use Rattle.laws.specs.Logic.{areBytes}
 use Rattle.laws.specs.PlainRows.{other}
@@ -38,8 +38,8 @@ pub record SameBytes (input : List ℕ) (was : declared.Reply) (output : List �
   pub count : answer .rows ≡ was .rows
   pub leaves : after ≡ laidOver output (take (was .place) input)
 
-pub read-write-same-bytes : {edition : ℕ} {input before rows output after : List ℕ} {a : declared.Reply} {b : declared.Reply} → T (areBytes input)
-    → ReadPromise edition input before a rows → a .answer ≡ 0 → WritePromise edition (firstRows (a .rows) rows) input output b after → a .place ≤ length output
+pub read-write-same-bytes : {edition : ℕ} {input before words rows words′ output after : List ℕ} {a : declared.Reply} {b : declared.Reply} → T (areBytes input)
+    → ReadPromise edition input before words a rows words′ → a .answer ≡ 0 → WritePromise edition (firstRows (a .rows) rows) input output b after → a .place ≤ length output
     → SameBytes input a output b after
 read-write-same-bytes {edition} {input} {rows = rows} {output = output} {a = a} t p z q room =
     let (place, found, is, f) = accepted-call p z in
@@ -55,7 +55,7 @@ read-write-same-bytes {edition} {input} {rows = rows} {output = output} {a = a} 
     }
 
 -- 2. "Written then read: the same table."
--- What was written, with any payload behind it, read under the same edition where as many rows are lent: accepted up to the payload,
+-- What was written, with any payload behind it, read under the same edition where as many rows are lent, and sixteen words: accepted up to the payload,
 -- with as many rows, which mean the same; nothing behind them changed.
 
 -- the bytes at the output's front, and a payload
@@ -70,8 +70,8 @@ pub record SameTable (rows pool : List ℕ) (was : declared.Reply) (input before
   pub leaves : behindRows (answer .rows) after ≡ behindRows (answer .rows) before
 
 -- under any edition that reads the written bytes as the same table
-same-table : {edition reading : ℕ} {rows pool output out before after bytes : List ℕ} {a : declared.Reply} {b : declared.Reply} (p : WritePromise edition rows pool output a out) → write edition rows pool (length output) ≡ written bytes
-    → (payload : List ℕ) → ReadPromise reading (sent a out payload) before b after → a .rows ≤ roomOf before → ReadsSame reading bytes payload rows pool → SameTable rows pool a (sent a out payload) before b after
+same-table : {edition reading : ℕ} {rows pool output out before words after words′ bytes : List ℕ} {a : declared.Reply} {b : declared.Reply} (p : WritePromise edition rows pool output a out) → write edition rows pool (length output) ≡ written bytes
+    → (payload : List ℕ) → ReadPromise reading (sent a out payload) before words b after words′ → a .rows ≤ roomWith before words → ReadsSame reading bytes payload rows pool → SameTable rows pool a (sent a out payload) before b after
 same-table {reading = reading} {out = out} {after = after} {bytes = bytes} {a = a} {b = b} p w payload q room (found, is, means) =
     let l = lays p w in
     let front : bytes ++ payload ≡ sent a out payload = ap (λ (x : List ℕ). x ++ payload) (sym (bytes-written l)) in
@@ -85,25 +85,26 @@ same-table {reading = reading} {out = out} {after = after} {bytes = bytes} {a = 
       leaves = rows-behind f;
     }
 
-pub write-read-same-table : {edition : ℕ} {rows pool output out before after : List ℕ} {a : declared.Reply} {b : declared.Reply} → T (areBytes pool)
-    → WritePromise edition rows pool output a out → a .answer ≡ 0 → (payload : List ℕ) → ReadPromise edition (sent a out payload) before b after → a .rows ≤ roomOf before
+pub write-read-same-table : {edition : ℕ} {rows pool output out before words after words′ : List ℕ} {a : declared.Reply} {b : declared.Reply} → T (areBytes pool)
+    → WritePromise edition rows pool output a out → a .answer ≡ 0 → (payload : List ℕ) → ReadPromise edition (sent a out payload) before words b after words′ → a .rows ≤ roomWith before words
     → SameTable rows pool a (sent a out payload) before b after
 write-read-same-table {edition} {rows} {pool} {output} t p z payload q room =
     let (bytes, w, l) = written-call p z in
     same-table p w payload q room (written-then-read edition rows pool (length output) bytes t w payload)
 
 -- 3. "The label can't lie": "A table written under one edition and read under the other is the same table, or is refused with 7 or 9: never a different table."
--- The same if the table is plain; refused if it is not, and then no row that was lent is changed.
+-- The same if the table is plain; refused if it is not, and then no row and no word that was lent is changed.
 
-pub record RefusesLabel (before : List ℕ) (answer : declared.Reply) (after : List ℕ) : Type 0 where
+pub record RefusesLabel (before words : List ℕ) (answer : declared.Reply) (after words′ : List ℕ) : Type 0 where
   pub answers : (answer .answer ≡ 7) ⊎ (answer .answer ≡ 9)
   pub count : answer .rows ≡ 0
   pub leaves : after ≡ before
+  pub carries : words′ ≡ words
 
-pub label-never-lies : (e : Edition) {rows pool output out before after : List ℕ} {a : declared.Reply} {b : declared.Reply} → T (areBytes pool)
-    → WritePromise (numberOf e) rows pool output a out → a .answer ≡ 0 → (payload : List ℕ) → ReadPromise (numberOf (other e)) (sent a out payload) before b after → a .rows ≤ roomOf before
-    → ((plainTable rows pool ≡ true) × SameTable rows pool a (sent a out payload) before b after) ⊎ ((plainTable rows pool ≡ false) × RefusesLabel before b after)
-label-never-lies e {rows} {pool} {output} {out} {before} {after} {a} {b} t p z payload q room =
+pub label-never-lies : (e : Edition) {rows pool output out before words after words′ : List ℕ} {a : declared.Reply} {b : declared.Reply} → T (areBytes pool)
+    → WritePromise (numberOf e) rows pool output a out → a .answer ≡ 0 → (payload : List ℕ) → ReadPromise (numberOf (other e)) (sent a out payload) before words b after words′ → a .rows ≤ roomWith before words
+    → ((plainTable rows pool ≡ true) × SameTable rows pool a (sent a out payload) before b after) ⊎ ((plainTable rows pool ≡ false) × RefusesLabel before words b after words′)
+label-never-lies e {rows} {pool} {output} {out} {before} {words} {after} {words′} {a} {b} t p z payload q room =
     let (bytes, w, l) = written-call p z in
     at bytes w (ap (λ (x : List ℕ). x ++ payload) (bytes-written l)) (label-cannot-lie e rows pool (length output) bytes t w payload)
   where
@@ -113,28 +114,28 @@ label-never-lies e {rows} {pool} {output} {out} {before} {after} {a} {b} t p z p
 
     at : (bytes : List ℕ) → write (numberOf e) rows pool (length output) ≡ written bytes → sent a out payload ≡ bytes ++ payload
         → ((plainTable rows pool ≡ true) × ReadsSame (numberOf (other e)) bytes payload rows pool) ⊎ ((plainTable rows pool ≡ false) × RefusedSevenOrNine (numberOf (other e)) (bytes ++ payload))
-        → ((plainTable rows pool ≡ true) × SameTable rows pool a (sent a out payload) before b after) ⊎ ((plainTable rows pool ≡ false) × RefusesLabel before b after)
+        → ((plainTable rows pool ≡ true) × SameTable rows pool a (sent a out payload) before b after) ⊎ ((plainTable rows pool ≡ false) × RefusesLabel before words b after words′)
     at bytes w front (inl (plain, same)) = inl (plain, same-table p w payload q room same)
     at bytes w front (inr (plain, (refusal, place, is, k))) =
-        let (answer, _, count, leaves) = refuses q (ap (read (numberOf (other e))) front ∙ is) in
-        inr (plain, record { answers = as-answered answer k; count = count; leaves = leaves })
+        let (answer, _, count, leaves, carries) = refuses q (ap (read (numberOf (other e))) front ∙ is) in
+        inr (plain, record { answers = as-answered answer k; count = count; leaves = leaves; carries = carries })
 
 -- 4. "Payload bytes and their number never alter an accepted answer."
--- With another payload behind the header: the same answer, and the same rows.
+-- With another payload behind the header: the same answer, the same rows and the same words.
 
-pub payload-changes-nothing : {edition : ℕ} {input before after later : List ℕ} {a b : declared.Reply} → T (areBytes input)
-    → ReadPromise edition input before a after → a .answer ≡ 0 → (payload : List ℕ) → ReadPromise edition (take (a .place) input ++ payload) before b later → (a ≡ b) × (after ≡ later)
-unfolding answerBy rowsBy
-payload-changes-nothing {edition} {input} {before} {a = a} t p z payload q =
+pub payload-changes-nothing : {edition : ℕ} {input before words after words₁ later words₂ : List ℕ} {a b : declared.Reply} → T (areBytes input)
+    → ReadPromise edition input before words a after words₁ → a .answer ≡ 0 → (payload : List ℕ) → ReadPromise edition (take (a .place) input ++ payload) before words b later words₂ → (a ≡ b) × (after ≡ later) × (words₁ ≡ words₂)
+unfolding answerBy rowsBy wordsBy
+payload-changes-nothing {edition} {input} {before} {words} {a = a} t p z payload q =
     let (place, rows, is, f) = accepted-call p z in
     let ends : take (a .place) input ++ payload ≡ take place input ++ payload = ap (λ (n : ℕ). take n input ++ payload) (f .ends) in
     let alike : read edition (take (a .place) input ++ payload) ≡ read edition input = ap (read edition) ends ∙ payload-alters-nothing edition input place rows t is payload ∙ sym is in
-    one-read p (record { answers = q .answers ∙ ap (readReply (roomOf before)) alike; rows = q .rows ∙ ap (readMemory before) alike })
+    one-read p (record { answers = q .answers ∙ ap (readReply (roomWith before words)) alike; rows = q .rows ∙ ap (readMemory (roomWith before words) tableOf before) alike; carries = q .carries ∙ ap (readMemory (roomWith before words) wordsRead words) alike })
 
 -- 5. "The payload is handed back as a part of the caller's own input."
 -- Behind an accepted header stands the payload: its bytes, and as two numbers, from the answer's place to the input's end.
 
-pub payload-behind-header : {edition : ℕ} {input before after bytes : List ℕ} {a : declared.Reply} {part : Part} → ReadPromise edition input before a after → a .answer ≡ 0
+pub payload-behind-header : {edition : ℕ} {input before words after words′ bytes : List ℕ} {a : declared.Reply} {part : Part} → ReadPromise edition input before words a after words′ → a .answer ≡ 0
     → PayloadPromise edition input bytes → PartPromise edition input part → (take (a .place) input ++ bytes ≡ input) × (part .start ≡ a .place) × (part .end ≡ length input)
 unfolding payloadBytes payloadStart payloadEnd
 payload-behind-header {input = input} {a = a} p z q r =
@@ -144,17 +145,17 @@ payload-behind-header {input = input} {a = a} p z q r =
 
 -- 6. "A refused call changes nothing lent." Whatever refuses it: 14 and 16, for want of room, too.
 
-pub refused-read-changes-nothing : {w : Strictness} {edition : ℕ} {input before after : List ℕ} {a : declared.Reply} → ReadsBy w edition input before a after → (a .answer ≡ 0 → ⊥) → after ≡ before
-unfolding answerBy rowsBy
-refused-read-changes-nothing {w} {edition} {input} {before} {after} {a} p some = at (readBy w edition input) (ap (λ (r : Reply). r .answer) (p .answers)) (p .rows)
+pub refused-read-changes-nothing : {w : Strictness} {edition : ℕ} {input before words after words′ : List ℕ} {a : declared.Reply} → ReadsBy w edition input before words a after words′ → (a .answer ≡ 0 → ⊥) → (after ≡ before) × (words′ ≡ words)
+unfolding answerBy rowsBy wordsBy
+refused-read-changes-nothing {w} {edition} {input} {before} {words} {after} {words′} {a} p some = at (readBy w edition input) (ap (λ (r : Reply). r .answer) (p .answers)) (p .rows) (p .carries)
   where
-    fits : (rows : List Placed) (room : Bool) → a .answer ≡ pick room 0 14 → after ≡ pick room (laidOver before (tableOf rows)) before → after ≡ before
-    fits rows true r m = absurd (some r)
-    fits rows false r m = m
+    fits : (rows : List Placed) (room : Bool) → a .answer ≡ pick room 0 14 → after ≡ pick room (laidOver before (tableOf rows)) before → words′ ≡ pick room (laidOver words (wordsRead rows)) words → (after ≡ before) × (words′ ≡ words)
+    fits rows true r m c = absurd (some r)
+    fits rows false r m c = (m, c)
 
-    at : (found : Answer) → a .answer ≡ readReply (roomOf before) found .answer → after ≡ readMemory before found → after ≡ before
-    at (refused refusal place) r m = m
-    at (accepted place rows) r m = fits rows (leb (length rows) (roomOf before)) r m
+    at : (found : Answer) → a .answer ≡ readReply (roomWith before words) found .answer → after ≡ readMemory (roomWith before words) tableOf before found → words′ ≡ readMemory (roomWith before words) wordsRead words found → (after ≡ before) × (words′ ≡ words)
+    at (refused refusal place) r m c = (m, c)
+    at (accepted place rows) r m c = fits rows (leb (length rows) (roomWith before words)) r m c
 
 pub refused-write-changes-nothing : {edition : ℕ} {rows pool before after : List ℕ} {a : declared.Reply} → WritePromise edition rows pool before a after → (a .answer ≡ 0 → ⊥) → after ≡ before
 unfolding writeAnswer writeOutput

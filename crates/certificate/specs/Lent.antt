@@ -13,7 +13,7 @@ use Rattle.meaning.specs.Basics.{pick}
 use Rattle.meaning.specs.Told.{Strictness}
 use Rattle.meaning.specs.Headers.{Placed, Answer, refused, accepted, readBy}
 use Rattle.meaning.specs.Writing.{Written, written, unwritten}
-use Rattle.meaning.specs.Memory.{rowWidth, tableOf, cellsOf, skipsHeld, roomOf, laidOver, Reply, reply, readReply, readMemory, answerBy, rowsBy, writeReply, writeMemory, write, writeAnswer, writeOutput}
+use Rattle.meaning.specs.Memory.{rowWidth, tableOf, cellsOf, skipsHeld, roomOf, laidOver, Reply, reply, readReply, readMemory, wordsRead, roomWith, answerBy, rowsBy, wordsBy, writeReply, writeMemory, write, writeAnswer, writeOutput}
 use Rattle.meaning.specs.Plain.{Decoded, decoded, undecoded, Outcome, outcome, decodeOutcome, encodeOutcome, encodeMemory}
 use Rattle.laws.specs.Rows.{rows-whole}
 use Rattle.laws.specs.Plans.{written-writes}
@@ -35,11 +35,12 @@ abbrev pub behindRows : ℕ → List ℕ → List ℕ
 behindRows count lent = drop (count * rowWidth) lent
 
 -- what the reader answers and leaves where a header is accepted and its rows have room
-pub record Filled (place : ℕ) (rows : List Placed) (before : List ℕ) (a : declared.Reply) (after : List ℕ) : Type 0 where
+pub record Filled (place : ℕ) (rows : List Placed) (before words : List ℕ) (a : declared.Reply) (after words′ : List ℕ) : Type 0 where
   pub answers : a .answer ≡ 0
   pub ends : a .place ≡ place
   pub count : a .rows ≡ length rows
   pub leaves : after ≡ laidOver before (tableOf rows)
+  pub carries : words′ ≡ laidOver words (wordsRead rows)
 
 -- what the writer answers and leaves where a table is written
 pub record Laid (bytes rows before : List ℕ) (a : declared.Reply) (after : List ℕ) : Type 0 where
@@ -57,7 +58,7 @@ pub laid-behind : (lent front : List ℕ) {n : ℕ} → length front ≡ n → d
 unfolding laidOver
 laid-behind lent front {n} h = drop-at front (drop (length front) lent) n h ∙ ap (λ (k : ℕ). drop k lent) h
 
-module _ {place : ℕ} {rows : List Placed} {before after : List ℕ} {a : declared.Reply} (f : Filled place rows before a after) where
+module _ {place : ℕ} {rows : List Placed} {before words after words′ : List ℕ} {a : declared.Reply} (f : Filled place rows before words a after words′) where
   table-long : length (tableOf rows) ≡ a .rows * rowWidth
   table-long = table-length rows ∙ ap (λ (n : ℕ). n * rowWidth) (sym (f .count))
 
@@ -72,43 +73,44 @@ bytes-written {bytes} {before = before} {a = a} l = ap (take (a .place)) (l .lea
 
 -- The reader, strict or tolerant
 
-module _ {w : Strictness} {edition : ℕ} {input before after : List ℕ} {a : declared.Reply} (p : ReadsBy w edition input before a after) where
+module _ {w : Strictness} {edition : ℕ} {input before words after words′ : List ℕ} {a : declared.Reply} (p : ReadsBy w edition input before words a after words′) where
   abbrev AcceptedCall : Type 0
-  AcceptedCall = (place : ℕ) × (rows : List Placed) × (readBy w edition input ≡ accepted place rows) × Filled place rows before a after
+  AcceptedCall = (place : ℕ) × (rows : List Placed) × (readBy w edition input ≡ accepted place rows) × Filled place rows before words a after words′
 
   pub accepted-call : a .answer ≡ 0 → AcceptedCall
-  unfolding answerBy rowsBy
-  accepted-call z = at (readBy w edition input) refl (p .answers) (p .rows)
+  unfolding answerBy rowsBy wordsBy
+  accepted-call z = at (readBy w edition input) refl (p .answers) (p .rows) (p .carries)
     where
       fits : (place : ℕ) (rows : List Placed) → readBy w edition input ≡ accepted place rows → (room : Bool)
-          → reply (a .answer) (a .place) (a .rows) ≡ reply (pick room 0 14) place (length rows) → after ≡ pick room (laidOver before (tableOf rows)) before → AcceptedCall
-      fits place rows q true r m = (place, rows, q, record { answers = z; ends = ap (λ (x : Reply). x .place) r; count = ap (λ (x : Reply). x .rows) r; leaves = m })
-      fits place rows q false r m = let x : a .answer ≡ 14 = ap (λ (x : Reply). x .answer) r in absurd (omega arith)
+          → reply (a .answer) (a .place) (a .rows) ≡ reply (pick room 0 14) place (length rows) → after ≡ pick room (laidOver before (tableOf rows)) before → words′ ≡ pick room (laidOver words (wordsRead rows)) words → AcceptedCall
+      fits place rows q true r m c = (place, rows, q, record { answers = z; ends = ap (λ (x : Reply). x .place) r; count = ap (λ (x : Reply). x .rows) r; leaves = m; carries = c })
+      fits place rows q false r m c = let x : a .answer ≡ 14 = ap (λ (x : Reply). x .answer) r in absurd (omega arith)
 
-      at : (found : Answer) → readBy w edition input ≡ found → reply (a .answer) (a .place) (a .rows) ≡ readReply (roomOf before) found → after ≡ readMemory before found → AcceptedCall
-      at (refused refusal place) q r m =
+      at : (found : Answer) → readBy w edition input ≡ found → reply (a .answer) (a .place) (a .rows) ≡ readReply (roomWith before words) found → after ≡ readMemory (roomWith before words) tableOf before found → words′ ≡ readMemory (roomWith before words) wordsRead words found → AcceptedCall
+      at (refused refusal place) q r m c =
           let h = refused-shape w edition input refusal place q .0 in let x : a .answer ≡ refusal = ap (λ (x : Reply). x .answer) r in
           absurd (omega arith)
-      at (accepted place rows) q r m = fits place rows q (leb (length rows) (roomOf before)) r m
+      at (accepted place rows) q r m c = fits place rows q (leb (length rows) (roomWith before words)) r m c
 
   -- a header that is accepted fills its rows, where they have room
-  pub fills : {place : ℕ} {rows : List Placed} → readBy w edition input ≡ accepted place rows → length rows ≤ roomOf before → Filled place rows before a after
-  unfolding answerBy rowsBy
+  pub fills : {place : ℕ} {rows : List Placed} → readBy w edition input ≡ accepted place rows → length rows ≤ roomWith before words → Filled place rows before words a after words′
+  unfolding answerBy rowsBy wordsBy
   fills {place} {rows} q room =
-      let r : reply (a .answer) (a .place) (a .rows) ≡ reply 0 place (length rows) = p .answers ∙ ap (readReply (roomOf before)) q ∙ ap (λ (b : Bool). reply (pick b 0 14) place (length rows)) (le-leb (length rows) (roomOf before) room) in
+      let r : reply (a .answer) (a .place) (a .rows) ≡ reply 0 place (length rows) = p .answers ∙ ap (readReply (roomWith before words)) q ∙ ap (λ (b : Bool). reply (pick b 0 14) place (length rows)) (le-leb (length rows) (roomWith before words) room) in
       record {
         answers = ap (λ (x : Reply). x .answer) r;
         ends = ap (λ (x : Reply). x .place) r;
         count = ap (λ (x : Reply). x .rows) r;
-        leaves = p .rows ∙ ap (readMemory before) q ∙ ap (λ (b : Bool). pick b (laidOver before (tableOf rows)) before) (le-leb (length rows) (roomOf before) room);
+        leaves = p .rows ∙ ap (readMemory (roomWith before words) tableOf before) q ∙ ap (λ (b : Bool). pick b (laidOver before (tableOf rows)) before) (le-leb (length rows) (roomWith before words) room);
+        carries = p .carries ∙ ap (readMemory (roomWith before words) wordsRead words) q ∙ ap (λ (b : Bool). pick b (laidOver words (wordsRead rows)) words) (le-leb (length rows) (roomWith before words) room);
       }
 
   -- a header that is refused changes nothing lent
-  pub refuses : {refusal place : ℕ} → readBy w edition input ≡ refused refusal place → (a .answer ≡ refusal) × (a .place ≡ place) × (a .rows ≡ 0) × (after ≡ before)
-  unfolding answerBy rowsBy
+  pub refuses : {refusal place : ℕ} → readBy w edition input ≡ refused refusal place → (a .answer ≡ refusal) × (a .place ≡ place) × (a .rows ≡ 0) × (after ≡ before) × (words′ ≡ words)
+  unfolding answerBy rowsBy wordsBy
   refuses {refusal} {place} q =
-      let r : reply (a .answer) (a .place) (a .rows) ≡ reply refusal place 0 = p .answers ∙ ap (readReply (roomOf before)) q in
-      (ap (λ (x : Reply). x .answer) r, ap (λ (x : Reply). x .place) r, ap (λ (x : Reply). x .rows) r, p .rows ∙ ap (readMemory before) q)
+      let r : reply (a .answer) (a .place) (a .rows) ≡ reply refusal place 0 = p .answers ∙ ap (readReply (roomWith before words)) q in
+      (ap (λ (x : Reply). x .answer) r, ap (λ (x : Reply). x .place) r, ap (λ (x : Reply). x .rows) r, p .rows ∙ ap (readMemory (roomWith before words) tableOf before) q, p .carries ∙ ap (readMemory (roomWith before words) wordsRead words) q)
 
 -- The writer
 

@@ -27,9 +27,9 @@ use Rattle.lister.specs.Promise.{TablePromise, LongPromise}
 same : {A : Type 0} {x y named : A} → x ≡ named → y ≡ named → x ≡ y
 same p q = p ∙ sym q
 
--- reading a header, strictly or tolerantly: answer, place and count of rows, and the lent rows
-pub one-read : {w : Strictness} {edition : ℕ} {input before after later : List ℕ} {a b : declared.Reply} → ReadsBy w edition input before a after → ReadsBy w edition input before b later → (a ≡ b) × (after ≡ later)
-one-read p q = (ap (λ (r : Reply). record { answer = r .answer; place = r .place; rows = r .rows }) (same (p .answers) (q .answers)), same (p .rows) (q .rows))
+-- reading a header, strictly or tolerantly: answer, place and count of rows, the lent rows and the lent words
+pub one-read : {w : Strictness} {edition : ℕ} {input before words after words₁ later words₂ : List ℕ} {a b : declared.Reply} → ReadsBy w edition input before words a after words₁ → ReadsBy w edition input before words b later words₂ → (a ≡ b) × (after ≡ later) × (words₁ ≡ words₂)
+one-read p q = (ap (λ (r : Reply). record { answer = r .answer; place = r .place; rows = r .rows }) (same (p .answers) (q .answers)), same (p .rows) (q .rows), same (p .carries) (q .carries))
 
 -- writing a table: answer, place and count of rows, and the lent output
 pub one-write : {edition : ℕ} {rows pool before after later : List ℕ} {a b : declared.Reply} → WritePromise edition rows pool before a after → WritePromise edition rows pool before b later → (a ≡ b) × (after ≡ later)
@@ -73,7 +73,8 @@ pub one-piece : (answer place count : ℕ) (rows bytes : List ℕ) {line byte : 
 one-piece answer place count rows bytes p q = one-answer p q
 
 -- reading a table for the listing: what the reader has
-pub one-table : {edition : ℕ} {input before after later : List ℕ} {a b : declared.Reply} → TablePromise edition input before a after → TablePromise edition input before b later → (a ≡ b) × (after ≡ later)
+pub one-table : {edition : ℕ} {input before words after words₁ later words₂ : List ℕ} {a b : declared.Reply} → TablePromise edition input before words a after words₁ → TablePromise edition input before words b later words₂
+    → (a ≡ b) × (after ≡ later) × (words₁ ≡ words₂)
 one-table p q = one-read (p .reads) (q .reads)
 
 -- the line of an input that is too long: there is such an input

@@ -13,7 +13,8 @@ use Rattle.meaning.specs.Reading.{takeValue, find, look, stepMove, step, run, i
 use Rattle.meaning.specs.Headers.{envelope, header, readBy}
 use Rattle.meaning.specs.Writing.{valid, writeValue, wayOf, fit, fitRow, closeWithin, close, planOf, writeRows}
 use Rattle.meaning.specs.Skips.{belongs, belonging, heldAgainst}
-use Rattle.meaning.specs.Memory.{row, cellsOf, ranksOf, skipsOf, skipsHeld, laidOver, write, answerBy, rowsBy, readAnswer, writeAnswer, writeOutput}
+use Rattle.meaning.specs.Words.{occurs, wordOf, wordsOf}
+use Rattle.meaning.specs.Memory.{row, cellsOf, ranksOf, skipsOf, skipsHeld, laidOver, write, answerBy, rowsBy, wordsBy, readAnswer, writeAnswer, writeOutput}
 use Rattle.meaning.specs.Plain.{digitsWithin, digitsOf, packed, decodeNumber, numberDecoded, numberBytes, numberEncoded, dateOf, decodeDate, dateDecoded, dateInRange, dateEncoded}
 use Rattle.meaning.specs.Cases.{hex, aDate, baseWith, inMemory, baseRows, replyIs, outcomeIs}
 use Rattle.meaning.specs.Widths.{sizedBase}
@@ -24,10 +25,10 @@ use Rattle.reader.specs.Promises.{ReadsBy}
 use Rattle.writer.specs.Promise.{WritePromise}
 
 -- strictly or tolerantly
-pub some-read : (w : Strictness) (edition : ℕ) (input before : List ℕ) → (a : declared.Reply) × (after : List ℕ) × ReadsBy w edition input before a after
-some-read w edition input before =
-    let r = answerBy w edition input before in
-    (record { answer = r .answer; place = r .place; rows = r .rows }, rowsBy w edition input before, record { answers = refl; rows = refl })
+pub some-read : (w : Strictness) (edition : ℕ) (input before words : List ℕ) → (a : declared.Reply) × (after : List ℕ) × (words′ : List ℕ) × ReadsBy w edition input before words a after words′
+some-read w edition input before words =
+    let r = answerBy w edition input before words in
+    (record { answer = r .answer; place = r .place; rows = r .rows }, rowsBy w edition input before words, wordsBy w edition input before words, record { answers = refl; rows = refl; carries = refl })
 
 pub some-write : (edition : ℕ) (rows pool before : List ℕ) → (a : declared.Reply) × (after : List ℕ) × WritePromise edition rows pool before a after
 some-write edition rows pool before =
@@ -44,14 +45,14 @@ lent n = replicate n 0
 
 -- read in 3 rows, up to byte 15
 abbrev isRead : ℕ → Bool
-isRead edition = replyIs 0 15 3 (readAnswer edition aHeader (lent 15))
+isRead edition = replyIs 0 15 3 (readAnswer edition aHeader (lent 15) (lent 16))
 
 -- a block of no bytes behind 19 and four zeros: 11 strictly, and 0 tolerantly
 abbrev wideHeader : List ℕ
 wideHeader = sizedBase (hex 0x1_0b_19_00_00_00_00)
 
 abbrev isReadTolerantly : ℕ → Bool
-isReadTolerantly edition = replyIs 11 15 0 (readAnswer edition wideHeader (lent 25)) && replyIs 0 21 5 (answerBy tolerant edition wideHeader (lent 25))
+isReadTolerantly edition = replyIs 11 15 0 (readAnswer edition wideHeader (lent 25) (lent 16)) && replyIs 0 21 5 (answerBy tolerant edition wideHeader (lent 25) (lent 16))
 
 -- written into just the room that it needs
 abbrev isWritten : ℕ → List ℕ → ℕ → ℕ → Bool
@@ -73,5 +74,5 @@ pub premises : T (
     areBytes aHeader && isRead 1 && isRead 2 && isReadTolerantly 1 && isReadTolerantly 2 && isWritten 1 (inMemory (baseRows 5 9 [])) 15 3 && isWritten 2 (inMemory (baseRows 5 9 [])) 15 3 && plainTable (inMemory (baseRows 5 9 [])) aHeader &&
     isWritten 1 encrypted 17 4 && not (plainTable encrypted aHeader) && isWritten 2 forwarded 15 3 && not (plainTable forwarded aHeader) && areCoded
     )
-unfolding textByte takeText textOk turn takeNumber numberOk lastDay passes takeDate dateOk highFirst tooWide takeBytes blockOf takeBlock blockOk shared own moves takeValue find look stepMove step run inside envelope header readBy valid writeValue wayOf fit fitRow closeWithin close planOf writeRows belongs belonging heldAgainst cellsOf ranksOf skipsOf skipsHeld laidOver write answerBy rowsBy writeAnswer writeOutput digitsWithin digitsOf packed decodeNumber numberDecoded numberBytes numberEncoded decodeDate dateDecoded dateInRange dateEncoded
+unfolding textByte takeText textOk turn takeNumber numberOk lastDay passes takeDate dateOk highFirst tooWide takeBytes blockOf takeBlock blockOk shared own moves takeValue find look stepMove step run inside envelope header readBy valid writeValue wayOf fit fitRow closeWithin close planOf writeRows belongs belonging heldAgainst cellsOf ranksOf skipsOf skipsHeld laidOver write occurs wordOf wordsOf answerBy rowsBy wordsBy writeAnswer writeOutput digitsWithin digitsOf packed decodeNumber numberDecoded numberBytes numberEncoded decodeDate dateDecoded dateInRange dateEncoded
 premises = tt

@@ -13,7 +13,7 @@ use Rattle.meaning.specs.Basics.{pick}
 use Rattle.meaning.specs.Told.{strict, tolerant}
 use Rattle.meaning.specs.Headers.{Answer, refused, accepted, read, readTolerant}
 use Rattle.meaning.specs.Writing.{written}
-use Rattle.meaning.specs.Memory.{tableOf, roomOf, Reply, reply, readReply, readMemory, answerBy, rowsBy, write}
+use Rattle.meaning.specs.Memory.{tableOf, Reply, reply, readReply, readMemory, wordsRead, roomWith, answerBy, rowsBy, wordsBy, write}
 use Rattle.laws.specs.Logic.{areBytes}
 use Rattle.laws.specs.WrittenBytes.{bytes-append}
 use Rattle.laws.specs.Tolerance.{After}
@@ -28,59 +28,59 @@ use Rattle.certificate.specs.Lent.{firstRows, laid-front, rows-read, byt
 use Rattle.certificate.specs.Calls.{read-write-same-bytes, sent, SameTable, write-read-same-table}
 
 -- where the two readings agree, a call of the one is a call of the other
-as-strict : {edition : ℕ} {input before after : List ℕ} {a : declared.Reply} → readTolerant edition input ≡ read edition input → TolerantPromise edition input before a after → ReadPromise edition input before a after
-unfolding answerBy rowsBy
-as-strict {before = before} same p = record { answers = p .answers ∙ ap (readReply (roomOf before)) same; rows = p .rows ∙ ap (readMemory before) same }
+as-strict : {edition : ℕ} {input before words after words′ : List ℕ} {a : declared.Reply} → readTolerant edition input ≡ read edition input → TolerantPromise edition input before words a after words′ → ReadPromise edition input before words a after words′
+unfolding answerBy rowsBy wordsBy
+as-strict {before = before} {words = words} same p = record { answers = p .answers ∙ ap (readReply (roomWith before words)) same; rows = p .rows ∙ ap (readMemory (roomWith before words) tableOf before) same; carries = p .carries ∙ ap (readMemory (roomWith before words) wordsRead words) same }
 
--- 1. "On input that the strict reading accepts, or refuses with another number than 11, the two agree": answer, place, count and lent rows.
+-- 1. "On input that the strict reading accepts, or refuses with another number than 11, the two agree": answer, place, count, lent rows and lent words.
 
-pub tolerant-call-agrees : {edition : ℕ} {input before after later : List ℕ} {a b : declared.Reply} → ReadPromise edition input before a after → (a .answer ≡ 11 → ⊥) → TolerantPromise edition input before b later
-    → (a ≡ b) × (after ≡ later)
+pub tolerant-call-agrees : {edition : ℕ} {input before words after words₁ later words₂ : List ℕ} {a b : declared.Reply} → ReadPromise edition input before words a after words₁ → (a .answer ≡ 11 → ⊥)
+    → TolerantPromise edition input before words b later words₂ → (a ≡ b) × (after ≡ later) × (words₁ ≡ words₂)
 tolerant-call-agrees {edition} {input} p other q = one-read p (as-strict (tolerant-agrees edition input (λ place is. other (refuses p is .0))) q)
 
 -- 2. "11 isn't given by the tolerant reading."
 
-pub tolerant-call-never-eleven : {edition : ℕ} {input before after : List ℕ} {a : declared.Reply} → TolerantPromise edition input before a after → a .answer ≡ 11 → ⊥
+pub tolerant-call-never-eleven : {edition : ℕ} {input before words after words′ : List ℕ} {a : declared.Reply} → TolerantPromise edition input before words a after words′ → a .answer ≡ 11 → ⊥
 unfolding answerBy
-tolerant-call-never-eleven {edition} {input} {before} {a = a} p eleven = at (readTolerant edition input) refl (ap (λ (r : Reply). r .answer) (p .answers))
+tolerant-call-never-eleven {edition} {input} {before} {words} {a = a} p eleven = at (readTolerant edition input) refl (ap (λ (r : Reply). r .answer) (p .answers))
   where
     roomy : (room : Bool) → a .answer ≡ pick room 0 14 → ⊥
     roomy true r = absurd (omega arith)
     roomy false r = absurd (omega arith)
 
-    at : (found : Answer) → readTolerant edition input ≡ found → a .answer ≡ readReply (roomOf before) found .answer → ⊥
+    at : (found : Answer) → readTolerant edition input ≡ found → a .answer ≡ readReply (roomWith before words) found .answer → ⊥
     at (refused refusal place) q r = never-eleven edition input refusal place q (sym r ∙ eleven)
-    at (accepted place rows) q r = roomy (leb (length rows) (roomOf before)) r
+    at (accepted place rows) q r = roomy (leb (length rows) (roomWith before words)) r
 
 -- Where `read` answers 11, `read_tolerant` accepts the header (0, or 14 where rows are short), or refuses it for a fault behind that place.
 
-pub tolerant-call-behind-eleven : {edition : ℕ} {input before after later : List ℕ} {a b : declared.Reply} → ReadPromise edition input before a after → a .answer ≡ 11 → TolerantPromise edition input before b later
+pub tolerant-call-behind-eleven : {edition : ℕ} {input before words after words₁ later words₂ : List ℕ} {a b : declared.Reply} → ReadPromise edition input before words a after words₁ → a .answer ≡ 11 → TolerantPromise edition input before words b later words₂
     → (b .answer ≡ 0) ⊎ (b .answer ≡ 14) ⊎ (a .place < b .place)
 unfolding answerBy
-tolerant-call-behind-eleven {edition} {input} {before} {a = a} {b = b} p eleven q = strictly (read edition input) refl (p .answers)
+tolerant-call-behind-eleven {edition} {input} {before} {words} {a = a} {b = b} p eleven q = strictly (read edition input) refl (p .answers)
   where
     roomy : (room : Bool) → b .answer ≡ pick room 0 14 → (b .answer ≡ 0) ⊎ (b .answer ≡ 14) ⊎ (a .place < b .place)
     roomy true r = inl r
     roomy false r = inr (inl r)
 
-    tolerantly : (place : ℕ) → a .place ≡ place → (found : Answer) → After place found → reply (b .answer) (b .place) (b .rows) ≡ readReply (roomOf before) found → (b .answer ≡ 0) ⊎ (b .answer ≡ 14) ⊎ (a .place < b .place)
+    tolerantly : (place : ℕ) → a .place ≡ place → (found : Answer) → After place found → reply (b .answer) (b .place) (b .rows) ≡ readReply (roomWith before words) found → (b .answer ≡ 0) ⊎ (b .answer ≡ 14) ⊎ (a .place < b .place)
     tolerantly place is (refused refusal other) later r = let z : b .place ≡ other = ap (λ (x : Reply). x .place) r in inr (inr (omega arith))
-    tolerantly place is (accepted end rows) later r = roomy (leb (length rows) (roomOf before)) (ap (λ (x : Reply). x .answer) r)
+    tolerantly place is (accepted end rows) later r = roomy (leb (length rows) (roomWith before words)) (ap (λ (x : Reply). x .answer) r)
 
     never : (room : Bool) → a .answer ≡ pick room 0 14 → ⊥
     never true r = absurd (omega arith)
     never false r = absurd (omega arith)
 
-    strictly : (found : Answer) → read edition input ≡ found → reply (a .answer) (a .place) (a .rows) ≡ readReply (roomOf before) found → (b .answer ≡ 0) ⊎ (b .answer ≡ 14) ⊎ (a .place < b .place)
+    strictly : (found : Answer) → read edition input ≡ found → reply (a .answer) (a .place) (a .rows) ≡ readReply (roomWith before words) found → (b .answer ≡ 0) ⊎ (b .answer ≡ 14) ⊎ (a .place < b .place)
     strictly (refused refusal place) is r =
         let number : refusal ≡ 11 = sym (ap (λ (x : Reply). x .answer) r) ∙ eleven in
         tolerantly place (ap (λ (x : Reply). x .place) r) (readTolerant edition input) (behind-eleven edition input place (is ∙ ap (λ (k : ℕ). refused k place) number)) (q .answers)
-    strictly (accepted place rows) is r = absurd (never (leb (length rows) (roomOf before)) (ap (λ (x : Reply). x .answer) r))
+    strictly (accepted place rows) is r = absurd (never (leb (length rows) (roomWith before words)) (ap (λ (x : Reply). x .answer) r))
 
 -- 3. "Written from those rows, the header uses the shortest forms, the strict reader takes it and the meaning is the same;
 -- doing this a second time changes no byte."
 
-module _ {edition : ℕ} {input before rows output out : List ℕ} {a b : declared.Reply} (t : T (areBytes input)) (p : TolerantPromise edition input before a rows) (z : a .answer ≡ 0)
+module _ {edition : ℕ} {input before words rows words′ output out : List ℕ} {a b : declared.Reply} (t : T (areBytes input)) (p : TolerantPromise edition input before words a rows words′) (z : a .answer ≡ 0)
     (q : WritePromise edition (firstRows (a .rows) rows) input output b out) (room : a .place ≤ length output) where
   -- the rows are written, as a header that is no longer
   pub tolerant-then-written : (b .answer ≡ 0) × (b .place ≤ a .place) × (b .rows ≡ a .rows)
@@ -91,13 +91,13 @@ module _ {edition : ℕ} {input before rows output out : List ℕ} {a b : declar
       let l = lays q (ap (λ (x : List ℕ). write edition x input (length output)) table ∙ short .is (length output) (omega (arith, short .shorter, f .ends))) in
       (l .answers, omega (arith, l .ends, short .shorter, f .ends), omega (arith, l .count, ap length table, table-length found, f .count))
 
-  -- which the strict reader takes, where as many rows are lent, as a table that means the same
-  pub tolerant-then-strict : (payload : List ℕ) {lent after : List ℕ} {c : declared.Reply} → ReadPromise edition (sent b out payload) lent c after → b .rows ≤ roomOf lent
+  -- which the strict reader takes, where as many rows are lent and sixteen words, as a table that means the same
+  pub tolerant-then-strict : (payload : List ℕ) {lent lentWords after afterWords : List ℕ} {c : declared.Reply} → ReadPromise edition (sent b out payload) lent lentWords c after afterWords → b .rows ≤ roomWith lent lentWords
       → SameTable (firstRows (a .rows) rows) input b (sent b out payload) lent c after
   tolerant-then-strict payload r few = write-read-same-table t q (tolerant-then-written .0) payload r few
 
   -- a second time: read tolerantly with any payload behind it, and written from those rows, it is the same header
-  pub tolerant-again : (payload : List ℕ) → T (areBytes payload) → {lent later output′ out′ : List ℕ} {c d : declared.Reply} → TolerantPromise edition (sent b out payload) lent c later → b .rows ≤ roomOf lent
+  pub tolerant-again : (payload : List ℕ) → T (areBytes payload) → {lent lentWords later laterWords output′ out′ : List ℕ} {c d : declared.Reply} → TolerantPromise edition (sent b out payload) lent lentWords c later laterWords → b .rows ≤ roomWith lent lentWords
       → WritePromise edition (firstRows (c .rows) later) (sent b out payload) output′ d out′ → b .place ≤ length output′ → (d .answer ≡ 0) × (d .place ≡ b .place) × (take (d .place) out′ ≡ take (b .place) out)
   tolerant-again payload u {output′ = output′} {c = c} {d = d} r few s room′ =
       let (bytes, w, l) = written-call q (tolerant-then-written .0) in

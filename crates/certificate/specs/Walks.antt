@@ -13,7 +13,7 @@ use Rattle.reader.specs.Promises.{ReadsBy}
 use Rattle.writer.specs.Promise.{WritePromise}
 use Rattle.certificate.specs.Lent.{firstRows, rows-read, accepted-call, written-call}
 
-pub read-rows-walk : {w : Strictness} {edition : ℕ} {input before after : List ℕ} {a : declared.Reply} → T (areBytes input) → ReadsBy w edition input before a after → a .answer ≡ 0 → (envelopes : ℕ) × Walked (firstRows (a .rows) after) envelopes
+pub read-rows-walk : {w : Strictness} {edition : ℕ} {input before words after words′ : List ℕ} {a : declared.Reply} → T (areBytes input) → ReadsBy w edition input before words a after words′ → a .answer ≡ 0 → (envelopes : ℕ) × Walked (firstRows (a .rows) after) envelopes
 read-rows-walk {w} {edition} {input} t p z =
     let (place, found, is, f) = accepted-call p z in
     let (envelopes, walk) = read-walks w edition input place found t is in

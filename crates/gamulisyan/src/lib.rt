@@ -1,5 +1,6 @@
 // The entries under the names that C and Rust programs link, each with its whole promise; nothing else. `include/gamulisyan.h` declares them
 // and says what each takes, answers, refuses and leaves.
+ghost use Rattle.meaning.specs.Words.{onesOf};
 ghost use Rattle.reader.specs.Promises.{ReadPromise, TolerantPromise, PartPromise};
 ghost use Rattle.writer.specs.Promise.{WritePromise};
 ghost use Rattle.coders.specs.Plain.{NumberDecodes, NumberEncodes, DateDecodes, DateEncodes, plainOf};
@@ -13,17 +14,27 @@ use reader::Part;
 use table::reply::Reply;
 
 #[no_mangle]
-pub extern "C" fn gamulisyan_read(edition: u32, input: &[u8], rows: &mut [u32]) -> Reply
-    ensures { λ r. ⌜ ReadPromise edition (now (input .entry)) (now (rows .entry)) r (now (rows .exit)) ⌝ }
+pub extern "C" fn gamulisyan_read(
+    edition: u32,
+    input: &[u8],
+    rows: &mut [u32],
+    words: &mut [u32],
+) -> Reply
+    ensures { λ r. ⌜ ReadPromise edition (now (input .entry)) (now (rows .entry)) (now (words .entry)) r (now (rows .exit)) (now (words .exit)) ⌝ }
 {
-    reader::read(edition, input, rows)
+    reader::read(edition, input, rows, words)
 }
 
 #[no_mangle]
-pub extern "C" fn gamulisyan_read_tolerant(edition: u32, input: &[u8], rows: &mut [u32]) -> Reply
-    ensures { λ r. ⌜ TolerantPromise edition (now (input .entry)) (now (rows .entry)) r (now (rows .exit)) ⌝ }
+pub extern "C" fn gamulisyan_read_tolerant(
+    edition: u32,
+    input: &[u8],
+    rows: &mut [u32],
+    words: &mut [u32],
+) -> Reply
+    ensures { λ r. ⌜ TolerantPromise edition (now (input .entry)) (now (rows .entry)) (now (words .entry)) r (now (rows .exit)) (now (words .exit)) ⌝ }
 {
-    reader::read_tolerant(edition, input, rows)
+    reader::read_tolerant(edition, input, rows, words)
 }
 
 #[no_mangle]
@@ -36,6 +47,13 @@ pub extern "C" fn gamulisyan_write(
     ensures { λ r. ⌜ WritePromise edition (now (rows .entry)) (now (pool .entry)) (now (output .entry)) r (now (output .exit)) ⌝ }
 {
     writer::write(edition, rows, pool, output)
+}
+
+#[no_mangle]
+pub extern "C" fn gamulisyan_ones(word: u32) -> u32
+    ensures { λ r. ⌜ r ≡ onesOf word ⌝ }
+{
+    words::ones(word)
 }
 
 #[no_mangle]

@@ -3,6 +3,7 @@ pub mod Logic
 pub mod From
 pub mod HighFirst
 pub mod Nesting
+pub mod Firsts
 pub mod Rows
 pub mod Hopping
 pub mod Skipping
@@ -10,6 +11,11 @@ pub mod RightSkips
 pub mod Values
 pub mod Tables
 pub mod Lookups
+pub mod Presence
+pub mod Tabled
+pub mod AllTabled
+pub mod Wording
+pub mod Beside
 pub mod Steps
 pub mod Pouring
 pub mod ReadAt

@@ -45,7 +45,7 @@ unfolding skipsOf
 table-skips i [] = refl
 table-skips i (r ∷ rs) = rw (table-skips (suc i) rs) refl
 
-table-ranks : (i : ℕ) (rs : List Numbers) → ranksOf (rowsFrom i rs) ≡ map rankOf rs
+pub table-ranks : (i : ℕ) (rs : List Numbers) → ranksOf (rowsFrom i rs) ≡ map rankOf rs
 unfolding ranksOf
 table-ranks i [] = refl
 table-ranks i (r ∷ rs) = rw (table-ranks (suc i) rs) refl

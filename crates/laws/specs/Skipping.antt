@@ -62,7 +62,7 @@ module _ (m : List ℕ) (n : ℕ) where
           getD-set-other (skipsLaid m n d) ((n - suc d) * rowWidth + 4) (j * rowWidth + 4) (skipAt m n (n - suc d)) 0 (λ z. e (omega arith)) ∙ ih (omega arith) k
 
   -- so all rows belong where they did
-  laid-ranks : (d i k : ℕ) → ranksFor (skipsLaid m n d) i k ≡ ranksFor m i k
+  pub laid-ranks : (d i k : ℕ) → ranksFor (skipsLaid m n d) i k ≡ ranksFor m i k
   laid-ranks d i zero = refl
   laid-ranks d i (suc k) = rw (laid-kind d i, laid-level d i, laid-ranks d (suc i) k) refl
 
@@ -76,7 +76,7 @@ abbrev rowAt : Placed → ℕ → List ℕ
 rowAt r skip = numbersIn (numbersOf r) skip
 
 -- rows behind a front stand where they were read
-ranks-over : (rs : List Placed) (i : ℕ) (p m : List ℕ) → length p ≡ i * rowWidth → ranksFor (p ++ fourOf rs m) i (length rs) ≡ map rankOf (map numbersOf rs)
+pub ranks-over : (rs : List Placed) (i : ℕ) (p m : List ℕ) → length p ≡ i * rowWidth → ranksFor (p ++ fourOf rs m) i (length rs) ≡ map rankOf (map numbersOf rs)
 ranks-over [] i p m h = refl
 ranks-over (r ∷ rs) i p m h =
     let four = rowAt r (getD m 4 0) in

@@ -14,5 +14,5 @@ pub slice-of-bytes : (s : List ℕ) → ((i : ℕ) → getD s i 0 < 256) → T (
 slice-of-bytes [] h = tt
 slice-of-bytes (b ∷ s) h = both (isByte b) (areBytes s) (rw (lt-ltb b 256 (h 0)) tt) (slice-of-bytes s (λ i. h (suc i)))
 
-pub table-listed : (edition : ℕ) (input before after : List ℕ) (answer : Reply) → T (areBytes input) → ReadPromise edition input before answer after → TablePromise edition input before answer after
-table-listed edition input before after answer t p = record { reads = p; lists = text-whole edition input before t (p .answers) (p .rows) }
+pub table-listed : (edition : ℕ) (input before words after words′ : List ℕ) (answer : Reply) → T (areBytes input) → ReadPromise edition input before words answer after words′ → TablePromise edition input before words answer after words′
+table-listed edition input before words after words′ answer t p = record { reads = p; lists = λ few room enough. text-whole edition input before words t (p .answers) (p .rows) enough few room }

@@ -3,17 +3,17 @@ use Prim.Native.Nat.{ℕ, _≤_, _<_}
 use mathlib.Core.List.{List, [], _++_}
 use mathlib.Core.Path.{_≡_}
 use lib.ListN.{length}
-use Rattle.meaning.specs.Memory.{roomOf}
+use Rattle.meaning.specs.Memory.{roomOf, wordsBorrowed}
 use Rattle.meaning.specs.Listing.{inputMost, rowsLent, listing}
 use Rattle.listing.specs.declared.Piece.{Piece}
 use Rattle.listing.specs.Text.{textAt}
 use Rattle.table.specs.declared.reply.Reply.{Reply}
 use Rattle.reader.specs.Promises.{ReadPromise}
 
--- what the reader answers and lends back, and that the text of it is the listing, where 3,072 rows are lent and the input is not too long
-pub record TablePromise (edition : ℕ) (input before : List ℕ) (answer : Reply) (after : List ℕ) : Type 0 where
-  pub reads : ReadPromise edition input before answer after
-  pub lists : length input ≤ inputMost → roomOf before ≡ rowsLent → textAt (answer .answer) (answer .place) (answer .rows) after input 0 0 ≡ listing edition input
+-- what the reader answers and lends back, and that the text of it is the listing, where 3,072 rows and sixteen words are lent and the input is not too long
+pub record TablePromise (edition : ℕ) (input before words : List ℕ) (answer : Reply) (after words′ : List ℕ) : Type 0 where
+  pub reads : ReadPromise edition input before words answer after words′
+  pub lists : length input ≤ inputMost → roomOf before ≡ rowsLent → wordsBorrowed ≤ length words → textAt (answer .answer) (answer .place) (answer .rows) after input 0 0 ≡ listing edition input
 
 -- "(longer: the one line `too long`)": these bytes are the listing of any longer input, in any edition
 pub record LongPromise (bytes : List ℕ) : Type 0 where

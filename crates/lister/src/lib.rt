@@ -6,6 +6,7 @@ use libc::STDOUT_FILENO;
 use listing::Piece;
 use table::reply::Reply;
 use table::rows::ROW_NUMBERS;
+use words::WORDS_BORROWED;
 ghost use Rattle.lister.specs.Promise.{TablePromise, LongPromise, Turned};
 
 const INPUT_MOST: usize = 65536;
@@ -31,18 +32,19 @@ pub fn too_long() -> [u8; 9]
     [b't', b'o', b'o', b' ', b'l', b'o', b'n', b'g', b'\n']
 }
 
-// Lists this input. "lends 3,072 rows".
+// Lists this input. "lends 3,072 rows"; and the words that the reader borrows.
 fn print(edition: u32, input: &[u8]) {
     let mut rows = [0u32; ROWS_LENT * ROW_NUMBERS];
-    let table = read_table(edition, input, &mut rows);
+    let mut words = [0u32; WORDS_BORROWED];
+    let table = read_table(edition, input, &mut rows, &mut words);
     print_lines(table.answer, table.place, table.rows, &rows, input);
 }
 
 // The reader's answer and rows, whose text is the listing.
-pub fn read_table(edition: u32, input: &[u8], rows: &mut [u32]) -> Reply
-    ensures { λ r. ⌜ TablePromise edition (now (input .entry)) (now (rows .entry)) r (now (rows .exit)) ⌝ }
+pub fn read_table(edition: u32, input: &[u8], rows: &mut [u32], words: &mut [u32]) -> Reply
+    ensures { λ r. ⌜ TablePromise edition (now (input .entry)) (now (rows .entry)) (now (words .entry)) r (now (rows .exit)) (now (words .exit)) ⌝ }
 {
-    reader::read(edition, input, rows)
+    reader::read(edition, input, rows, words)
 }
 
 // Piece by piece until one is empty, which is the text's end.

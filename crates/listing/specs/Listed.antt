@@ -5,7 +5,7 @@ use mathlib.Core.List.{List, [], _∷_, _++_, map}
 use mathlib.Core.Bool.{Bool, true, false}
 use mathlib.Core.Path.{_≡_, refl, ap, sym, _∙_}
 use native.Mathlib.Omega.{arith}
-use borrow.Author.Tests.{leb-true, le-ltb, ne-eqb}
+use borrow.Author.Tests.{leb-true, le-leb, le-ltb, ne-eqb}
 use lib.Dec.{T, leb}
 use lib.ListN.{length, take, drop, length-append, length-drop}
 use lib.Seq.{drop-drop}
@@ -13,7 +13,7 @@ use Rattle.meaning.specs.Basics.{pick}
 use Rattle.meaning.specs.Headers.{Placed, Answer, refused, accepted, read}
 use Rattle.meaning.specs.Told.{strict}
 use Rattle.meaning.specs.Skips.{skipOf}
-use Rattle.meaning.specs.Memory.{rowWidth, rankOf, numbersIn, numbersOf, rowsFrom, tableOf, roomOf, laidOver, Reply, reply, readReply, readMemory, answerBy, rowsBy, readAnswer, readRows}
+use Rattle.meaning.specs.Memory.{rowWidth, rankOf, numbersIn, numbersOf, rowsFrom, tableOf, roomOf, laidOver, Reply, reply, readReply, readMemory, wordsBorrowed, roomWith, answerBy, rowsBy, readAnswer, readRows}
 use Rattle.meaning.specs.Listing.{inputMost, rowsLent, firstLine, rowLine, rowLines, listingOf, listing}
 use Rattle.laws.specs.Logic.{areBytes}
 use Rattle.laws.specs.Skipping.{table-length as rows-length}
@@ -50,7 +50,7 @@ laid-lines lent rs h =
 abbrev textOf : Reply → List ℕ → List ℕ → List ℕ
 textOf r rows bytes = textAt (r .answer) (r .place) (r .rows) rows bytes 0 0
 
-reply-listed : (edition : ℕ) (input lent : List ℕ) → T (areBytes input) → (a : Answer) → read edition input ≡ a → textOf (readReply (roomOf lent) a) (readMemory lent a) input ≡ listingOf (roomOf lent) a
+reply-listed : (edition : ℕ) (input lent : List ℕ) → T (areBytes input) → (a : Answer) → read edition input ≡ a → textOf (readReply (roomOf lent) a) (readMemory (roomOf lent) tableOf lent a) input ≡ listingOf (roomOf lent) a
 unfolding textAt listingOf linesFrom laidOver
 reply-listed edition input lent t (refused refusal place) q = rw (refused-lines refusal 0 lent (refused-shape strict edition input refusal place q .0)) refl
 reply-listed edition input lent t (accepted place rs) q = fits (leb (length rs) (roomOf lent)) refl (accepted-shape strict edition input place rs t q .2)
@@ -60,10 +60,16 @@ reply-listed edition input lent t (accepted place rs) q = fits (leb (length rs) 
     fits true q v = ap (λ (x : List ℕ). firstLine (reply 0 place (length rs)) ++ x) (rw (laid-lines lent rs (leb-true (length rs) (roomOf lent) q)) (lines-listed (laidOver lent (tableOf rs)) input (drop (length (tableOf rs)) lent) place 0 rs refl v))
     fits false q v = rw (refused-lines 14 (length rs) lent (omega arith)) refl
 
-module _ (edition : ℕ) (input lent : List ℕ) (t : T (areBytes input)) {answer place count : ℕ} {rows : List ℕ} (replies : reply answer place count ≡ readAnswer edition input lent) (lends : rows ≡ readRows edition input lent) where
+module _ (edition : ℕ) (input lent words : List ℕ) (t : T (areBytes input)) {answer place count : ℕ} {rows : List ℕ} (replies : reply answer place count ≡ readAnswer edition input lent words) (lends : rows ≡ readRows edition input lent words)
+    (enough : wordsBorrowed ≤ length words) where
+  roomy : roomWith lent words ≡ roomOf lent
+  roomy = rw (le-leb wordsBorrowed (length words) enough) refl
+
   pub text-listed : textAt answer place count rows input 0 0 ≡ listingOf (roomOf lent) (read edition input)
   unfolding answerBy rowsBy
-  text-listed = ap (λ (r : Reply). textOf r rows input) replies ∙ ap (λ (x : List ℕ). textOf (readAnswer edition input lent) x input) lends ∙ reply-listed edition input lent t (read edition input) refl
+  text-listed =
+      ap (λ (r : Reply). textOf r rows input) replies ∙ ap (λ (x : List ℕ). textOf (readAnswer edition input lent words) x input) lends
+      ∙ ap (λ (n : ℕ). textOf (readReply n (read edition input)) (readMemory n tableOf lent (read edition input)) input) roomy ∙ reply-listed edition input lent t (read edition input) refl
 
   -- "reads at most 65,536 bytes from standard input .., lends 3,072 rows"
   pub text-whole : length input ≤ inputMost → roomOf lent ≡ rowsLent → textAt answer place count rows input 0 0 ≡ listing edition input

@@ -90,9 +90,9 @@ lent n = replicate n 99
 
 abbrev pub memory : Bool
 memory =
-    replyIs 0 15 3 (readAnswer 1 aBase (lent (3 * rowWidth))) && same (readRows 1 aBase (lent (3 * rowWidth + 1))) (inMemory (baseRows 5 9 []) ++ lent 1) &&
-    replyIs 14 15 3 (readAnswer 2 aBase (lent (3 * rowWidth - 1))) && same (readRows 2 aBase (lent (3 * rowWidth - 1))) (lent (3 * rowWidth - 1)) &&
-    replyIs 6 3 0 (readAnswer 2 (hex 0x1_fe_00_03) (lent 8)) && same (readRows 2 (hex 0x1_fe_00_03) (lent 8)) (lent 8) &&
+    replyIs 0 15 3 (readAnswer 1 aBase (lent (3 * rowWidth)) (lent 16)) && same (readRows 1 aBase (lent (3 * rowWidth + 1)) (lent 16)) (inMemory (baseRows 5 9 []) ++ lent 1) &&
+    replyIs 14 15 3 (readAnswer 2 aBase (lent (3 * rowWidth - 1)) (lent 16)) && same (readRows 2 aBase (lent (3 * rowWidth - 1)) (lent 16)) (lent (3 * rowWidth - 1)) &&
+    replyIs 6 3 0 (readAnswer 2 (hex 0x1_fe_00_03) (lent 8) (lent 16)) && same (readRows 2 (hex 0x1_fe_00_03) (lent 8) (lent 16)) (lent 8) &&
     replyIs 0 15 3 (writeAnswer 2 (inMemory (baseRows 5 9 [])) aBase (lent 15)) && same (writeOutput 2 (inMemory (baseRows 5 9 [])) aBase (lent 17)) (aBase ++ lent 2) &&
     replyIs 16 15 0 (writeAnswer 1 (inMemory (baseRows 5 9 [])) aBase (lent 14)) && same (writeOutput 1 (inMemory (baseRows 5 9 [])) aBase (lent 14)) (lent 14)
 

@@ -6,6 +6,8 @@ pub mod Kinds
 pub mod Editions
 pub mod Reading
 pub mod Skips
+pub mod Codes
+pub mod Words
 pub mod Headers
 pub mod Writing
 pub mod Memory
@@ -21,4 +23,5 @@ pub mod Days
 pub mod Breaks
 pub mod Widths
 pub mod Hops
+pub mod Presence
 pub mod Bounds

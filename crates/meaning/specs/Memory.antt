@@ -7,6 +7,7 @@ use lib.ListN.{length, take, drop}
 use Rattle.meaning.specs.Basics.{pick}
 use Rattle.meaning.specs.Told.{Strictness, strict, labelOf}
 use Rattle.meaning.specs.Skips.{Rank, rank, skipOf, skipsFrom, Skips, heldAgainst}
+use Rattle.meaning.specs.Words.{wordsOf}
 use Rattle.meaning.specs.Headers.{Placed, Answer, refused, accepted, readBy}
 use Rattle.meaning.specs.Writing.{Cell, cell, broken, Written, written, unwritten, writtenUnder}
 
@@ -98,22 +99,42 @@ abbrev pub readReply : ℕ → Answer → Reply
 readReply room (refused refusal place) = reply refusal place 0
 readReply room (accepted place rs) = reply (pick (leb (length rs) room) 0 14) place (length rs)
 
-abbrev pub readMemory : List ℕ → Answer → List ℕ
-readMemory lent (refused refusal place) = lent
-readMemory lent (accepted place rs) = pick (leb (length rs) (roomOf lent)) (laidOver lent (tableOf rs)) lent
+-- lent rows or words after the call: where a header is accepted and has room, what is made of its rows stands at their front
+abbrev pub readMemory : ℕ → (List Placed → List ℕ) → List ℕ → Answer → List ℕ
+readMemory room front lent (refused refusal place) = lent
+readMemory room front lent (accepted place rs) = pick (leb (length rs) room) (laidOver lent (front rs)) lent
 
--- the reader, strict or tolerant: edition, input and lent rows to its answer, and to the lent rows after the call
-unfoldable pub answerBy : Strictness → ℕ → List ℕ → List ℕ → Reply
-answerBy strictness edition input lent = readReply (roomOf lent) (readBy strictness edition input)
+-- order 6: "Beside the table we want a word for each envelope"
+abbrev pub wordsRead : List Placed → List ℕ
+wordsRead rs = wordsOf (map rankOf (map numbersOf rs))
 
-unfoldable pub rowsBy : Strictness → ℕ → List ℕ → List ℕ → List ℕ
-rowsBy strictness edition input lent = readMemory lent (readBy strictness edition input)
+-- "The reader then borrows sixteen words more"
+abbrev pub wordsBorrowed : ℕ
+wordsBorrowed = 16
 
-abbrev pub readAnswer : ℕ → List ℕ → List ℕ → Reply
-readAnswer edition input lent = answerBy strict edition input lent
+-- "14 also when reader .. is lent fewer than sixteen, which count as room": lent fewer, there is room for no row, and every header has one
+abbrev pub roomWith : List ℕ → List ℕ → ℕ
+roomWith rows words = pick (leb wordsBorrowed (length words)) (roomOf rows) 0
 
-abbrev pub readRows : ℕ → List ℕ → List ℕ → List ℕ
-readRows edition input lent = rowsBy strict edition input lent
+-- the reader, strict or tolerant: edition, input, lent rows and lent words to its answer, and to the rows and the words after the call
+unfoldable pub answerBy : Strictness → ℕ → List ℕ → List ℕ → List ℕ → Reply
+answerBy strictness edition input rows words = readReply (roomWith rows words) (readBy strictness edition input)
+
+unfoldable pub rowsBy : Strictness → ℕ → List ℕ → List ℕ → List ℕ → List ℕ
+rowsBy strictness edition input rows words = readMemory (roomWith rows words) tableOf rows (readBy strictness edition input)
+
+-- "and leaves unused ones unchanged"
+unfoldable pub wordsBy : Strictness → ℕ → List ℕ → List ℕ → List ℕ → List ℕ
+wordsBy strictness edition input rows words = readMemory (roomWith rows words) wordsRead words (readBy strictness edition input)
+
+abbrev pub readAnswer : ℕ → List ℕ → List ℕ → List ℕ → Reply
+readAnswer edition input rows words = answerBy strict edition input rows words
+
+abbrev pub readRows : ℕ → List ℕ → List ℕ → List ℕ → List ℕ
+readRows edition input rows words = rowsBy strict edition input rows words
+
+abbrev pub readWords : ℕ → List ℕ → List ℕ → List ℕ → List ℕ
+readWords edition input rows words = wordsBy strict edition input rows words
 
 -- "Accepted gives 0, bytes written, rows"
 abbrev pub writeReply : ℕ → Written → Reply

@@ -1,21 +1,30 @@
--- The two passes agree, and rows put one by one, and then their skip numbers, are the table laid over the lent memory.
+-- The two passes agree, and rows put one by one, and then their skip numbers, are the table laid over the lent memory, with its words beside it.
 use Prim.Native.Nat.{ℕ, _+_, _-_, _≤_, _<_}
 use mathlib.Core.List.{List, [], _∷_, _++_}
-use mathlib.Core.Bool.{true, false}
-use mathlib.Core.Path.{_≡_, refl, ap, sym, _∙_}
+use mathlib.Core.Bool.{Bool, true, false}
+use mathlib.Core.Path.{_≡_, refl, ap, sym, _∙_, subst}
 use native.Mathlib.Omega.{arith}
 use lib.Dec.{leb}
 use lib.ListN.{length, take, drop, length-drop}
 use lib.Seq.{take-all}
-use borrow.Author.Tests.{le-leb, lt-leb}
+use borrow.Author.Tests.{le-leb, lt-leb, leb-true}
+use Rattle.meaning.specs.Basics.{pick}
 use Rattle.meaning.specs.Told.{labelOf, Strictness, strict}
-use Rattle.meaning.specs.Headers.{Answer, refused, accepted, envelopeMost, labelled, readBy, read}
-use Rattle.meaning.specs.Memory.{reply, tableOf, roomOf, laidOver, answerBy, rowsBy}
+use Rattle.meaning.specs.Headers.{Answer, refused, accepted, envelopeMost, envelopesMost, labelled, readBy, read}
+use Rattle.meaning.specs.Skips.{Rank}
+use Rattle.meaning.specs.Words.{wordsOf}
+use Rattle.meaning.specs.Memory.{reply, tableOf, roomOf, laidOver, roomWith, answerBy, rowsBy, wordsBy}
 use Rattle.meaning.specs.Payload.{partStart, partEnd, partBytes, payloadStart, payloadEnd, payloadBytes}
 use Rattle.laws.specs.Rows.{putAll}
-use Rattle.laws.specs.Skipping.{skipsLaid, all-laid-over}
+use Rattle.laws.specs.Hopping.{rankAt, ranksAt, ranks-next}
+use Rattle.laws.specs.Skipping.{skipsLaid, laid-kind, laid-level, all-laid-over}
+use Rattle.laws.specs.AllTabled.{ranksRead, AtMost, accepted-tabled, some-row}
+use Rattle.laws.specs.Wording.{Split, nothing, first, tabled-split}
+use Rattle.laws.specs.Beside.{put-stands, beside-ranks, beside-right, beside-room}
 use Rattle.laws.specs.Pouring.{filled, stopped, headerMost}
 use Rattle.laws.specs.Finishing.{finish}
+use Rattle.skips.specs.Laying.{IsTop, Stands}
+use Rattle.words.specs.Laying.{WordsFit}
 use Rattle.table.specs.declared.reply.Reply.{Reply}
 use Rattle.table.specs.Reply.{replyOf}
 use Rattle.table.specs.declared.told.Edition.{Edition}
@@ -73,9 +82,9 @@ module _ (w : Strictness) (edition : ℕ) (input m left : List ℕ) where
   unfolding fillingOf
   header-refused {refusal = refusal} {p = p} h a = let is = rw h at (a .is) in refused-by refusal p (readBy w edition input) is
 
-  pub refusal-answered : (before : List ℕ) {r : Stage} {refusal p : ℕ} {answer : Reply} → r ≡ Refused p refusal → Surveyed w edition input m r left → replyOf answer ≡ reply refusal p 0 → ReadsBy w edition input before answer before
-  unfolding answerBy rowsBy
-  refusal-answered before h a s = let q = header-refused h a in record { answers = s ∙ rw q refl; rows = rw q refl }
+  pub refusal-answered : (before words : List ℕ) {r : Stage} {refusal p : ℕ} {answer : Reply} → r ≡ Refused p refusal → Surveyed w edition input m r left → replyOf answer ≡ reply refusal p 0 → ReadsBy w edition input before words answer before words
+  unfolding answerBy rowsBy wordsBy
+  refusal-answered before words h a s = let q = header-refused h a in record { answers = s ∙ rw q refl; rows = rw q refl; carries = rw q refl }
 
 -- where the payload lies, by the strict reading
 module _ (edition : ℕ) (input m left : List ℕ) where
@@ -92,35 +101,73 @@ module _ (edition : ℕ) (input m left : List ℕ) where
 
 -- The second pass, and what is promised
 
-module _ (w : Strictness) (edition : ℕ) (input m : List ℕ) (place n : ℕ) (a : AcceptedHeader w edition input place n) where
+begins-with : {k : ℕ} {ranks rest : List Rank} {r : Rank} → Split k ranks → r ∷ rest ≡ ranks → IsTop r
+begins-with nothing q = absurd (let z : _≡_ {A = ℕ} 0 1 = cc q in omega arith)
+begins-with (first b inner rest n t z e more) q = (b, cc q)
+
+module _ (w : Strictness) (edition : ℕ) (input m words : List ℕ) (place n : ℕ) (a : AcceptedHeader w edition input place n) where
   -- "14: all well, but rows exceed the room"
-  pub too-many : roomOf m < n → ReadsBy w edition input m (record { answer = 14; place = place; rows = n }) m
-  unfolding answerBy rowsBy
+  pub too-many : roomWith m words < n → ReadsBy w edition input m words (record { answer = 14; place = place; rows = n }) m words
+  unfolding answerBy rowsBy wordsBy
   too-many h =
       let c = a .count in
-      let q : leb (length (a .rows)) (roomOf m) ≡ false = lt-leb (length (a .rows)) (roomOf m) (omega arith) in
-      record { answers = rw (a .is, q, c) refl; rows = rw (a .is, q) refl }
+      let q : leb (length (a .rows)) (roomWith m words) ≡ false = lt-leb (length (a .rows)) (roomWith m words) (omega arith) in
+      record { answers = rw (a .is, q, c) refl; rows = rw (a .is, q) refl; carries = rw (a .is, q) refl }
+
+  tabled : AtMost envelopesMost (ranksRead (a .rows))
+  tabled = accepted-tabled w edition input place (a .rows) (a .is)
+
+  -- there is a row, so what has room has its sixteen words
+  pub enough : n ≤ roomWith m words → (n ≤ roomOf m) × (16 ≤ length words)
+  enough h = at (leb 16 (length words)) refl h
+    where
+      at : (z : Bool) → leb 16 (length words) ≡ z → n ≤ pick z (roomOf m) 0 → (n ≤ roomOf m) × (16 ≤ length words)
+      at true q k = (k, leb-true 16 (length words) q)
+      at false q k = absurd (omega (arith, a .count, some-row envelopesMost (a .rows) tabled))
 
   filled-by : (left : List ℕ) (r : Stage) → finish (accepted place (a .rows)) 0 m ≡ fillingOf left r → putAll (a .rows) 0 m ≡ left
   unfolding fillingOf
   filled-by left (Go p k) q = cc
   filled-by left (Refused p refusal) q = absurd (let z : _≡_ {A = ℕ} 0 1 = cc in omega arith)
 
-  -- the rows, and then their skip numbers
-  pub all-filled : (mid left : List ℕ) (r : Stage) → n ≤ roomOf m → Surveyed w edition input m r mid → left ≡ skipsLaid mid n n → ReadsBy w edition input m (record { answer = 0; place = place; rows = n }) left
-  unfolding answerBy rowsBy
-  all-filled mid left r h f l =
-      let c = a .count in
-      let q : leb (length (a .rows)) (roomOf m) ≡ true = le-leb (length (a .rows)) (roomOf m) (omega arith) in
-      let kept : putAll (a .rows) 0 m ≡ mid = filled-by mid r (ap (λ (x : Answer). finish x 0 m) (sym (a .is)) ∙ f .is) in
-      let laid : left ≡ laidOver m (tableOf (a .rows))
-      = l ∙ ap (λ (x : List ℕ). skipsLaid x n n) (sym kept) ∙ ap (λ (x : ℕ). skipsLaid (putAll (a .rows) 0 m) x x) (sym c) ∙ all-laid-over (a .rows) m (omega arith) in
-      record { answers = rw (a .is, q, c) refl; rows = rw (a .is, q) laid }
+  module _ (mid : List ℕ) (r : Stage) (h : n ≤ roomWith m words) (f : Surveyed w edition input m r mid) where
+    kept : putAll (a .rows) 0 m ≡ mid
+    kept = filled-by mid r (ap (λ (x : Answer). finish x 0 m) (sym (a .is)) ∙ f .is)
+
+    -- the first row is an envelope's own
+    first-row : length mid ≡ length m → 0 < n → IsTop (rankAt mid 0)
+    first-row same some =
+        let left = skipsLaid mid n n in
+        let ranks = beside-ranks (a .rows) m mid n kept (a .count) (enough h .0) left refl same in
+        subst IsTop (rw (laid-kind mid n n 0, laid-level mid n n 0) refl) (begins-with (tabled-split (tabled .2)) (sym (ranks-next left n 0 some) ∙ ranks))
+
+    pub filled-stands : length mid ≡ length m → Stands mid n
+    filled-stands same = record { opens = first-row same; each = put-stands (a .rows) m mid n kept (a .count) (enough h .0) (tabled-split (tabled .2)) }
+
+    module _ (same : length mid ≡ length m) (left : List ℕ) (l : left ≡ skipsLaid mid n n) where
+      pub words-fit : WordsFit left n words
+      words-fit = record {
+        room = beside-room (a .rows) m mid n kept (a .count) (enough h .0) left l same;
+        right = beside-right (a .rows) m mid n kept (a .count) (enough h .0) left l same;
+        count = tabled .0;
+        split = subst (Split (tabled .0)) (sym (beside-ranks (a .rows) m mid n kept (a .count) (enough h .0) left l same)) (tabled-split (tabled .2));
+        few = omega (arith, tabled .1, enough h .1);
+      }
+
+      -- the rows, then their skip numbers, then the words
+      pub all-filled : (words′ : List ℕ) → words′ ≡ laidOver words (wordsOf (ranksAt left n 0)) → ReadsBy w edition input m words (record { answer = 0; place = place; rows = n }) left words′
+      unfolding answerBy rowsBy wordsBy
+      all-filled words′ d =
+          let c = a .count in
+          let q : leb (length (a .rows)) (roomWith m words) ≡ true = le-leb (length (a .rows)) (roomWith m words) (omega arith) in
+          let laid : left ≡ laidOver m (tableOf (a .rows))
+          = l ∙ ap (λ (x : List ℕ). skipsLaid x n n) (sym kept) ∙ ap (λ (x : ℕ). skipsLaid (putAll (a .rows) 0 m) x x) (sym c) ∙ all-laid-over (a .rows) m (omega (arith, enough h .0)) in
+          record { answers = rw (a .is, q, c) refl; rows = rw (a .is, q) laid; carries = rw (a .is, q) (d ∙ ap (λ (x : List Rank). laidOver words (wordsOf x)) (beside-ranks (a .rows) m mid n kept c (enough h .0) left l same)) }
 
 -- lent no rows, the first pass leaves them as they are
-pub nothing-lent : (w : Strictness) (edition : ℕ) (input m : List ℕ) (none : List ℕ) (r : Reply) (left : List ℕ) → length none ≡ 0 → ReadsBy w edition input (none ++ m) r left → ReadsBy w edition input m r left
-nothing-lent w edition input m [] r left h a = a
-nothing-lent w edition input m (x ∷ none) r left h a = absurd (omega arith)
+pub nothing-lent : (w : Strictness) (edition : ℕ) (input m words : List ℕ) (none : List ℕ) (r : Reply) (left words′ : List ℕ) → length none ≡ 0 → ReadsBy w edition input (none ++ m) words r left words′ → ReadsBy w edition input m words r left words′
+nothing-lent w edition input m words [] r left words′ h a = a
+nothing-lent w edition input m words (x ∷ none) r left words′ h a = absurd (omega arith)
 
 -- The payload
 

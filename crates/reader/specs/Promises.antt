@@ -1,11 +1,11 @@
--- What the public entries promise: the whole result and the final state of the lent rows, for every edition number, input and lent slice.
+-- What the public entries promise: the whole result and the final state of the lent rows and words, for every edition number, input and lent slices.
 use Prim.Native.Nat.{ℕ, _+_, _-_, _≤_}
 use mathlib.Core.List.{List}
 use mathlib.Core.Path.{_≡_}
 use lib.ListN.{length, take, drop}
 use Rattle.meaning.specs.Told.{Strictness, strict, tolerant}
 use Rattle.meaning.specs.Headers.{Placed, accepted, envelopeMost, readBy}
-use Rattle.meaning.specs.Memory.{answerBy, rowsBy}
+use Rattle.meaning.specs.Memory.{answerBy, rowsBy, wordsBy}
 use Rattle.meaning.specs.Payload.{payloadStart, payloadEnd, payloadBytes}
 use Rattle.laws.specs.Pouring.{headerMost}
 use Rattle.laws.specs.Finishing.{finish}
@@ -15,17 +15,19 @@ use Rattle.read_rows.specs.declared.Stage.{Stage}
 use Rattle.read_envelopes.specs.Headers.{fillingOf, PlaceFits}
 use Rattle.reader.specs.declared.Part.{Part}
 
-pub record ReadsBy (strictness : Strictness) (edition : ℕ) (input before : List ℕ) (answer : Reply) (after : List ℕ) : Type 0 where
-  pub answers : replyOf answer ≡ answerBy strictness edition input before
-  pub rows : after ≡ rowsBy strictness edition input before
+-- lent rows and words before the call, and after it
+pub record ReadsBy (strictness : Strictness) (edition : ℕ) (input before words : List ℕ) (answer : Reply) (after words′ : List ℕ) : Type 0 where
+  pub answers : replyOf answer ≡ answerBy strictness edition input before words
+  pub rows : after ≡ rowsBy strictness edition input before words
+  pub carries : words′ ≡ wordsBy strictness edition input before words
 
 -- document 01's reading
-abbrev pub ReadPromise : ℕ → List ℕ → List ℕ → Reply → List ℕ → Type 0
-ReadPromise edition input before answer after = ReadsBy strict edition input before answer after
+abbrev pub ReadPromise : ℕ → List ℕ → List ℕ → List ℕ → Reply → List ℕ → List ℕ → Type 0
+ReadPromise edition input before words answer after words′ = ReadsBy strict edition input before words answer after words′
 
 -- order 10: the tolerant reading
-abbrev pub TolerantPromise : ℕ → List ℕ → List ℕ → Reply → List ℕ → Type 0
-TolerantPromise edition input before answer after = ReadsBy tolerant edition input before answer after
+abbrev pub TolerantPromise : ℕ → List ℕ → List ℕ → List ℕ → Reply → List ℕ → List ℕ → Type 0
+TolerantPromise edition input before words answer after words′ = ReadsBy tolerant edition input before words answer after words′
 
 -- where the payload lies
 pub record PartPromise (edition : ℕ) (input : List ℕ) (part : Part) : Type 0 where

@@ -1,4 +1,4 @@
-// The reader: a header as rows in lent memory, and the payload behind it.
+// The reader: a header as rows and words in lent memory, and the payload behind it.
 use read_envelopes::header::read_header;
 use read_rows::Stage;
 use skips::lay::lay_skips;
@@ -11,6 +11,13 @@ use table::told::Label;
 use table::told::Strictness;
 use table::told::Told;
 use table::told::label_of;
+use words::WORDS_BORROWED;
+use words::lay_words;
+ghost use mathlib.Core.Path.{_≡_};
+ghost use Prim.Native.Nat.{_/_};
+ghost use lib.Dec.{leb};
+ghost use Rattle.meaning.specs.Basics.{pick};
+ghost use Rattle.meaning.specs.Memory.{rowWidth, wordsBorrowed};
 ghost use Rattle.table.specs.Told.{strictnessOf};
 ghost use Rattle.reader.specs.Promises.{ReadsBy, ReadPromise, TolerantPromise, PartPromise, PayloadPromise, AcceptedHeader, Surveyed};
 
@@ -21,30 +28,37 @@ pub struct Part {
     pub end: usize,
 }
 
-// Takes an edition's number and the input. Fills `rows` with the rows of the header at the input's front, and answers 0, the place
-// behind the header and the count of rows. A refusal is answered by number and place, and changes no row.
-pub fn read(edition: u32, input: &[u8], rows: &mut [u32]) -> Reply
-    ensures { λ r. ⌜ ReadPromise edition (now (input .entry)) (now (rows .entry)) r (now (rows .exit)) ⌝ }
+// Takes an edition's number and the input. Fills `rows` with the rows of the header at the input's front and `words` with a word for each of its
+// envelopes, and answers 0, the place behind the header and the count of rows. A refusal is answered by number and place, and changes no row
+// and no word.
+pub fn read(edition: u32, input: &[u8], rows: &mut [u32], words: &mut [u32]) -> Reply
+    ensures { λ r. ⌜ ReadPromise edition (now (input .entry)) (now (rows .entry)) (now (words .entry)) r (now (rows .exit)) (now (words .exit)) ⌝ }
 {
-    read_by(edition, Strictness::Strict, input, rows)
+    read_by(edition, Strictness::Strict, input, rows, words)
 }
 
 // The same, tolerantly: a block's length may stand in a wider form than it needs, and 11 is never the answer.
-pub fn read_tolerant(edition: u32, input: &[u8], rows: &mut [u32]) -> Reply
-    ensures { λ r. ⌜ TolerantPromise edition (now (input .entry)) (now (rows .entry)) r (now (rows .exit)) ⌝ }
+pub fn read_tolerant(edition: u32, input: &[u8], rows: &mut [u32], words: &mut [u32]) -> Reply
+    ensures { λ r. ⌜ TolerantPromise edition (now (input .entry)) (now (rows .entry)) (now (words .entry)) r (now (rows .exit)) (now (words .exit)) ⌝ }
 {
-    read_by(edition, Strictness::Tolerant, input, rows)
+    read_by(edition, Strictness::Tolerant, input, rows, words)
 }
 
 // Either of the two. Two passes of the same functions: the first, over no rows, validates and counts; the second fills. A third, over the
-// rows, lays their skip numbers.
-fn read_by(edition: u32, strictness: Strictness, input: &[u8], rows: &mut [u32]) -> Reply
-    ensures { λ r. ⌜ ReadsBy (strictnessOf strictness) edition (now (input .entry)) (now (rows .entry)) r (now (rows .exit)) ⌝ }
+// rows, lays their skip numbers, and a fourth, by these, the words.
+fn read_by(
+    edition: u32,
+    strictness: Strictness,
+    input: &[u8],
+    rows: &mut [u32],
+    words: &mut [u32],
+) -> Reply
+    ensures { λ r. ⌜ ReadsBy (strictnessOf strictness) edition (now (input .entry)) (now (rows .entry)) (now (words .entry)) r (now (rows .exit)) (now (words .exit)) ⌝ }
 {
     let counted = survey(edition, strictness, input, &mut rows[..0]);
     match counted {
         Stage::Refused { refusal, at } => refused(refusal, at),
-        Stage::Go(at, n) => fill(edition, strictness, input, rows, at, n),
+        Stage::Go(at, n) => fill(edition, strictness, input, rows, words, at, n),
     }
 }
 
@@ -67,20 +81,21 @@ fn survey(edition: u32, strictness: Strictness, input: &[u8], rows: &mut [u32]) 
     read_header(input, rows, told)
 }
 
-// The second pass, over a header that is accepted and has n rows, and then their skip numbers. "14: all well, but rows exceed the room": then no row
-// changes.
+// The second pass, over a header that is accepted and has n rows, and then their skip numbers and words. "14: all well, but rows exceed the room":
+// then no row and no word changes.
 fn fill(
     edition: u32,
     strictness: Strictness,
     input: &[u8],
     rows: &mut [u32],
+    words: &mut [u32],
     place: usize,
     n: usize,
 ) -> Reply
     requires { ⌜ AcceptedHeader (strictnessOf strictness) edition (now input) place n ⌝ }
-    ensures { λ r. ⌜ ReadsBy (strictnessOf strictness) edition (now (input .entry)) (now (rows .entry)) r (now (rows .exit)) ⌝ }
+    ensures { λ r. ⌜ ReadsBy (strictnessOf strictness) edition (now (input .entry)) (now (rows .entry)) (now (words .entry)) r (now (rows .exit)) (now (words .exit)) ⌝ }
 {
-    if room(rows.len()) < n {
+    if room_with(rows.len(), words.len()) < n {
         return Reply {
             answer: ROWS_SHORT,
             place: place,
@@ -89,11 +104,23 @@ fn fill(
     }
     survey(edition, strictness, input, rows);
     lay_skips(rows, n);
+    lay_words(rows, n, words);
     Reply {
         answer: 0,
         place: place,
         rows: n,
     }
+}
+
+// Takes how many numbers and how many words are lent. Answers how many rows have room: "14 also when reader .. is lent fewer than sixteen, which
+// count as room".
+fn room_with(numbers: usize, words: usize) -> usize
+    ensures { λ r. ⌜ r ≡ pick (leb wordsBorrowed words) (numbers / rowWidth) 0 ⌝ }
+{
+    if words < WORDS_BORROWED {
+        return 0;
+    }
+    room(numbers)
 }
 
 // Takes an edition's number and the input. Answers where the payload lies: from its first byte up to the input's end, or the empty part

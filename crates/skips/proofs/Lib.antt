@@ -1,3 +1,4 @@
 pub mod Owning
 pub mod Hops
 pub mod Passes
+pub mod Envelopes

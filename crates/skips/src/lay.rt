@@ -3,6 +3,7 @@ use crate::hop::above_end;
 use crate::hop::beside_end;
 use crate::hop::deeper_end;
 use crate::owner::Owner;
+use crate::owner::is_envelope;
 use crate::owner::owner_of;
 use table::kinds::ADDRESS;
 use table::kinds::AGENT_NAME;
@@ -20,18 +21,36 @@ ghost use Rattle.laws.specs.Hopping.{skipAt};
 ghost use Rattle.laws.specs.Skipping.{skipsLaid};
 ghost use Rattle.table.specs.Rows.{u32Most};
 ghost use Rattle.skips.specs.Owners.{Hoppable};
+ghost use Rattle.skips.specs.Laying.{Stands, LaidFrom, InsideLaid};
 
-// Lays the skip numbers of the first n rows, from the last to the first; nothing else changes.
+// Lays the skip numbers of the first n rows, from the last to the first; nothing else changes. An envelope's is the next envelope's row, or n.
 pub fn lay_skips(rows: &mut [u32], n: usize)
-    requires { ⌜ (n ≤ roomOf (now rows)) × (n ≤ u32Most) ⌝ }
+    requires { ⌜ (n ≤ roomOf (now rows)) × (n ≤ u32Most) × Stands (now rows) n ⌝ }
     ensures { λ _. ⌜ now (rows .exit) ≡ skipsLaid (now (rows .entry)) n n ⌝ }
 {
     let mut next = n;
     while 0 < next {
-        let i = next - 1;
+        let i = lay_inside(rows, n, next);
+        put_skip(rows, i, next);
+        next = i;
+    }
+}
+
+// Takes n rows that have their skip numbers from row `end` on, which is an envelope's or n. Lays those of the rows before it that are inside an
+// envelope, and answers that envelope's own row.
+fn lay_inside(rows: &mut [u32], n: usize, end: usize) -> usize
+    requires { ⌜ LaidFrom (now rows) n end ⌝ }
+    ensures { λ r. ⌜ InsideLaid (now (rows .entry)) (now (rows .exit)) n end r ⌝ }
+{
+    let mut i = end;
+    loop {
+        i -= 1;
+        let owner = owner_of(kind_at(rows, i));
+        if is_envelope(owner) {
+            return i;
+        }
         let skip = behind(rows, n, i);
         put_skip(rows, i, skip);
-        next = i;
     }
 }
 

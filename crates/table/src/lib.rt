@@ -2,6 +2,7 @@
 pub mod codes;
 pub mod kinds;
 pub mod limits;
+pub mod parameters;
 pub mod refusals;
 pub mod reply;
 pub mod rows;

@@ -30,3 +30,5 @@ pub const ROWS_SHORT: u32 = 14;
 pub const TABLE_WRONG: u32 = 15;
 
 pub const OUTPUT_SHORT: u32 = 16;
+
+pub const PARAMETER_UNKNOWN: u32 = 17;

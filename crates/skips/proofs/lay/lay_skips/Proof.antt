@@ -1,51 +1,47 @@
--- `lay::lay_skips`: the invariant says that the rows from `next` on have their skip numbers.
-use Prim.Native.Nat.{_-_, _≤_}
-use mathlib.Core.Path.{_≡_, refl, _∙_}
+-- `lay::lay_skips`: the invariant says that the rows from `next` on have their skip numbers, and that `next` is an envelope's row or n.
+use mathlib.Core.Path.{_∙_}
 use native.Mathlib.Omega.{arith}
-use borrow.Author.Needs.{needs}
-use lib.ListN.{length}
-use Rattle.laws.specs.Skipping.{skipsLaid}
-use Rattle.skips.proofs.Passes.{laid-again, laid-begins, laid-ends, laid-hoppable}
+use Rattle.skips.proofs.Envelopes.{EnvelopesLaid, none-yet, all-done, whole-from, own-inside, one-more-laid}
 use Rattle.skips.proofs.lay.lay_skips.Statement.{statement}
 use Rattle.skips.proofs.lay.lay_skips.Tie as tie
 
 abbrev Inv-loop : tie.InvT-loop
-Inv-loop rows₀ n next₀ rows next = (next ≤ n) × (length rows ≡ length rows₀) × (rows ≡ skipsLaid rows₀ n (n - next))
+Inv-loop rows₀ n next₀ rows next = EnvelopesLaid rows₀ n rows next
 
 abbrev μ-loop : tie.MeasureT-loop
 μ-loop rows₀ n next₀ rows next = next
 
 loop-holds : tie.Need-loop-holds Inv-loop μ-loop
-loop-holds c = let a = c .before .args in (omega arith, refl, laid-begins (a .rows .now) (a .n))
+loop-holds c = none-yet (c .before .args .rows .now) (c .before .args .n)
 
-sub-i : tie.Need-sub-i Inv-loop μ-loop
-sub-i c = search needs
-
-behind-requires : tie.Need-behind-requires Inv-loop μ-loop
-behind-requires c κs = let s = c .before .before .before .before in let l = c .before .before .loop in laid-hoppable (s .args .rows .now) (s .args .n) (l .next) (c .before .loop-test .taken) (l .inv .0) (l .rows) (l .inv .2) (s .pre .0)
+lay-inside-requires : tie.Need-lay-inside-requires Inv-loop μ-loop
+lay-inside-requires c κs = whole-from (c .before .before .loop .inv) (c .before .before .before .before .pre .0) (c .before .before .before .before .pre .1) (c .before .before .before .before .pre .2) (c .before .loop-test .taken)
 
 put-skip-requires : tie.Need-put-skip-requires Inv-loop μ-loop
-put-skip-requires c κs =
-    let s = c .before .before .before .before .before .before in
-    let l = c .before .before .before .before .loop in
-    (omega (arith, s .pre .0, l .inv .0, l .inv .1, c .before .before .before .loop-test .taken), omega (arith, s .pre .1, c .before .behind .ensures .1))
+put-skip-requires c κs = (own-inside (c .before .before .before .before .before .before .loop .inv) (c .before .before .before .before .before .before .before .before .pre .0) (c .before .before .before .before .before .before .before .before .pre .1) (c .before .before .before .before .before .before .before .before .pre .2) (c .before .before .before .before .before .loop-test .taken) (c .before .before .before .lay-inside .ensures) (c .before .before .before .lay-inside .kept .0), omega (arith, c .before .before .before .before .before .before .loop .inv .few, c .before .before .before .before .before .before .before .before .pre .1))
 
 loop-less : tie.Need-loop-less Inv-loop μ-loop
-loop-less c = omega (arith, c .before .before .before .before .before .before .loop-test .taken)
+loop-less c = omega (arith, c .before .before .before .before .before .before .lay-inside .ensures .less)
 
 loop-again : tie.Need-loop-again Inv-loop μ-loop
-loop-again c =
-    let a = c .before .before .before .before .before .before .before .before .before .args in
-    let l = c .before .before .before .before .before .before .before .loop in
-    let t = c .before .before .before .before .before .before .loop-test .taken in
-    let put = c .before .before .put-skip in
-    (omega (arith, l .inv .0), put .kept .0 ∙ l .inv .1, laid-again (a .rows .now) (a .n) (l .next) t (l .inv .0) (l .rows) (l .inv .2) (c .before .before .before .before .behind .ensures .0) (put .ensures))
+loop-again c = one-more-laid (c .before .before .before .before .before .before .before .before .before .loop .inv) (c .before .before .before .before .before .before .before .before .before .before .before .pre .0) (c .before .before .before .before .before .before .before .before .before .before .before .pre .1) (c .before .before .before .before .before .before .before .before .before .before .before .pre .2) (c .before .before .before .before .before .before .before .before .loop-test .taken) (c .before .before .before .before .before .before .lay-inside .ensures) (c .before .before .put-skip .ensures) (c .before .before .put-skip .kept .0 ∙ c .before .before .before .before .before .before .lay-inside .kept .0 ∙ c .before .before .before .before .before .before .before .before .before .loop .inv .long)
 
 same-length : tie.Need-same-length Inv-loop μ-loop
-same-length c = c .before .loop .inv .1
+same-length c = c .before .loop .inv .long
 
 returns : tie.Need-returns Inv-loop μ-loop
-returns c = let a = c .before .before .before .args in laid-ends (a .rows .now) (c .before .loop .rows) (a .n) (c .before .loop .next) (c .loop-test .left) (c .before .loop .inv .2)
+returns c = all-done (c .before .loop .inv) (c .loop-test .left)
 
 pub lay-skips-spec : {M : Type 1} → statement M
-lay-skips-spec = tie.close (tie.spec Inv-loop μ-loop loop-holds sub-i behind-requires put-skip-requires loop-less loop-again same-length returns)
+lay-skips-spec =
+    tie.close
+    (tie.spec
+    Inv-loop
+    μ-loop
+    loop-holds
+    lay-inside-requires
+    put-skip-requires
+    loop-less
+    loop-again
+    same-length
+    returns)
