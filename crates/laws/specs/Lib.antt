@@ -4,10 +4,12 @@ pub mod From
 pub mod HighFirst
 pub mod Nesting
 pub mod Firsts
+pub mod Filling
 pub mod Rows
 pub mod Hopping
 pub mod Skipping
 pub mod RightSkips
+pub mod Passing
 pub mod Values
 pub mod Tables
 pub mod Lookups

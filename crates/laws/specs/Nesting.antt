@@ -15,7 +15,7 @@ use Rattle.meaning.specs.Skips.{Rank, holdsDeeper, isValue, beside, belongs, be
 -- Kinds
 
 -- what holds of each test of kinds, under the kinds that have it, holds of a kind's own
-by-beside : (P : (ℕ → Bool) → Type 0) (k : ℕ) → (k ≡ 1 → P (λ c. ltb 2 c)) → (k ≡ 2 → P (λ c. ltb 2 c)) → (k ≡ 15 → P (λ c. ltb 15 c)) → (k ≡ 16 → P (λ c. eqb c 17)) → (k ≡ 19 → P (λ c. isValue c)) → (k ≡ 29 → P (λ c. isValue c))
+pub by-beside : (P : (ℕ → Bool) → Type 0) (k : ℕ) → (k ≡ 1 → P (λ c. ltb 2 c)) → (k ≡ 2 → P (λ c. ltb 2 c)) → (k ≡ 15 → P (λ c. ltb 15 c)) → (k ≡ 16 → P (λ c. eqb c 17)) → (k ≡ 19 → P (λ c. isValue c)) → (k ≡ 29 → P (λ c. isValue c))
     → (k ≡ 25 → P (λ c. eqb c 26)) → (k ≡ 27 → P (λ c. eqb c 28)) → P (λ c. false) → P (λ c. beside k c)
 by-beside P k p₁ p₂ p₁₅ p₁₆ p₁₉ p₂₉ p₂₅ p₂₇ p₀ = at (eqb k 1) (eqb k 2) (eqb k 15) (eqb k 16) (eqb k 19) (eqb k 29) (eqb k 25) (eqb k 27) refl refl refl refl refl refl refl refl
   where
@@ -34,7 +34,7 @@ by-beside P k p₁ p₂ p₁₅ p₁₆ p₁₉ p₂₉ p₂₅ p₂₇ p₀ = a
 false-not : {A : Type 0} → false ≡ true → A
 false-not q = let z : _≡_ {A = ℕ} 0 1 = cc q in absurd (omega arith)
 
-value-is : {A : Type 0} (c : ℕ) → isValue c ≡ true → (c ≡ 20 → A) → (c ≡ 21 → A) → A
+pub value-is : {A : Type 0} (c : ℕ) → isValue c ≡ true → (c ≡ 20 → A) → (c ≡ 21 → A) → A
 value-is {A} c h f g = at (eqb c 20) (eqb c 21) refl refl h
   where
     at : (x y : Bool) → eqb c 20 ≡ x → eqb c 21 ≡ y → x || y ≡ true → A
