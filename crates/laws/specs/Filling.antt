@@ -1,5 +1,5 @@
--- Order 1: the procedure of section 2.2, read at one code, gives the first row that opens or holds a value, where the first row is an envelope's and
--- every row behind it belongs to an envelope. By what each part of it adds to the value that is there.
+-- Order 1: the procedure of section 2.2, read at one code, gives the first row that opens or holds a value, where the first row is an envelope's, so
+-- that every row behind it belongs to an envelope. By what each part of the procedure adds to the value that is there.
 use Prim.Native.Nat.{ℕ, suc, _+_, _≤_, _<_}
 use mathlib.Core.List.{List, [], _∷_}
 use mathlib.Core.Bool.{Bool, true, false, _&&_, _||_}
@@ -11,6 +11,7 @@ use lib.ListN.{length, take}
 use borrow.Author.Tests.{eqb-true, eqb-false, ne-eqb, ltb-true, ltb-false, lt-ltb}
 use Rattle.meaning.specs.Basics.{pick}
 use Rattle.meaning.specs.Editions.{closing}
+use Rattle.meaning.specs.Kinds.{agentName}
 use Rattle.meaning.specs.Skips.{Rank, isEnvelope, belongs, belonging}
 use Rattle.meaning.specs.Codes.{codeOf, hasValue}
 use Rattle.meaning.specs.Present.{Value, noValue, atRow, AllParameters, emptyEnvelope, valueIn, unless, copyAll, nextEnvelope, allEnvelopes, rowOr, present}
@@ -73,10 +74,15 @@ processed code i (r ∷ rest) all =
 
 -- Rows of which each belongs to an envelope
 
--- every row has a kind, and envelopes stand at level 0
-pub data Enveloped : List Rank → Type 0 where
-  none-left : Enveloped []
-  one-more : {r : Rank} {rest : List Rank} → 1 ≤ r .kind → (isEnvelope (r .kind) ≡ true → r .level ≡ 0) → Enveloped rest → Enveloped (r ∷ rest)
+-- every row has a kind, an envelope's stands at level 0, and an agent's deeper
+pub record StandsWell (r : Rank) : Type 0 where
+  pub some-kind : 1 ≤ r .kind
+  pub envelope-out : isEnvelope (r .kind) ≡ true → r .level ≡ 0
+  pub agent-in : r .kind ≡ agentName → 1 ≤ r .level
+
+pub data Standing : List Rank → Type 0 where
+  none-left : Standing []
+  one-more : {r : Rank} {rest : List Rank} → StandsWell r → Standing rest → Standing (r ∷ rest)
 
 not-true : {A : Type 0} → false ≡ true → A
 not-true q = let z : _≡_ {A = ℕ} 0 1 = cc q in absurd (omega arith)
@@ -135,30 +141,30 @@ module _ (r s : Rank) (h : isEnvelope (r .kind) ≡ true) (l : r .level ≡ 0) w
           by (inr (x, y)) = let (a, b) = envelope-kind (s .kind) p in let z = ltb-true 2 (s .kind) (rw h at y) in absurd (omega arith)
 
 -- behind an envelope's row, its own values and those of the envelopes behind it are all there are
-all-inside : (code i : ℕ) (r : Rank) (rows : List Rank) → (code ≡ closing → ⊥) → isEnvelope (r .kind) ≡ true → r .level ≡ 0 → Enveloped rows
+all-inside : (code i : ℕ) (r : Rank) (rows : List Rank) → (code ≡ closing → ⊥) → isEnvelope (r .kind) ≡ true → r .level ≡ 0 → Standing rows
     → unless (firstValue code i (take (belonging r rows) rows)) (inEnvelopes code i rows) ≡ firstValue code i rows
 all-inside code i r [] n h l none-left = rw (belonging-none r) refl
-all-inside code i r (s ∷ rest) n h l (one-more k f t) = at (belongs r s) refl (all-inside code (suc i) r rest n h l t) (λ h₁ l₁. all-inside code (suc i) s rest n h₁ l₁ t)
+all-inside code i r (s ∷ rest) n h l (one-more k t) = at (belongs r s) refl (all-inside code (suc i) r rest n h l t) (λ h₁ l₁. all-inside code (suc i) s rest n h₁ l₁ t)
   where
     at : (b : Bool) → belongs r s ≡ b → unless (firstValue code (suc i) (take (belonging r rest) rest)) (inEnvelopes code (suc i) rest) ≡ firstValue code (suc i) rest
         → (isEnvelope (s .kind) ≡ true → s .level ≡ 0 → unless (firstValue code (suc i) (take (belonging s rest) rest)) (inEnvelopes code (suc i) rest) ≡ firstValue code (suc i) rest)
         → unless (firstValue code i (take (belonging r (s ∷ rest)) (s ∷ rest))) (inEnvelopes code i (s ∷ rest)) ≡ firstValue code i (s ∷ rest)
     at true q ih step =
         ap (λ (x : ℕ). unless (firstValue code i (take x (s ∷ rest))) (inEnvelopes code i (s ∷ rest))) (belonging-on r s rest q)
-        ∙ ap (λ (b : Bool). unless (unless (valueIn code i s) (firstValue code (suc i) (take (belonging r rest) rest))) (unless (pick b (firstValue code (suc i) (take (belonging s rest) rest)) noValue) (inEnvelopes code (suc i) rest))) (inside-none r s h l f q)
+        ∙ ap (λ (b : Bool). unless (unless (valueIn code i s) (firstValue code (suc i) (take (belonging r rest) rest))) (unless (pick b (firstValue code (suc i) (take (belonging s rest) rest)) noValue) (inEnvelopes code (suc i) rest))) (inside-none r s h l (k .envelope-out) q)
         ∙ unless-both (valueIn code i s) (firstValue code (suc i) (take (belonging r rest) rest)) (inEnvelopes code (suc i) rest) ∙ ap (unless (valueIn code i s)) ih
     at false q ih step =
-        let o = next-opens r s h l k q in
+        let o = next-opens r s h l (k .some-kind) q in
         ap (λ (x : ℕ). unless (firstValue code i (take x (s ∷ rest))) (inEnvelopes code i (s ∷ rest))) (belonging-ends r s rest q)
         ∙ ap (λ (b : Bool). unless (pick b (firstValue code (suc i) (take (belonging s rest) rest)) noValue) (inEnvelopes code (suc i) rest)) o
-        ∙ step o (f o) ∙ ap (λ (v : Value). unless v (firstValue code (suc i) rest)) (sym (envelope-none code i s n o))
+        ∙ step o (k .envelope-out o) ∙ ap (λ (v : Value). unless v (firstValue code (suc i) rest)) (sym (envelope-none code i s n o))
 
 -- The procedure's answer is the first row that has a value
-pub first-stands : (code : ℕ) (r : Rank) (rest : List Rank) → (code ≡ closing → ⊥) → isEnvelope (r .kind) ≡ true → Enveloped (r ∷ rest) → present code (r ∷ rest) ≡ firstFrom code 0 (r ∷ rest)
+pub first-stands : (code : ℕ) (r : Rank) (rest : List Rank) → (code ≡ closing → ⊥) → isEnvelope (r .kind) ≡ true → Standing (r ∷ rest) → present code (r ∷ rest) ≡ firstFrom code 0 (r ∷ rest)
 unfolding present
-first-stands code r rest n h (one-more k f t) =
+first-stands code r rest n h (one-more k t) =
     let all : allEnvelopes 0 (r ∷ rest) emptyEnvelope code ≡ firstValue code 0 (r ∷ rest)
     = processed code 0 (r ∷ rest) emptyEnvelope ∙ ap (λ (b : Bool). unless (pick b (firstValue code 1 (take (belonging r rest) rest)) noValue) (inEnvelopes code 1 rest)) h
-    ∙ all-inside code 1 r rest n h (f h) t ∙ ap (λ (v : Value). unless v (firstValue code 1 rest)) (sym (envelope-none code 0 r n h)) in
+    ∙ all-inside code 1 r rest n h (k .envelope-out h) t ∙ ap (λ (v : Value). unless v (firstValue code 1 rest)) (sym (envelope-none code 0 r n h)) in
     let zero-more : length (r ∷ rest) ≡ 0 + length (r ∷ rest) = omega arith in
     ap (rowOr (length (r ∷ rest))) all ∙ ap (λ (x : ℕ). rowOr x (firstValue code 0 (r ∷ rest))) zero-more ∙ first-row code 0 (r ∷ rest)

@@ -43,9 +43,11 @@ pub mod WriterRefusals
 pub mod CodedNumbers
 pub mod PlainNumbers
 pub mod PlainDates
+pub mod Standing
 pub mod Ties
 pub mod Walks
 pub mod Demands
+pub mod Presence
 pub mod Tolerant
 pub mod Notes
 pub mod Days
