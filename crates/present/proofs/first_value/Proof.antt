@@ -1,60 +1,48 @@
+-- `first_value`: the invariant says that the first value of all rows is the first from row i on.
+use Prim.Native.Nat.{_-_}
+use native.Mathlib.Omega.{arith}
+use borrow.Author.Needs.{needs}
+use Rattle.present.proofs.Walk.{Looked, looked-none, looked-all, found, looks-on, looks-less}
 use Rattle.present.proofs.first_value.Statement.{statement}
 use Rattle.present.proofs.first_value.Tie as tie
-use Rattle.present.proofs.first_value.Reads as reads
-use Rattle.present.proofs.first_value.Lts as lts
-use Rattle.present.proofs.has_value.Reads as has-value-reads
-use Rattle.present.proofs.next_looked.Reads as next-looked-reads
-use Rattle.table.proofs.rows.room.Reads as room-reads
 
 abbrev Inv-loop : tie.InvT-loop
-Inv-loop rows code n i₀ i = ?
+Inv-loop rows code n i₀ i = Looked rows code n i
 
 abbrev μ-loop : tie.MeasureT-loop
-μ-loop rows code n i₀ i = ?
+μ-loop rows code n i₀ i = n - i
 
--- src/lib.rt:70:9
 room-requires : tie.Need-room-requires Inv-loop μ-loop
-room-requires c κs = ?
+room-requires c κs = search needs
 
--- src/lib.rt:72:5
 loop-holds : tie.Need-loop-holds Inv-loop μ-loop
-loop-holds c = ?
+loop-holds c = looked-none (c .before .before .args .rows .now) (c .before .before .args .code) (c .room .result)
 
--- src/lib.rt:73:12
 has-value-requires : tie.Need-has-value-requires Inv-loop μ-loop
-has-value-requires c κs = ?
+has-value-requires c κs = omega (arith, c .loop-test .taken, c .before .before .room .ensures)
 
--- src/lib.rt:74:13
 returns : tie.Need-returns Inv-loop μ-loop
-returns c = ?
+returns c =
+    let a = c .before .before .before .before .before .before .args in
+    found (a .rows .now) (a .code) (c .before .before .before .before .room .ensures) (c .before .before .before .loop .inv) (c .before .before .loop-test .taken) (c .before .has-value .ensures) (c .if1 .taken)
 
--- src/lib.rt:76:9
 next-looked-requires : tie.Need-next-looked-requires Inv-loop μ-loop
-next-looked-requires c κs = ?
+next-looked-requires c κs = omega (arith, c .before .before .loop-test .taken, c .before .before .before .before .room .ensures)
 
--- src/lib.rt:72:5
 loop-less : tie.Need-loop-less Inv-loop μ-loop
-loop-less c = ?
+loop-less c =
+    let a = c .before .before .before .before .before .before .before in
+    looks-less (a .args .rows .now) (a .args .code) (c .before .before .before .before .before .room .ensures) (c .before .before .before .before .loop .inv) (c .before .before .before .loop-test .taken) (c .before .before .has-value .ensures) (a .pre .0) (c .next-looked .ensures)
 
--- src/lib.rt:72:5
 loop-again : tie.Need-loop-again Inv-loop μ-loop
-loop-again c = ?
+loop-again c =
+    let a = c .before .before .before .before .before .before .before in
+    looks-on (a .args .rows .now) (a .args .code) (c .before .before .before .before .before .room .ensures) (c .before .before .before .before .loop .inv) (c .before .before .before .loop-test .taken) (c .before .before .has-value .ensures) (a .pre .0) (a .pre .1) (c .before .if1 .left) (c .next-looked .ensures)
 
--- src/lib.rt:66:1
 returns-2 : tie.Need-returns-2 Inv-loop μ-loop
-returns-2 c = ?
+returns-2 c =
+    let a = c .before .before .before .before .args in
+    looked-all (a .rows .now) (a .code) (c .before .before .room .ensures) (c .before .loop .inv) (c .loop-test .left)
 
 pub first-value-spec : {M : Type 1} → statement M
-first-value-spec =
-    tie.close
-    (tie.spec
-    Inv-loop
-    μ-loop
-    room-requires
-    loop-holds
-    has-value-requires
-    returns
-    next-looked-requires
-    loop-less
-    loop-again
-    returns-2)
+first-value-spec = tie.close (tie.spec Inv-loop μ-loop room-requires loop-holds has-value-requires returns next-looked-requires loop-less loop-again returns-2)
