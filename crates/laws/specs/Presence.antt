@@ -188,3 +188,45 @@ same-under-other e rows pool code t p q =
     let one : (f : Edition) → checked f rows pool ≡ passed → presentUnder rows pool code (labelOf (numberOf f)) ≡ pick (canAsk code) (a passed) (reply 17 0 0)
     = λ f z. ap (presentUnder rows pool code) (label-number f) ∙ ap (λ (c : Check). pick (canAsk code) (a c) (reply 17 0 0)) z in
     one (other e) (other-passes e rows pool t p q) ∙ sym (one e q)
+
+-- An answer of 0 says that all was well
+
+stopped-never : (skips : Skips) (p : Plan) {refusal place : ℕ} → checkOf (planned 0 skips p) ≡ stopped refusal place → refusal ≡ 0 → ⊥
+stopped-never skips (stuck i) {refusal} q z = let x : 15 ≡ refusal = cc q in omega arith
+stopped-never (wrongAt i) (plan bs vs) {refusal} q z = let x : 15 ≡ refusal = cc q in omega arith
+stopped-never right (plan bs vs) {refusal} {place} q z = at (limits envelopesMost vs) q
+  where
+    at : (o : Limit) → checkOf (limited 0 vs o) ≡ stopped refusal place → ⊥
+    at fine r = absurd-check (sym r ∙ room-check (headerOf vs) (leb (length (headerOf vs)) 0))
+    at (exceeds i) r = let x : 5 ≡ refusal = cc r in omega arith
+
+never-zero : (e : Edition) (rows pool : List ℕ) (refusal place : ℕ) → checked e rows pool ≡ stopped refusal place → refusal ≡ 0 → ⊥
+unfolding checked writeRows
+never-zero e rows pool refusal place q z = stopped-never (skipsHeld rows) (wholePlan e (cellsOf pool rows)) q z
+
+pub record AllWell (edition : ℕ) (rows pool : List ℕ) (code : ℕ) : Type 0 where
+  pub told : Edition
+  pub label : labelOf edition ≡ known told
+  pub asked : canAsk code ≡ true
+  pub check : checked told rows pool ≡ passed
+
+pub zero-means : (edition : ℕ) (rows pool : List ℕ) (code : ℕ) → presentAnswer edition rows pool code .answer ≡ 0 → AllWell edition rows pool code
+unfolding presentAnswer
+zero-means edition rows pool code z = at (labelOf edition) refl z
+  where
+    by-check : (e : Edition) → labelOf edition ≡ known e → canAsk code ≡ true → (c : Check) → checked e rows pool ≡ c → answeredBy rows code c .answer ≡ 0 → AllWell edition rows pool code
+    by-check e k a passed q r = record { told = e; label = k; asked = a; check = q }
+    by-check e k a (stopped refusal place) q r = absurd (never-zero e rows pool refusal place q r)
+
+    by-code : (e : Edition) → labelOf edition ≡ known e → (b : Bool) → canAsk code ≡ b → pick b (answeredBy rows code (checked e rows pool)) (reply 17 0 0) .answer ≡ 0 → AllWell edition rows pool code
+    by-code e k true a r = by-check e k a (checked e rows pool) refl r
+    by-code e k false a r = absurd (omega arith)
+
+    at : (l : Label) → labelOf edition ≡ l → presentUnder rows pool code l .answer ≡ 0 → AllWell edition rows pool code
+    at unknown k r = absurd (omega arith)
+    at (known e) k r = by-code e k (canAsk code) refl r
+
+-- .. and then it is the procedure's row, and the row count
+pub all-well : (edition : ℕ) (rows pool : List ℕ) (code : ℕ) → AllWell edition rows pool code → presentAnswer edition rows pool code ≡ reply 0 (present code (ranksOf rows)) (roomOf rows)
+unfolding presentAnswer
+all-well edition rows pool code w = ap (presentUnder rows pool code) (w .label) ∙ ap (λ (b : Bool). pick b (answeredBy rows code (checked (w .told) rows pool)) (reply 17 0 0)) (w .asked) ∙ ap (answeredBy rows code) (w .check)
