@@ -64,15 +64,26 @@ static uint32_t any_code(struct source *source)
     return random_once_in(source, 6) ? 0x1e + (uint32_t)random_below(source, 5) : (uint32_t)random_below(source, 15);
 }
 
-/* A parameter of the table, with all its rows, is put in once more: at its envelope's end, or at the end of one behind it. Opened lists are
-   put in without what they hold one time in three: an empty value. Answers the new row count. */
+/* Whether a row is a parameter's first, and no representation's or date's, which may be the head's: such a row may stand before any other. */
+static int opens_parameter(const uint32_t *row)
+{
+    return row[LEVEL] == 0 && row[KIND] > 7 && row[KIND] != 20 && row[KIND] != 21 && row[KIND] != 26 && row[KIND] != 28;
+}
+
+/* A parameter of the table, with all its rows, is put in once more: before another parameter of any envelope, or at an envelope's end. Lists are put
+   in without what they hold one time in three: an empty value. Answers the new row count, or 0 where there is no such parameter. */
 static size_t repeat_parameter(struct source *source, const uint32_t *table, size_t rows)
 {
     size_t row = random_below(source, rows);
-    const uint32_t *at = table + row * ROW_NUMBERS;
-    size_t from = at[LEVEL] == 0 && at[KIND] > 7 && at[KIND] != 20 && at[KIND] != 21 && at[KIND] != 26 && at[KIND] != 28 ? row : rows;
-    if (from == rows || rows * 2 > MOST_ROWS)
+    size_t last = row;
+    if (rows * 2 > MOST_ROWS)
         return 0;
+    while (!opens_parameter(table + row * ROW_NUMBERS)) {
+        row = (row + 1) % rows;
+        if (row == last)
+            return 0;
+    }
+    const uint32_t *at = table + row * ROW_NUMBERS;
     size_t many = at[SKIP] - row;
     int is_list = at[KIND] == 12 || at[KIND] == 14 || at[KIND] == 25;
     if (is_list && random_once_in(source, 3))

@@ -1,6 +1,6 @@
 -- Order 1: the procedure of section 2.2, read at one code, gives the first row that opens or holds a value, where the first row is an envelope's, so
 -- that every row behind it belongs to an envelope. By what each part of the procedure adds to the value that is there.
-use Prim.Native.Nat.{ℕ, suc, _+_, _≤_, _<_}
+use Prim.Native.Nat.{ℕ, suc, _+_, _≤_}
 use mathlib.Core.List.{List, [], _∷_}
 use mathlib.Core.Bool.{Bool, true, false, _&&_, _||_}
 use mathlib.Core.Logic.{inl, inr}
@@ -8,14 +8,14 @@ use mathlib.Core.Path.{_≡_, refl, ap, sym, _∙_}
 use native.Mathlib.Omega.{arith}
 use lib.Dec.{eqb, ltb}
 use lib.ListN.{length, take}
-use borrow.Author.Tests.{eqb-true, eqb-false, ne-eqb, ltb-true, ltb-false, lt-ltb}
+use borrow.Author.Tests.{eqb-true, eqb-false, ne-eqb, ltb-true, ltb-false}
 use Rattle.meaning.specs.Basics.{pick}
 use Rattle.meaning.specs.Editions.{closing}
 use Rattle.meaning.specs.Kinds.{agentName}
 use Rattle.meaning.specs.Skips.{Rank, isEnvelope, belongs, belonging}
 use Rattle.meaning.specs.Codes.{codeOf, hasValue}
 use Rattle.meaning.specs.Present.{Value, noValue, atRow, AllParameters, emptyEnvelope, valueIn, unless, copyAll, nextEnvelope, allEnvelopes, rowOr, present}
-use Rattle.laws.specs.Nesting.{Belongs, belongs-how, deeper-belongs, beside-belongs, belonging-on, belonging-ends, belonging-none}
+use Rattle.laws.specs.Nesting.{false-not, Belongs, belongs-how, deeper-belongs, beside-belongs, belonging-on, belonging-ends, belonging-none}
 use Rattle.laws.specs.Firsts.{firstFrom}
 
 -- Values
@@ -84,16 +84,13 @@ pub data Standing : List Rank → Type 0 where
   none-left : Standing []
   one-more : {r : Rank} {rest : List Rank} → StandsWell r → Standing rest → Standing (r ∷ rest)
 
-not-true : {A : Type 0} → false ≡ true → A
-not-true q = let z : _≡_ {A = ℕ} 0 1 = cc q in absurd (omega arith)
-
-envelope-kind : (k : ℕ) → isEnvelope k ≡ true → (1 ≤ k) × (k ≤ 2)
+pub envelope-kind : (k : ℕ) → isEnvelope k ≡ true → (1 ≤ k) × (k ≤ 2)
 envelope-kind k h = at (eqb k 1) (eqb k 2) refl refl h
   where
     at : (x y : Bool) → eqb k 1 ≡ x → eqb k 2 ≡ y → x || y ≡ true → (1 ≤ k) × (k ≤ 2)
     at true y p q z = let e = eqb-true k 1 p in (omega arith, omega arith)
     at false true p q z = let e = eqb-true k 2 q in (omega arith, omega arith)
-    at false false p q z = not-true z
+    at false false p q z = false-not z
 
 kind-envelope : (k : ℕ) → 1 ≤ k → k ≤ 2 → isEnvelope k ≡ true
 kind-envelope k l h = at (eqb k 1) (eqb k 2) refl refl
@@ -124,8 +121,8 @@ module _ (r s : Rank) (h : isEnvelope (r .kind) ≡ true) (l : r .level ≡ 0) w
   next-opens k q = at (eqb (s .level) 0) (ltb 2 (s .kind)) refl refl
     where
       at : (x y : Bool) → eqb (s .level) 0 ≡ x → ltb 2 (s .kind) ≡ y → isEnvelope (s .kind) ≡ true
-      at false y p z = let n = eqb-false (s .level) 0 p in not-true (sym q ∙ deeper-belongs r s (rw h refl) (omega arith))
-      at true true p z = not-true (sym q ∙ beside-belongs r s (eqb-true (s .level) 0 p ∙ sym l) (rw h z))
+      at false y p z = let n = eqb-false (s .level) 0 p in false-not (sym q ∙ deeper-belongs r s (rw h refl) (omega arith))
+      at true true p z = false-not (sym q ∙ beside-belongs r s (eqb-true (s .level) 0 p ∙ sym l) (rw h z))
       at true false p z = let m = ltb-false 2 (s .kind) z in kind-envelope (s .kind) k (omega arith)
 
   -- and what belongs to it is none

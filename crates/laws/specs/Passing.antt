@@ -1,24 +1,20 @@
 -- Orders 1 and 8: what a walk by skip numbers passes over. A row that is no envelope's has no value among its rows, so a hop over it passes none.
-use Prim.Native.Nat.{ℕ, zero, suc, _+_, _-_, _*_, _≤_, _<_}
+use Prim.Native.Nat.{ℕ, zero, suc, _+_, _-_, _≤_, _<_}
 use mathlib.Core.List.{List, [], _∷_}
 use mathlib.Core.Bool.{Bool, true, false, _&&_}
 use mathlib.Core.Logic.{inl, inr}
 use mathlib.Core.Path.{_≡_, refl, ap, sym, _∙_}
 use native.Mathlib.Omega.{arith}
 use lib.Dec.{eqb, ltb}
-use lib.ListN.{length, drop}
+use lib.ListN.{drop}
 use borrow.Author.Tests.{eqb-true, eqb-false, ne-eqb, ltb-true, ltb-false}
-use Rattle.meaning.specs.Basics.{pick}
 use Rattle.meaning.specs.Editions.{closing}
 use Rattle.meaning.specs.Kinds.{agentName}
-use Rattle.meaning.specs.Skips.{Rank, isEnvelope, beside, belongs, belonging}
+use Rattle.meaning.specs.Skips.{Rank, isEnvelope, belongs, belonging}
 use Rattle.meaning.specs.Codes.{codeOf, hasValue}
-use Rattle.laws.specs.Nesting.{by-beside, value-is, Belongs, belongs-how, belonging-on, belonging-ends, belonging-none, belonging-most}
+use Rattle.laws.specs.Nesting.{by-beside, false-not, value-is, Belongs, belongs-how, belonging-on, belonging-ends, belonging-none, belonging-most}
 use Rattle.laws.specs.Firsts.{firstFrom}
 use Rattle.laws.specs.Hopping.{rankAt, ranksAt, ranksFor, ranks-length, ranks-next, ranks-drop, skipAt}
-
-not-true : {A : Type 0} → false ≡ true → A
-not-true q = let z : _≡_ {A = ℕ} 0 1 = cc q in absurd (omega arith)
 
 -- Rows without a value
 
@@ -42,10 +38,10 @@ module _ (code : ℕ) (n : code ≡ closing → ⊥) (s : Rank) where
       at : Belongs r s → hasValue code s ≡ false
       at (inl (h, l)) = deep-none (omega arith)
       at (inr (l, b)) =
-          by-beside (λ f. f (s .kind) ≡ true → hasValue code s ≡ false) (r .kind) (λ z i. not-true (sym e ∙ ap isEnvelope z)) (λ z i. not-true (sym e ∙ ap isEnvelope z))
+          by-beside (λ f. f (s .kind) ≡ true → hasValue code s ≡ false) (r .kind) (λ z i. false-not (sym e ∙ ap isEnvelope z)) (λ z i. false-not (sym e ∙ ap isEnvelope z))
           (λ z i. let d = a z in deep-none (omega arith)) (λ z i. kind-none 17 refl (eqb-true (s .kind) 17 i))
           (λ z i. value-is (s .kind) i (λ x. kind-none 20 refl x) (λ x. kind-none 21 refl x)) (λ z i. value-is (s .kind) i (λ x. kind-none 20 refl x) (λ x. kind-none 21 refl x))
-          (λ z i. kind-none 26 refl (eqb-true (s .kind) 26 i)) (λ z i. kind-none 28 refl (eqb-true (s .kind) 28 i)) (λ i. not-true i) b
+          (λ z i. kind-none 26 refl (eqb-true (s .kind) 26 i)) (λ z i. kind-none 28 refl (eqb-true (s .kind) 28 i)) (λ i. false-not i) b
 
 -- The first value by a row and the rows behind it
 

@@ -13,25 +13,22 @@ use Rattle.meaning.specs.Basics.{pick}
 use Rattle.meaning.specs.Told.{Edition, B, D, Label, known, unknown, labelOf}
 use Rattle.meaning.specs.Editions.{closing}
 use Rattle.meaning.specs.Kinds.{agentName}
-use Rattle.meaning.specs.Reading.{Row}
-use Rattle.meaning.specs.Skips.{Rank, isEnvelope, Skips, right, wrongAt}
+use Rattle.meaning.specs.Skips.{Rank, Skips, right, wrongAt}
 use Rattle.meaning.specs.Codes.{codeOf, hasValue, canAsk}
-use Rattle.meaning.specs.Headers.{Placed, accepted, read, envelopesMost}
-use Rattle.meaning.specs.Writing.{Cell, cell, Envelope, Plan, stuck, plan, wholePlan, headerOf, Limit, fine, exceeds, limits, Written, written, unwritten, roomed, limited, planned, writeRows, writtenUnder}
-use Rattle.meaning.specs.Memory.{Reply, reply, ranksOf, cellsOf, skipsOf, skipsHeld, roomOf, tableOf, write}
-use Rattle.meaning.specs.Present.{present, Check, passed, stopped, checkOf, checked, answeredBy, presentUnder, presentAnswer}
+use Rattle.meaning.specs.Headers.{envelopesMost}
+use Rattle.meaning.specs.Writing.{Cell, Envelope, Plan, stuck, plan, wholePlan, headerOf, Limit, fine, exceeds, limits, Written, written, unwritten, limited, planned, writeRows, writtenUnder}
+use Rattle.meaning.specs.Memory.{reply, ranksOf, cellsOf, skipsHeld, roomOf, tableOf, write}
+use Rattle.meaning.specs.Present.{present, Judgement, passed, stopped, checkOf, checked, answeredBy, presentUnder, presentAnswer}
 use Rattle.laws.specs.Logic.{areBytes, both-hold}
 use Rattle.laws.specs.Firsts.{firstFrom}
-use Rattle.laws.specs.Filling.{Standing, none-left, one-more, StandsWell, first-stands}
+use Rattle.laws.specs.Filling.{Standing, one-more, first-stands}
 use Rattle.laws.specs.Standing.{Opened, opened, table-stands}
-use Rattle.laws.specs.Hopping.{rankAt, ranksAt, ranksFor, ranks-are, AllRight}
+use Rattle.laws.specs.Hopping.{rankAt, ranksFor, ranks-are, AllRight}
 use Rattle.laws.specs.Passing.{firstAt, FirstIs, first-is}
-use Rattle.laws.specs.Rows.{rows-whole}
 use Rattle.laws.specs.RightSkips.{standing, cells-ranks, right-means, table-right}
-use Rattle.laws.specs.Envelopes.{Writes}
 use Rattle.laws.specs.Plans.{written-writes}
 use Rattle.laws.specs.PlainRows.{other}
-use Rattle.laws.specs.Ties.{numberOf, SameMeaning, plainTable, write-known, write-as, written-right}
+use Rattle.laws.specs.Ties.{numberOf, plainTable, write-known, written-right}
 use Rattle.laws.specs.Demands.{ReadsSame, RefusedSevenOrNine, label-cannot-lie, read-then-written, written-are-bytes-of}
 
 absurd-check : {A : Type 0} {r p : ℕ} → stopped r p ≡ passed → A
@@ -73,13 +70,13 @@ passed-written e rows pool q = passed-plan (skipsHeld rows) (wholePlan e (cellsO
 -- What a table that passes is
 
 -- its skip numbers are right, and its rows stand as a table's do
-pub record Sound (rows : List ℕ) : Type 0 where
+pub record Walkable (rows : List ℕ) : Type 0 where
   pub hops : AllRight rows (roomOf rows) 0
   pub stands : Standing (ranksOf rows)
   pub opens : Opened (ranksOf rows)
 
-pub passed-sound : (e : Edition) (rows pool : List ℕ) → checked e rows pool ≡ passed → Sound rows
-passed-sound e rows pool q =
+pub passed-walkable : (e : Edition) (rows pool : List ℕ) → checked e rows pool ≡ passed → Walkable rows
+passed-walkable e rows pool q =
     let (bytes, w) = passed-written e rows pool q in
     let (table, n, c, t, few, room-is) = written-writes e (length bytes) (cellsOf pool rows) (skipsHeld rows) bytes w in
     let (s, o) = table-stands e t in
@@ -95,7 +92,7 @@ agents-from m i (suc k) (one-more w t) j l h q = at (eqb j i) refl (λ u. agents
     at true p more = let e = eqb-true j i p in rw e (w .agent-in (rw e at q))
     at false p more = let n = eqb-false j i p in more (omega arith)
 
-pub agents-deep : (rows : List ℕ) → Sound rows → (j : ℕ) → j < roomOf rows → rankAt rows j .kind ≡ agentName → 1 ≤ rankAt rows j .level
+pub agents-deep : (rows : List ℕ) → Walkable rows → (j : ℕ) → j < roomOf rows → rankAt rows j .kind ≡ agentName → 1 ≤ rankAt rows j .level
 agents-deep rows s j h q = agents-from rows 0 (roomOf rows - 0) (subst Standing (ranks-are rows) (s .stands)) j (omega arith) (omega arith) q
 
 -- Codes that can be asked for
@@ -105,7 +102,7 @@ can-ask-open code q e = let z : canAsk closing ≡ true = ap canAsk (sym e) ∙ 
 
 -- "the first value found stands": the procedure's answer is the first row that has a value
 pub present-first : (e : Edition) (rows pool : List ℕ) (code : ℕ) → checked e rows pool ≡ passed → canAsk code ≡ true → present code (ranksOf rows) ≡ firstFrom code 0 (ranksOf rows)
-present-first e rows pool code q a = let s = passed-sound e rows pool q in at (ranksOf rows) (s .stands) (s .opens)
+present-first e rows pool code q a = let s = passed-walkable e rows pool q in at (ranksOf rows) (s .stands) (s .opens)
   where
     at : (rs : List Rank) → Standing rs → Opened rs → present code rs ≡ firstFrom code 0 rs
     at (r ∷ rest) t (opened h) = first-stands code r rest (can-ask-open code a) h t
@@ -126,7 +123,7 @@ has-kind code r h = let (l, k) = both-hold (eqb (r .level) 0) (eqb (codeOf (r .k
 -- The entry's answer, by the writer's
 
 module _ (edition : ℕ) (rows pool : List ℕ) (code room : ℕ) where
-  under : (l : Label) → canAsk code ≡ true → (c : Check) → checkOf (writtenUnder room (cellsOf pool rows) (skipsHeld rows) l) ≡ c → (l ≡ unknown → answeredBy rows code c ≡ reply 1 0 0) → presentUnder rows pool code l ≡ answeredBy rows code c
+  under : (l : Label) → canAsk code ≡ true → (c : Judgement) → checkOf (writtenUnder room (cellsOf pool rows) (skipsHeld rows) l) ≡ c → (l ≡ unknown → answeredBy rows code c ≡ reply 1 0 0) → presentUnder rows pool code l ≡ answeredBy rows code c
   under unknown a c q f = sym (f refl)
   under (known e) a c q f = (rw a refl) ∙ ap (answeredBy rows code) (sym (check-is e rows pool room) ∙ q)
 
@@ -186,7 +183,7 @@ unfolding presentAnswer
 same-under-other e rows pool code t p q =
     let a = answeredBy rows code in
     let one : (f : Edition) → checked f rows pool ≡ passed → presentUnder rows pool code (labelOf (numberOf f)) ≡ pick (canAsk code) (a passed) (reply 17 0 0)
-    = λ f z. ap (presentUnder rows pool code) (label-number f) ∙ ap (λ (c : Check). pick (canAsk code) (a c) (reply 17 0 0)) z in
+    = λ f z. ap (presentUnder rows pool code) (label-number f) ∙ ap (λ (c : Judgement). pick (canAsk code) (a c) (reply 17 0 0)) z in
     one (other e) (other-passes e rows pool t p q) ∙ sym (one e q)
 
 -- An answer of 0 says that all was well
@@ -214,7 +211,7 @@ pub zero-means : (edition : ℕ) (rows pool : List ℕ) (code : ℕ) → present
 unfolding presentAnswer
 zero-means edition rows pool code z = at (labelOf edition) refl z
   where
-    by-check : (e : Edition) → labelOf edition ≡ known e → canAsk code ≡ true → (c : Check) → checked e rows pool ≡ c → answeredBy rows code c .answer ≡ 0 → AllWell edition rows pool code
+    by-check : (e : Edition) → labelOf edition ≡ known e → canAsk code ≡ true → (c : Judgement) → checked e rows pool ≡ c → answeredBy rows code c .answer ≡ 0 → AllWell edition rows pool code
     by-check e k a passed q r = record { told = e; label = k; asked = a; check = q }
     by-check e k a (stopped refusal place) q r = absurd (never-zero e rows pool refusal place q r)
 

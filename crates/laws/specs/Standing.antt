@@ -1,14 +1,13 @@
 -- How the rows of a table stand: its first is an envelope's, envelopes stand at level 0, and agents deeper. By one computed test of the rooms of agents:
 -- they are entered one level down, and left for others.
-use Prim.Native.Nat.{ℕ, zero, suc, _+_, _≤_, _<_}
+use Prim.Native.Nat.{ℕ, zero, suc, _≤_}
 use mathlib.Core.List.{List, [], _∷_, _++_, append-nil, map}
 use mathlib.Core.Bool.{Bool, true, false, _&&_, _||_, not}
 use mathlib.Core.Logic.{_⊎_, inl, inr}
-use mathlib.Core.Path.{_≡_, refl, ap, sym, _∙_, subst}
+use mathlib.Core.Path.{_≡_, refl, _∙_, subst}
 use native.Mathlib.Omega.{arith}
 use lib.Dec.{T, eqb, leb}
-use lib.ListN.{length}
-use borrow.Author.Tests.{eqb-true, eqb-false, eq-eqb}
+use borrow.Author.Tests.{eq-eqb}
 use Rattle.meaning.specs.Basics.{pick, every}
 use Rattle.meaning.specs.Kinds.{agentName}
 use Rattle.meaning.specs.Told.{Edition}
@@ -24,7 +23,7 @@ use Rattle.laws.specs.WrittenRead.{fitAll, then-inv}
 use Rattle.laws.specs.Envelopes.{openingRow, Writes, the-base, before}
 use Rattle.laws.specs.Plans.{inner-kind}
 use Rattle.laws.specs.RightSkips.{standing}
-use Rattle.laws.specs.Filling.{StandsWell, Standing, none-left, one-more}
+use Rattle.laws.specs.Filling.{envelope-kind, StandsWell, Standing, none-left, one-more}
 
 -- Agents
 
@@ -109,12 +108,7 @@ opening-stands true = record { some-kind = omega arith; envelope-out = λ q. ref
 opening-stands false = record { some-kind = omega arith; envelope-out = λ q. refl; agent-in = λ q. absurd (omega arith) }
 
 no-envelope : (k : ℕ) → 3 ≤ k → isEnvelope k ≡ true → ⊥
-no-envelope k h q = at (eqb k 1) (eqb k 2) refl refl q
-  where
-    at : (x y : Bool) → eqb k 1 ≡ x → eqb k 2 ≡ y → x || y ≡ true → ⊥
-    at true y p r z = let u = eqb-true k 1 p in omega arith
-    at false true p r z = let u = eqb-true k 2 r in omega arith
-    at false false p r z = let u : _≡_ {A = ℕ} 0 1 = cc z in omega arith
+no-envelope k h q = let (l, m) = envelope-kind k q in omega arith
 
 inner-stand : (e : Edition) (rows table : List Row) (st st′ : State) (bs : List ℕ) → fitAll e rows st ≡ fits st′ bs → Deep st → Standing (map standing table) → Standing (map standing (rows ++ table))
 unfolding fitAll

@@ -69,21 +69,21 @@ unfoldable pub present : ℕ → List Rank → ℕ
 present code rows = rowOr (length rows) (allEnvelopes 0 rows emptyEnvelope code)
 
 -- what the writer makes of rows, its output aside
-pub data Check : Type 0 where
-  passed : Check
-  stopped : ℕ → ℕ → Check
+pub data Judgement : Type 0 where
+  passed : Judgement
+  stopped : ℕ → ℕ → Judgement
 
 -- "then 15 and 5 as the writer gives them"; 16 is no fault of the rows
-abbrev pub checkOf : Written → Check
+abbrev pub checkOf : Written → Judgement
 checkOf (written bytes) = passed
 checkOf (unwritten refusal place) = pick (eqb refusal 16) passed (stopped refusal place)
 
 -- .. with no output lent
-unfoldable pub checked : Edition → List ℕ → List ℕ → Check
+unfoldable pub checked : Edition → List ℕ → List ℕ → Judgement
 checked e rows pool = checkOf (writeRows e 0 (cellsOf pool rows) (skipsHeld rows))
 
 -- accepted: 0, the row, the row count
-abbrev pub answeredBy : List ℕ → ℕ → Check → Reply
+abbrev pub answeredBy : List ℕ → ℕ → Judgement → Reply
 answeredBy rows code passed = reply 0 (present code (ranksOf rows)) (roomOf rows)
 answeredBy rows code (stopped refusal place) = reply refusal place 0
 

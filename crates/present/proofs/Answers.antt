@@ -2,14 +2,14 @@
 use Prim.Native.Nat.{ℕ}
 use mathlib.Core.List.{List}
 use mathlib.Core.Bool.{Bool, true, false}
-use mathlib.Core.Path.{_≡_, refl, ap, sym, _∙_}
+use mathlib.Core.Path.{_≡_, ap, sym, _∙_}
 use Rattle.meaning.specs.Basics.{pick}
 use Rattle.meaning.specs.Told.{Edition, known, unknown, labelOf}
 use Rattle.meaning.specs.Codes.{canAsk}
-use Rattle.meaning.specs.Memory.{Reply, reply, ranksOf, roomOf}
-use Rattle.meaning.specs.Present.{present, passed, checked, answeredBy, presentUnder, presentAnswer}
+use Rattle.meaning.specs.Memory.{Reply, reply, roomOf}
+use Rattle.meaning.specs.Present.{passed, checked, answeredBy, presentUnder, presentAnswer}
 use Rattle.laws.specs.Passing.{firstAt}
-use Rattle.laws.specs.Presence.{Sound, passed-sound, present-at}
+use Rattle.laws.specs.Presence.{Walkable, passed-walkable, present-at}
 use Rattle.table.specs.declared.reply.Reply as declared
 use Rattle.table.specs.Reply.{replyOf}
 use Rattle.write_envelopes.specs.declared.measure.Checked.{Checked}
@@ -25,8 +25,8 @@ module _ (edition : Edition) (rows pool : List ℕ) (code : ℕ) {r : Checked} (
     passes : checked edition rows pool ≡ passed
     passes = sym k ∙ ap checkIs q
 
-    pub sound : Sound rows
-    sound = passed-sound edition rows pool passes
+    pub walkable : Walkable rows
+    walkable = passed-walkable edition rows pool passes
 
     pub answers : {first n : ℕ} → canAsk code ≡ true → first ≡ firstAt code rows (roomOf rows) 0 → n ≡ roomOf rows → reply 0 first n ≡ answeredBy rows code (checked edition rows pool)
     answers {first} {n} a f c = ap (reply 0 first) c ∙ ap (λ (x : ℕ). reply 0 x (roomOf rows)) (f ∙ sym (present-at edition rows pool code passes a)) ∙ ap (answeredBy rows code) (sym passes)

@@ -2,7 +2,7 @@
 use Prim.Native.Nat.{ℕ, _+_, _-_, _*_, _≤_, _<_}
 use mathlib.Core.List.{List}
 use mathlib.Core.Bool.{Bool, true, false, _&&_}
-use mathlib.Core.Path.{_≡_, refl, ap, sym, _∙_, subst}
+use mathlib.Core.Path.{_≡_, refl, ap, sym, _∙_}
 use native.Mathlib.Omega.{arith}
 use lib.Dec.{eqb}
 use lib.ListN.{getD}
@@ -14,7 +14,7 @@ use Rattle.meaning.specs.Codes.{codeOf, hasValue, canAsk}
 use Rattle.meaning.specs.Memory.{rowWidth, roomOf}
 use Rattle.laws.specs.Hopping.{rankAt, givenAt, skipAt, skip-forward, skip-most}
 use Rattle.laws.specs.Passing.{firstAt, first-ends, first-found, first-steps, first-hops}
-use Rattle.laws.specs.Presence.{Sound, agents-deep, can-ask-open}
+use Rattle.laws.specs.Presence.{Walkable, agents-deep, can-ask-open}
 use Rattle.present.specs.Promise.{nextLooked}
 
 -- the first value of all rows is the first from row i on
@@ -37,7 +37,7 @@ module _ (rows : List ℕ) (code : ℕ) {n : ℕ} (room : n ≡ roomOf rows) whe
     pub found : b ≡ true → i ≡ firstAt code rows (roomOf rows) 0
     found t = sym (first-found code rows n i h (sym v ∙ t)) ∙ sym (l .same) ∙ all-rows
 
-    module _ (s : Sound rows) where
+    module _ (s : Walkable rows) where
       right : givenAt rows i ≡ skipAt rows n i
       right = s .hops i (omega arith) (omega arith) ∙ ap (λ (x : ℕ). skipAt rows x i) (sym room)
 

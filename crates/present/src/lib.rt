@@ -24,7 +24,7 @@ ghost use Rattle.meaning.specs.Memory.{roomOf};
 ghost use Rattle.meaning.specs.Present.{answeredBy, checked};
 ghost use Rattle.laws.specs.Hopping.{rankAt};
 ghost use Rattle.laws.specs.Passing.{firstAt};
-ghost use Rattle.laws.specs.Presence.{Sound};
+ghost use Rattle.laws.specs.Presence.{Walkable};
 ghost use Rattle.table.specs.Reply.{replyOf};
 ghost use Rattle.table.specs.Told.{editionOf};
 ghost use Rattle.present.specs.Promise.{PresentPromise, nextLooked};
@@ -64,7 +64,7 @@ fn present_in(edition: Edition, rows: &[u32], pool: &[u8], code: u32) -> Reply
 // Takes the rows of a table. Answers the first that opens or holds a value with this code, or the row count: into each envelope, and from any other row
 // to its skip number, since what belongs to it has no value.
 fn first_value(rows: &[u32], code: u32) -> usize
-    requires { ⌜ Sound (now rows) × (canAsk code ≡ true) ⌝ }
+    requires { ⌜ Walkable (now rows) × (canAsk code ≡ true) ⌝ }
     ensures { λ r. ⌜ r ≡ firstAt code (now (rows .entry)) (roomOf (now (rows .entry))) 0 ⌝ }
 {
     let n = room(rows.len());

@@ -9,7 +9,7 @@ use Rattle.write_envelopes.specs.Whole.{Verdict, bad, needs, verdict, checkedOf
 use Rattle.write_envelopes.specs.declared.measure.Checked.{Checked}
 use Rattle.write_envelopes.specs.declared.measure.Checked.the-variants.{Bad, Needs}
 use Rattle.meaning.specs.Memory.{roomOf, writeReply, writeMemory, writeAnswer, writeOutput}
-use Rattle.meaning.specs.Present.{Check, passed, stopped}
+use Rattle.meaning.specs.Present.{Judgement, passed, stopped}
 use Rattle.table.specs.declared.reply.Reply.{Reply}
 use Rattle.table.specs.Reply.{replyOf}
 
@@ -39,6 +39,6 @@ pub record SkipsChecked (p : Plan) (skips : Skips) (r : Checked) (lengths : List
   pub noted : (t : ℕ) → skipsVerdict skips p ≡ needs t → (verdict envelopesMost 0 fine p ≡ needs t) × Begins (insidesOf p) lengths
 
 -- what each case of the check says, where no output is lent
-abbrev pub checkIs : Checked → Check
+abbrev pub checkIs : Checked → Judgement
 checkIs (Bad answer place) = stopped answer place
 checkIs (Needs many) = passed

@@ -1,6 +1,6 @@
 -- `present_in`: what the check refuses, else the walk's row.
 use Rattle.table.specs.Told.{editionOf}
-use Rattle.present.proofs.Answers.{answers, refuses, sound}
+use Rattle.present.proofs.Answers.{answers, refuses, walkable}
 use borrow.Author.Needs.{needs}
 use Rattle.present.proofs.present_in.Statement.{statement}
 use Rattle.present.proofs.present_in.Tie as tie
@@ -20,7 +20,7 @@ enum-told c = search needs
 first-value-requires : tie.Need-first-value-requires
 first-value-requires c κs =
     let s = c .before .before .before .before .before in
-    (sound (editionOf (s .args .edition)) (s .args .rows .now) (s .args .pool .now) (s .args .code) (c .before .before .check-rows .ensures) (c .enum-told .given .1), s .pre)
+    (walkable (editionOf (s .args .edition)) (s .args .rows .now) (s .args .pool .now) (s .args .code) (c .before .before .check-rows .ensures) (c .enum-told .given .1), s .pre)
 
 room-requires : tie.Need-room-requires
 room-requires c κs = search needs
