@@ -22,7 +22,7 @@ use Rattle.laws.specs.PlainRows.{other}
 use Rattle.laws.specs.Ties.{numberOf, plainTable}
 use Rattle.laws.specs.Hopping.{rankAt}
 use Rattle.laws.specs.Passing.{FirstIs}
-use Rattle.laws.specs.Presence.{AllWell, zero-means, all-well, present-is, has-kind, refused-as-written, found-as-written, found-without-room, no-such-code, same-under-other}
+use Rattle.laws.specs.PresentValues.{AllWell, zero-means, all-well, present-is, has-kind, refused-as-written, found-as-written, found-without-room, no-such-code, same-under-other}
 use Rattle.table.specs.declared.reply.Reply as declared
 use Rattle.writer.specs.Promise.{WritePromise}
 use Rattle.present.specs.Promise.{PresentPromise}

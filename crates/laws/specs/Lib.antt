@@ -47,7 +47,7 @@ pub mod Standing
 pub mod Ties
 pub mod Walks
 pub mod Demands
-pub mod Presence
+pub mod PresentValues
 pub mod Tolerant
 pub mod Notes
 pub mod Days

@@ -14,7 +14,7 @@ use Rattle.meaning.specs.Codes.{codeOf, hasValue, canAsk}
 use Rattle.meaning.specs.Memory.{rowWidth, roomOf}
 use Rattle.laws.specs.Hopping.{rankAt, givenAt, skipAt, skip-forward, skip-most}
 use Rattle.laws.specs.Passing.{firstAt, first-ends, first-found, first-steps, first-hops}
-use Rattle.laws.specs.Presence.{Walkable, agents-deep, can-ask-open}
+use Rattle.laws.specs.PresentValues.{Walkable, agents-deep, can-ask-open}
 use Rattle.present.specs.Promise.{nextLooked}
 
 -- the first value of all rows is the first from row i on

@@ -24,7 +24,7 @@ ghost use Rattle.meaning.specs.Memory.{roomOf};
 ghost use Rattle.meaning.specs.Present.{answeredBy, checked};
 ghost use Rattle.laws.specs.Hopping.{rankAt};
 ghost use Rattle.laws.specs.Passing.{firstAt};
-ghost use Rattle.laws.specs.Presence.{Walkable};
+ghost use Rattle.laws.specs.PresentValues.{Walkable};
 ghost use Rattle.table.specs.Reply.{replyOf};
 ghost use Rattle.table.specs.Told.{editionOf};
 ghost use Rattle.present.specs.Promise.{PresentPromise, nextLooked};
