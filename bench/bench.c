@@ -3,7 +3,7 @@
                                        both programs checked
      bench once INPUT PROGRAM CALL     the call once for each header of the input, for whoever counts instructions from outside
      bench time INPUT CALL             nanoseconds of the processor for a header, the archive's and the second program's
-   PROGRAM is archive or second, CALL is read or write. Whatever is measured is checked: every call must be accepted, and rows
+   PROGRAM is archive or second, CALL is read, write or present (of code 06, which stands behind every list, or nowhere). Whatever is measured is checked: every call must be accepted, and rows
    and bytes must be the other program's. */
 #define _POSIX_C_SOURCE 200809L
 
@@ -21,15 +21,18 @@ enum { EDITION = GAMULISYAN_EDITION_D, ROW = GAMULISYAN_ROW_NUMBERS, MOST_NUMBER
 /* Nanoseconds: of one batch, and of all of them. */
 enum { BATCH = 1000000, LONG_ENOUGH = 2000000000 };
 
-enum call { READ, WRITE };
+enum call { READ, WRITE, PRESENT };
 
 typedef struct second_reply reading(uint32_t, const uint8_t *, size_t, uint32_t *, size_t, uint32_t *, size_t);
 typedef struct second_reply writing(uint32_t, const uint32_t *, size_t, const uint8_t *, size_t, uint8_t *, size_t);
+
+typedef struct second_reply presenting(uint32_t, const uint32_t *, size_t, const uint8_t *, size_t, uint32_t);
 
 struct program {
     const char *name;
     reading *read;
     writing *write;
+    presenting *present;
 };
 
 /* The rows of header n lie from places[n] up to places[n + 1]. */
@@ -59,8 +62,14 @@ static struct second_reply archive_write(uint32_t edition, const uint32_t *rows,
     return (struct second_reply){written.answer, written.place, written.rows};
 }
 
-static const struct program archive = {"archive", archive_read, archive_write};
-static const struct program second = {"second", second_read, second_write};
+static struct second_reply archive_present(uint32_t edition, const uint32_t *rows, size_t numbers, const uint8_t *pool, size_t pool_length, uint32_t code)
+{
+    struct gamulisyan_answer present = gamulisyan_present(edition, rows, numbers, pool, pool_length, code);
+    return (struct second_reply){present.answer, present.place, present.rows};
+}
+
+static const struct program archive = {"archive", archive_read, archive_write, archive_present};
+static const struct program second = {"second", second_read, second_write, second_present};
 
 static const uint8_t *header_at(size_t number)
 {
@@ -99,6 +108,11 @@ static struct second_reply write_one(const struct program *program, size_t numbe
 {
     return program->write(EDITION, table_at(number), table_length(number), header_at(number), header_length(number), lent_output,
                           header_length(number));
+}
+
+static struct second_reply present_one(const struct program *program, size_t number)
+{
+    return program->present(EDITION, table_at(number), table_length(number), header_at(number), header_length(number), GAMULISYAN_PARAMETER_PAYLOAD_LENGTH);
 }
 
 static int is_whole(struct second_reply reply, size_t number)
@@ -140,12 +154,23 @@ static void check_writing(const struct program *program)
     }
 }
 
+static void check_presenting(const struct program *program, const struct program *other)
+{
+    for (size_t number = 0; number < headers.count; number++) {
+        struct second_reply got = present_one(program, number);
+        struct second_reply has = present_one(other, number);
+        require(got.answer == GAMULISYAN_ACCEPTED && got.rows * ROW == table_length(number) && has.answer == got.answer && has.place == got.place,
+                program->name, "present", number);
+    }
+}
+
 static void check_both(void)
 {
     fill_tables(&archive);
     check_reading(&second);
     check_writing(&archive);
     check_writing(&second);
+    check_presenting(&archive, &second);
 }
 
 static void print_names(void)
@@ -164,8 +189,10 @@ static void call_all(const struct program *program, enum call call)
     for (size_t number = 0; number < headers.count; number++)
         if (call == READ)
             read_one(program, number);
-        else
+        else if (call == WRITE)
             write_one(program, number);
+        else
+            present_one(program, number);
 }
 
 /* Nanoseconds of the processor for that many times over the whole input. */
@@ -206,18 +233,21 @@ static void print_times(enum call call)
 
 static enum call call_named(const char *name)
 {
-    return strcmp(name, "read") == 0 ? READ : WRITE;
+    return strcmp(name, "read") == 0 ? READ : strcmp(name, "write") == 0 ? WRITE : PRESENT;
 }
 
 static void call_once(const char *name, enum call call)
 {
     int of_archive = strcmp(name, "archive") == 0;
     const struct program *program = of_archive ? &archive : &second;
-    fill_tables(of_archive ? &second : &archive);
+    const struct program *other = of_archive ? &second : &archive;
+    fill_tables(other);
     if (call == READ)
         check_reading(program);
-    else
+    else if (call == WRITE)
         check_writing(program);
+    else
+        check_presenting(program, other);
 }
 
 int main(int count, char **arguments)

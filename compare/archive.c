@@ -32,6 +32,11 @@ struct second_reply archive_write(uint32_t edition, const uint32_t *rows, size_t
     return reply_of(gamulisyan_write(edition, rows, rows_length, pool, pool_length, output, output_length));
 }
 
+struct second_reply archive_present(uint32_t edition, const uint32_t *rows, size_t rows_length, const uint8_t *pool, size_t pool_length, uint32_t code)
+{
+    return reply_of(gamulisyan_present(edition, rows, rows_length, pool, pool_length, code));
+}
+
 struct second_part archive_payload(uint32_t edition, const uint8_t *input, size_t length)
 {
     struct gamulisyan_part part = gamulisyan_payload(edition, input, length);

@@ -4,6 +4,7 @@
 #define second_read_tolerant archive_read_tolerant
 #define second_ones archive_ones
 #define second_write archive_write
+#define second_present archive_present
 #define second_payload archive_payload
 #define second_number_decode archive_number_decode
 #define second_number_encode archive_number_encode

@@ -3,6 +3,7 @@
 #include "both.h"
 #include "damage.h"
 #include "generate.h"
+#include "present.h"
 #include "tables.h"
 #include "words.h"
 
@@ -172,6 +173,8 @@ static void check_header(struct source *source, struct tally *tally, uint32_t ed
     if (read.answer != ACCEPTED)
         return;
     check_demands(tally, edition, header, read);
+    if (random_once_in(source, 3))
+        check_present(source, tally, edition, table, read.rows, header->bytes, header->length);
     check_tables(source, tally, edition, header, read);
     check_crowd(source, tally, edition, header, read.rows);
     both_read(tally, edition, header->bytes, header->length, read.rows * ROW_NUMBERS - random_below(source, 5) % (read.rows * ROW_NUMBERS), NULL);

@@ -33,7 +33,7 @@ static int is_among(const uint32_t *owner, const uint32_t *row)
     }
 }
 
-static void lay_skips(uint32_t *rows, size_t count)
+void lay_skips(uint32_t *rows, size_t count)
 {
     for (size_t row = 0; row < count; row++) {
         size_t after = row + 1;

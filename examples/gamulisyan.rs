@@ -1,4 +1,4 @@
-//! The archive's ten entries for Rust, as `include/gamulisyan.h` declares them, and `read`, `read_tolerant`, `write` and others over slices.
+//! The archive's eleven entries for Rust, as `include/gamulisyan.h` declares them, and `read`, `read_tolerant`, `write`, `present` and others over slices.
 //! Copy this file; docs/RUST.md says how to link it.
 #![allow(dead_code)]
 
@@ -7,6 +7,20 @@ pub const LENGTH_FORM_WIDE: u32 = 11;
 pub const ROWS_SHORT: u32 = 14;
 pub const EDITION_B: u32 = 1;
 pub const EDITION_D: u32 = 2;
+
+/// Parameters by the codes that `present` is asked with; the last is the base envelope's own date.
+pub const PARAMETER_UNKNOWN: u32 = 17;
+pub const PARAMETER_TO: u32 = 0x02;
+pub const PARAMETER_FROM: u32 = 0x03;
+pub const PARAMETER_REPRESENTATION: u32 = 0x04;
+pub const PARAMETER_COMMENTS: u32 = 0x05;
+pub const PARAMETER_PAYLOAD_LENGTH: u32 = 0x06;
+pub const PARAMETER_PAYLOAD_ENCODING: u32 = 0x07;
+pub const PARAMETER_ENCRYPTED: u32 = 0x08;
+pub const PARAMETER_RECEIVER: u32 = 0x09;
+pub const PARAMETER_RECEIVED: u32 = 0x0a;
+pub const PARAMETER_BEHAVIOUR: u32 = 0x0b;
+pub const PARAMETER_DATE: u32 = 0x20;
 
 #[repr(C)]
 #[derive(Clone, Copy, Debug, PartialEq, Eq)]
@@ -89,6 +103,14 @@ extern "C" {
         pool_length: usize,
         output: *mut u8,
         length: usize,
+    ) -> Answer;
+    pub fn gamulisyan_present(
+        edition: u32,
+        rows: *const u32,
+        numbers: usize,
+        pool: *const u8,
+        pool_length: usize,
+        code: u32,
     ) -> Answer;
     pub fn gamulisyan_payload(edition: u32, input: *const u8, length: usize) -> Part;
     pub fn gamulisyan_number_decode(bytes: *const u8, length: usize) -> Number;
@@ -180,6 +202,17 @@ pub fn write(edition: u32, rows: &[Row], pool: &[u8], output: &mut [u8]) -> Resu
     if written.answer == ACCEPTED { Ok(written.place) } else { Err(written) }
 }
 
+/// The row of a parameter's present value, none if no envelope has one; or the refusal.
+pub fn present(edition: u32, rows: &[Row], pool: &[u8], parameter: u32) -> Result<Option<usize>, Answer> {
+    let present = unsafe {
+        gamulisyan_present(edition, rows.as_ptr().cast(), rows.len() * ROW_NUMBERS, pool.as_ptr(), pool.len(), parameter)
+    };
+    if present.answer != ACCEPTED {
+        return Err(present);
+    }
+    Ok((present.place < rows.len()).then_some(present.place))
+}
+
 /// The payload behind the header, a part of `input`; empty if the header is refused.
 pub fn payload(edition: u32, input: &[u8]) -> &[u8] {
     let part = unsafe { gamulisyan_payload(edition, input.as_ptr(), input.len()) };
@@ -235,6 +268,16 @@ mod tests {
         let short = unsafe { gamulisyan_read(EDITION_B, M.as_ptr(), M.len(), rows.as_mut_ptr().cast(), 15, few.as_mut_ptr(), few.len()) };
         assert_eq!((short, few), (Answer { answer: ROWS_SHORT, place: 15, rows: 3 }, [7; WORDS - 1]));
         assert_eq!((ones(words[0]), ones(u32::MAX)), (1, 32));
+    }
+
+    #[test]
+    fn answers_present_values() {
+        let rows = read(EDITION_B, &M).unwrap().rows;
+        assert_eq!(present(EDITION_B, &rows, &M, PARAMETER_DATE), Ok(Some(2)));
+        assert_eq!(present(EDITION_D, &rows, &M, PARAMETER_REPRESENTATION), Ok(Some(1)));
+        assert_eq!(present(EDITION_D, &rows, &M, PARAMETER_TO), Ok(None));
+        assert_eq!(present(EDITION_D, &rows, &M, 0), Err(Answer { answer: PARAMETER_UNKNOWN, place: 0, rows: 0 }));
+        assert_eq!(present(EDITION_D, &rows[..2], &M, PARAMETER_TO), Err(Answer { answer: 15, place: 2, rows: 0 }));
     }
 
     #[test]

@@ -1,5 +1,6 @@
 /* gateway b|d [FILE]: an example of the archive's use. Reads the header at the front of FILE, or of standard input, in the
-   edition given; prints which parameters it has and whom it is for; writes it again from its rows, and holds the bytes against those that it read. A header
+   edition given; prints which parameters it has and whom it is for, by present values; writes it again from its rows, and holds the bytes
+   against those that it read. A header
    that is refused only because a length stands too wide is read tolerantly, and then written with its shortest lengths.
 
    Build it at the top of the repository, on x86-64:
@@ -7,7 +8,8 @@
        cc -std=c11 -O2 -I include -o gateway examples/gateway.c target/staticlib/libgamulisyan.a
 
    A line for each envelope, as a monitor prints it: how many different parameters it has, and which. A line for each agent of `to` and of
-   the intended receiver: the list, the name, the addresses. Then the bytes of the header and of the payload. Fields are parted by tabs, which no name and no address holds.
+   the intended receiver, as they are now: the list, the name, the addresses. Then the bytes of the header and of the payload. Fields are
+   parted by tabs, which no name and no address holds.
    Status: 0 if all went well; 1 for a header that is refused; 2 for wrong use, a file that cannot be read, no memory. */
 #include "gamulisyan.h"
 
@@ -112,19 +114,6 @@ static void print_text(struct bytes input, struct row row)
     fwrite(input.at + row.start, 1, row.length, stdout);
 }
 
-/* The name of the list that a row opens, null if whoever is in it does not receive the message. */
-static const char *list_opened(uint32_t kind)
-{
-    switch (kind) {
-    case GAMULISYAN_TO_OPENS:
-        return "to";
-    case GAMULISYAN_RECEIVER_OPENS:
-        return "intended receiver";
-    default:
-        return NULL;
-    }
-}
-
 /* An agent's name, and behind it its addresses, if it has any: the rows of its resolvers and extras are skipped. */
 static void print_agent(struct bytes input, const uint32_t *rows, size_t place)
 {
@@ -150,16 +139,19 @@ static void print_list(struct bytes input, const uint32_t *rows, size_t place, c
     }
 }
 
-/* Into each envelope, and there from parameter to parameter. */
-static void print_receivers(struct bytes input, const uint32_t *rows, size_t count)
+/* A list by its present value: of several the first, so that an envelope put in front decides. In an empty one is nobody. */
+static void print_present(uint32_t edition, struct bytes input, const uint32_t *rows, size_t count, uint32_t parameter, const char *list)
 {
-    for (size_t place = 0; place < count;) {
-        struct row row = row_at(rows, place);
-        const char *list = list_opened(row.kind);
-        if (list != NULL)
-            print_list(input, rows, place, list);
-        place = row.kind == GAMULISYAN_EXTENSION_OPENS || row.kind == GAMULISYAN_BASE_OPENS ? place + 1 : row.skip;
-    }
+    struct gamulisyan_answer present =
+        gamulisyan_present(edition, rows, count * GAMULISYAN_ROW_NUMBERS, input.at, input.length, parameter);
+    if (present.answer == GAMULISYAN_ACCEPTED && present.place < count)
+        print_list(input, rows, present.place, list);
+}
+
+static void print_receivers(uint32_t edition, struct bytes input, const uint32_t *rows, size_t count)
+{
+    print_present(edition, input, rows, count, GAMULISYAN_PARAMETER_TO, "to");
+    print_present(edition, input, rows, count, GAMULISYAN_PARAMETER_RECEIVER, "intended receiver");
 }
 
 /* From the envelope's word alone: no row is looked at. */
@@ -231,7 +223,7 @@ static int pass_on(uint32_t edition, struct bytes input)
     int status;
     if (read.answer == GAMULISYAN_ACCEPTED) {
         print_words(rows, read.rows, words);
-        print_receivers(input, rows, read.rows);
+        print_receivers(edition, input, rows, read.rows);
         status = write_again(edition, input, rows, read);
     } else {
         status = say_refusal("reading", read);

@@ -4,15 +4,14 @@
 
 mod gamulisyan;
 
-use gamulisyan::{Answer, Header, Row, EDITION_B, EDITION_D, LENGTH_FORM_WIDE};
+use gamulisyan::{Answer, Header, Row, EDITION_B, EDITION_D, LENGTH_FORM_WIDE, PARAMETER_RECEIVER, PARAMETER_TO};
 use std::io::{Read, Write};
 use std::process::ExitCode;
 
+const ADDRESSES_OPEN: u32 = 16;
+
 /// Extensions and the base, the lowest kinds.
 const BASE_OPENS: u32 = 2;
-const TO_OPENS: u32 = 12;
-const RECEIVER_OPENS: u32 = 14;
-const ADDRESSES_OPEN: u32 = 16;
 
 /// Parameters by their codes.
 const PARAMETERS: [&str; 12] = [
@@ -46,15 +45,6 @@ fn parameters(header: &Header) -> Vec<u8> {
     lines
 }
 
-/// The name of the list that a row opens, none if whoever is in it does not receive the message.
-fn list_opened(kind: u32) -> Option<&'static str> {
-    match kind {
-        TO_OPENS => Some("to"),
-        RECEIVER_OPENS => Some("intended receiver"),
-        _ => None,
-    }
-}
-
 /// An agent's name, and behind it its addresses, if it has any: the rows of its resolvers and extras are skipped.
 fn agent(input: &[u8], rows: &[Row], place: usize, lines: &mut Vec<u8>) {
     put_text(input, rows[place], lines);
@@ -80,23 +70,23 @@ fn skip(rows: &[Row], place: usize) -> usize {
     rows[place][4] as usize
 }
 
-/// A line for each agent: the list, the name, the addresses. Into each envelope, there from parameter to parameter, and in a list from
-/// agent to agent.
-fn receivers(input: &[u8], rows: &[Row]) -> Vec<u8> {
-    let mut lines = Vec::new();
-    let mut place = 0;
-    while place < rows.len() {
-        if let Some(name) = list_opened(rows[place][0]) {
-            let mut next = place + 1;
-            while next < skip(rows, place) {
-                lines.extend_from_slice(name.as_bytes());
-                agent(input, rows, next, &mut lines);
-                next = skip(rows, next);
-            }
-        }
-        place = if rows[place][0] <= BASE_OPENS { place + 1 } else { skip(rows, place) };
+/// A line for each agent of a list by its present value: the list, the name, the addresses. Of several lists the first decides, so that of an envelope put in
+/// front.
+fn present(edition: u32, input: &[u8], rows: &[Row], parameter: u32, list: &str, lines: &mut Vec<u8>) {
+    let Ok(Some(place)) = gamulisyan::present(edition, rows, input, parameter) else {
+        return;
+    };
+    let mut next = place + 1;
+    while next < skip(rows, place) {
+        lines.extend_from_slice(list.as_bytes());
+        agent(input, rows, next, lines);
+        next = skip(rows, next);
     }
-    lines
+}
+
+fn receivers(edition: u32, input: &[u8], rows: &[Row], lines: &mut Vec<u8>) {
+    present(edition, input, rows, PARAMETER_TO, "to", lines);
+    present(edition, input, rows, PARAMETER_RECEIVER, "intended receiver", lines);
 }
 
 fn say_refusal(call: &str, refusal: Answer) -> ExitCode {
@@ -129,7 +119,7 @@ fn pass_on(edition: u32, input: &[u8]) -> ExitCode {
     };
     let same = output[..written] == input[..length];
     lines.extend(parameters(&header));
-    lines.extend(receivers(input, &header.rows));
+    receivers(edition, input, &header.rows, &mut lines);
     let verdict = if same { "the same".to_string() } else { format!("in {written}") };
     let payload = input.len() - length;
     lines.extend(format!("header {length} bytes, written again {verdict}\npayload {payload} bytes\n").bytes());

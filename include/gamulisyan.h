@@ -98,8 +98,8 @@ enum {
 
 struct gamulisyan_answer {
     uint32_t answer;
-    size_t place; /* the header's length if accepted, else as document 01's table says */
-    size_t rows;  /* rows read or written; rows needed for 14; else 0 */
+    size_t place; /* the header's length if accepted, of gamulisyan_present the row; else as document 01's table says */
+    size_t rows;  /* rows read, written or asked about; rows needed for 14; else 0 */
 };
 
 /* A part of the input: its first place, and the place behind its last byte. */
@@ -180,6 +180,13 @@ uint32_t gamulisyan_ones(uint32_t word);
    after a refusal nothing. */
 struct gamulisyan_answer gamulisyan_write(uint32_t edition, const uint32_t *rows, size_t numbers, const uint8_t *pool, size_t pool_length,
                                           uint8_t *output, size_t length);
+
+/* Takes rows and their pool as gamulisyan_write does, and a parameter's code: GAMULISYAN_PARAMETER_TO to _BEHAVIOUR, or _DATE for the base envelope's
+   own date. Answers 0, as place the row that opens or holds the parameter's present value, and the row count. The present value is the first that
+   the envelopes have, in their order; in an envelope its fixed head comes first; an empty list or text is a value. The place is the row count where
+   no envelope has one, so for _ENCRYPTED in edition D. Refuses in this order: 1; 17 at 0 for another code; then with 15 and 5 what gamulisyan_write
+   refuses of the rows, at the same place. Changes no memory. */
+struct gamulisyan_answer gamulisyan_present(uint32_t edition, const uint32_t *rows, size_t numbers, const uint8_t *pool, size_t pool_length, uint32_t code);
 
 /* Takes an input. Answers where its payload lies: from behind the header up to the input's end, or from 0 to 0 if the header is
    refused. Changes no memory; 14 cannot arise. */

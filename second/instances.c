@@ -30,6 +30,7 @@ int main(void)
     run_values(&bench);
     run_listing(&bench);
     run_words(&bench);
+    run_present(&bench);
     printf("%u passed, %u failed\n", bench.passed, bench.failed);
     return bench.failed == 0 ? 0 : 1;
 }

@@ -29,5 +29,6 @@ void run_writing(struct bench *bench);
 void run_values(struct bench *bench);
 void run_listing(struct bench *bench);
 void run_words(struct bench *bench);
+void run_present(struct bench *bench);
 
 #endif

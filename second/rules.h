@@ -36,7 +36,8 @@ enum {
     CLOSED_EARLY = 13,
     ROOM_EXCEEDED = 14,
     NO_TABLE = 15,
-    OUTPUT_TOO_SHORT = 16
+    OUTPUT_TOO_SHORT = 16,
+    NO_SUCH_PARAMETER = 17
 };
 
 enum {

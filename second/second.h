@@ -53,6 +53,10 @@ struct second_reply second_write(uint32_t edition, const uint32_t *rows, size_t 
                                  const uint8_t *pool, size_t pool_length,
                                  uint8_t *output, size_t output_length);
 
+/* Order 1: the row of a parameter's present value, or the row count, as the reply's place; nothing lent is changed. */
+struct second_reply second_present(uint32_t edition, const uint32_t *rows, size_t rows_length, const uint8_t *pool, size_t pool_length,
+                                   uint32_t code);
+
 /* The empty part at the front if the header is refused. */
 struct second_part second_payload(uint32_t edition, const uint8_t *input, size_t length);
 

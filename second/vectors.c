@@ -1,4 +1,5 @@
-/* Runs the recorded cases of one folder: read.tsv, write.tsv, number.tsv, date.tsv, days.tsv, breaks.tsv, tolerant.tsv, skips.tsv and words.tsv. Each case is given its own lent
+/* Runs the recorded cases of one folder: read.tsv, write.tsv, number.tsv, date.tsv, days.tsv, breaks.tsv, tolerant.tsv, skips.tsv, words.tsv
+   and present.tsv. Each case is given its own lent
    memory between guards, and the whole of it is compared afterwards. */
 #include "second.h"
 
@@ -357,6 +358,26 @@ static bool check_words(const struct fields *fields, struct bench *bench)
     return false;
 }
 
+/* edition, rows themselves, pool, code, answer, place; accepted, the row count is that of the rows */
+static bool check_present(const struct fields *fields, struct bench *bench)
+{
+    size_t rows_bytes = list_bytes(fields->text[1], bench->given);
+    const uint32_t *rows = as_rows(lend_copy(&bench->source, bench->given, rows_bytes));
+    size_t pool_length = hex_bytes(fields->text[2], bench->given);
+    const uint8_t *pool = lend_copy(&bench->pool, bench->given, pool_length);
+    size_t numbers = rows_bytes / sizeof *rows;
+
+    struct second_reply got = second_present((uint32_t)number(fields->text[0]), rows, numbers, pool, pool_length, (uint32_t)number(fields->text[3]));
+    bool sources = holds_only(&bench->pool, bench->given, pool_length);
+    list_bytes(fields->text[1], bench->given);
+    sources = sources && holds_only(&bench->source, bench->given, rows_bytes);
+    if (got.answer == number(fields->text[4]) && got.place == number(fields->text[5])
+        && got.rows == (got.answer == ACCEPTED ? numbers / ROW_NUMBERS : 0) && sources)
+        return true;
+    printf("  got %" PRIu32 "\t%" PRIu64 "\t%" PRIu64, got.answer, got.place, got.rows);
+    return false;
+}
+
 struct tally {
     unsigned passed;
     unsigned failed;
@@ -394,6 +415,7 @@ int main(int count, char **arguments)
     check_file(arguments[1], "tolerant.tsv", check_tolerant, &bench, &tally);
     check_file(arguments[1], "skips.tsv", check_named, &bench, &tally);
     check_file(arguments[1], "words.tsv", check_words, &bench, &tally);
+    check_file(arguments[1], "present.tsv", check_present, &bench, &tally);
     printf("%u passed, %u failed\n", tally.passed, tally.failed);
     return tally.failed == 0 ? 0 : 1;
 }

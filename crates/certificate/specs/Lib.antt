@@ -5,5 +5,6 @@ pub mod Calls
 pub mod Tolerant
 pub mod Walks
 pub mod Presence
+pub mod Present
 pub mod Coders
 pub mod Premises

@@ -3,6 +3,7 @@
 ghost use Rattle.meaning.specs.Words.{onesOf};
 ghost use Rattle.reader.specs.Promises.{ReadPromise, TolerantPromise, PartPromise};
 ghost use Rattle.writer.specs.Promise.{WritePromise};
+ghost use Rattle.present.specs.Promise.{PresentPromise};
 ghost use Rattle.coders.specs.Plain.{NumberDecodes, NumberEncodes, DateDecodes, DateEncodes, plainOf};
 ghost use Rattle.gamulisyan.specs.Version.{version};
 ghost use mathlib.Core.Path.{_≡_};
@@ -61,6 +62,13 @@ pub extern "C" fn gamulisyan_payload(edition: u32, input: &[u8]) -> Part
     ensures { λ r. ⌜ PartPromise edition (now (input .entry)) r ⌝ }
 {
     reader::payload_part(edition, input)
+}
+
+#[no_mangle]
+pub extern "C" fn gamulisyan_present(edition: u32, rows: &[u32], pool: &[u8], code: u32) -> Reply
+    ensures { λ r. ⌜ PresentPromise edition (now (rows .entry)) (now (pool .entry)) code r ⌝ }
+{
+    present::present(edition, rows, pool, code)
 }
 
 #[no_mangle]

@@ -4,10 +4,12 @@ pub mod From
 pub mod HighFirst
 pub mod Nesting
 pub mod Firsts
+pub mod Filling
 pub mod Rows
 pub mod Hopping
 pub mod Skipping
 pub mod RightSkips
+pub mod Passing
 pub mod Values
 pub mod Tables
 pub mod Lookups
@@ -46,9 +48,11 @@ pub mod WriterRefusals
 pub mod CodedNumbers
 pub mod PlainNumbers
 pub mod PlainDates
+pub mod Standing
 pub mod Ties
 pub mod Walks
 pub mod Demands
+pub mod PresentValues
 pub mod Tolerant
 pub mod Notes
 pub mod Days

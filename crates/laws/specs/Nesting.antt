@@ -31,7 +31,7 @@ by-beside P k p₁ p₂ p₁₅ p₁₆ p₁₉ p₂₉ p₂₅ p₂₇ p₀ = a
     at false false false false false false false true qa qb qc qd qe qf qg qh = p₂₇ (eqb-true k 27 qh)
     at false false false false false false false false qa qb qc qd qe qf qg qh = p₀
 
-false-not : {A : Type 0} → false ≡ true → A
+pub false-not : {A : Type 0} → false ≡ true → A
 false-not q = let z : _≡_ {A = ℕ} 0 1 = cc q in absurd (omega arith)
 
 pub value-is : {A : Type 0} (c : ℕ) → isValue c ≡ true → (c ≡ 20 → A) → (c ≡ 21 → A) → A

@@ -11,6 +11,7 @@ pub mod Words
 pub mod Headers
 pub mod Writing
 pub mod Memory
+pub mod Present
 pub mod Payload
 pub mod Plain
 pub mod Listing
@@ -24,4 +25,5 @@ pub mod Breaks
 pub mod Widths
 pub mod Hops
 pub mod Presence
+pub mod Asking
 pub mod Bounds

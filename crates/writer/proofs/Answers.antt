@@ -1,7 +1,7 @@
 -- From the verdict to the public promise: what is answered, and what the output holds.
 use Prim.Native.Nat.{ℕ, _+_, _≤_, _<_}
-use mathlib.Core.List.{List}
-use mathlib.Core.Bool.{Bool}
+use mathlib.Core.List.{List, []}
+use mathlib.Core.Bool.{Bool, true, false}
 use mathlib.Core.Path.{_≡_, refl, ap, sym, _∙_}
 use native.Mathlib.Omega.{arith}
 use lib.Dec.{leb}
@@ -12,11 +12,12 @@ use Rattle.meaning.specs.Told.{known, unknown, labelOf, Edition}
 use Rattle.meaning.specs.Writing.{Cell, Envelope, Plan, stuck, plan, wholePlan, headerOf, Limit, fine, exceeds, limits, Written, written, unwritten, limited, planned, writeRows}
 use Rattle.meaning.specs.Skips.{Skips, right, wrongAt}
 use Rattle.meaning.specs.Memory.{cellsOf, skipsHeld, reply, laidOver, write, writeAnswer, writeOutput, roomOf}
+use Rattle.meaning.specs.Present.{passed as passes, checkOf, checked}
 use Rattle.laws.specs.Rows.{cellsAt, cells-are}
 use Rattle.meaning.specs.Headers.{envelopesMost}
 use Rattle.write_envelopes.specs.Whole.{Verdict, bad, needs, verdictOf, verdict, checkedOf, bytesOfPlan, Writable}
 use Rattle.table.specs.Reply.{replyOf}
-use Rattle.writer.specs.Promise.{WrittenAs, WritePromise, skipsVerdict, SkipsChecked}
+use Rattle.writer.specs.Promise.{WrittenAs, WritePromise, skipsVerdict, SkipsChecked, checkIs}
 use Rattle.table.specs.declared.reply.Reply.{Reply}
 use Rattle.write_envelopes.specs.declared.measure.Checked.{Checked}
 use Rattle.write_envelopes.specs.declared.measure.Checked.the-variants.{Bad, Needs}
@@ -68,6 +69,20 @@ module _ (edition : Edition) (pool rows before : List ℕ) where
   unfolding writeRows
   result-is = ap (λ (cs : List Cell). planned (length before) (skipsHeld rows) (wholePlan edition cs)) (cells-are pool rows) ∙ by-verdict (length before) (skipsHeld rows) all
 
+  -- the check alone: 16 is no fault of the rows
+  room-aside : (w : List ℕ) (skips : Skips) (p : Plan) → checkIs (checkedOf (skipsVerdict skips p)) ≡ checkOf (answered 0 w (skipsVerdict skips p))
+  room-aside w skips (stuck i) = refl
+  room-aside w (wrongAt i) (plan bytes vs) = refl
+  room-aside w right (plan bytes vs) = at (limits envelopesMost vs)
+    where
+      short : (t : ℕ) (b : Bool) → passes ≡ checkOf (pick b (written w) (unwritten 16 t))
+      short t true = refl
+      short t false = refl
+
+      at : (o : Limit) → checkIs (checkedOf (verdictOf (0 + length (headerOf vs)) o)) ≡ checkOf (answered 0 w (verdictOf (0 + length (headerOf vs)) o))
+      at fine = short (0 + length (headerOf vs)) (leb (0 + length (headerOf vs)) 0)
+      at (exceeds i) = refl
+
   written-as : {w : Written} {answer : Reply} {after : List ℕ} → result ≡ w → WrittenAs w rows before answer after → WrittenAs result rows before answer after
   written-as {w} {answer} {after} q x = rw q x
 
@@ -102,3 +117,9 @@ module _ (number : ℕ) (rows pool before : List ℕ) {answer : Reply} {after : 
   pub in-none : labelOf number ≡ unknown → replyOf answer ≡ reply 1 0 0 → after ≡ before → WritePromise number rows pool before answer after
   unfolding writeAnswer writeOutput write
   in-none q e m = record { answers = e ∙ rw q refl; leaves = rw q m }
+
+-- The check alone
+
+pub checked-as : (edition : Edition) (pool rows : List ℕ) {r : Checked} {lengths : List ℕ} → SkipsChecked (wholePlan edition (cellsAt pool rows 0)) (skipsHeld rows) r lengths → checkIs r ≡ checked edition rows pool
+unfolding checked
+checked-as edition pool rows k = ap checkIs (k .is) ∙ room-aside edition pool rows [] (bytesOfPlan (all edition pool rows [])) (skipsHeld rows) (all edition pool rows []) ∙ ap checkOf (sym (result-is edition pool rows []))

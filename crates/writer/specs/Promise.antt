@@ -7,8 +7,9 @@ use Rattle.meaning.specs.Headers.{envelopesMost}
 use Rattle.meaning.specs.Writing.{Plan, stuck, plan, fine, Written}
 use Rattle.write_envelopes.specs.Whole.{Verdict, bad, needs, verdict, checkedOf, insidesOf, Begins}
 use Rattle.write_envelopes.specs.declared.measure.Checked.{Checked}
-use Rattle.write_envelopes.specs.declared.measure.Checked.the-variants.{Bad}
+use Rattle.write_envelopes.specs.declared.measure.Checked.the-variants.{Bad, Needs}
 use Rattle.meaning.specs.Memory.{roomOf, writeReply, writeMemory, writeAnswer, writeOutput}
+use Rattle.meaning.specs.Present.{Judgement, passed, stopped}
 use Rattle.table.specs.declared.reply.Reply.{Reply}
 use Rattle.table.specs.Reply.{replyOf}
 
@@ -36,3 +37,8 @@ skipsVerdict (wrongAt i) (plan bytes vs) = bad 15 i
 pub record SkipsChecked (p : Plan) (skips : Skips) (r : Checked) (lengths : List ℕ) : Type 0 where
   pub is : r ≡ checkedOf (skipsVerdict skips p)
   pub noted : (t : ℕ) → skipsVerdict skips p ≡ needs t → (verdict envelopesMost 0 fine p ≡ needs t) × Begins (insidesOf p) lengths
+
+-- what each case of the check says, where no output is lent
+abbrev pub checkIs : Checked → Judgement
+checkIs (Bad answer place) = stopped answer place
+checkIs (Needs many) = passed

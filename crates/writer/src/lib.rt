@@ -19,9 +19,10 @@ ghost use lib.ListN.{length};
 ghost use Rattle.meaning.specs.Headers.{envelopesMost};
 ghost use Rattle.meaning.specs.Writing.{wholePlan, writeRows};
 ghost use Rattle.meaning.specs.Memory.{cellsOf, skipsHeld};
+ghost use Rattle.meaning.specs.Present.{checked};
 ghost use Rattle.laws.specs.Rows.{cellsAt};
 ghost use Rattle.table.specs.Told.{editionOf};
-ghost use Rattle.writer.specs.Promise.{WritePromise, WrittenAs, SkipsChecked, unlessWrong};
+ghost use Rattle.writer.specs.Promise.{WritePromise, WrittenAs, SkipsChecked, unlessWrong, checkIs};
 
 // Takes an edition's number, rows, the pool of bytes that they view, and output. Lays the table's bytes over the front of the output.
 // "Accepted gives 0, bytes written, rows." "It checks 1, then 15 over all rows, then 5, then 16", and order 7 a wrong skip number "after 15's
@@ -57,6 +58,15 @@ fn write_in(edition: Edition, rows: &[u32], pool: &[u8], output: &mut [u8]) -> R
             }
         }
     }
+}
+
+// Takes rows and the pool that they view, and no output. Answers the bytes that they need, or refuses what `write` refuses of them whatever output it is
+// lent: rows that are no table (15), a wrong skip number (15), an envelope past a limit (5).
+pub fn check_rows(edition: Edition, rows: &[u32], pool: &[u8]) -> Checked
+    ensures { λ r. ⌜ checkIs r ≡ checked (editionOf edition) (now (rows .entry)) (now (pool .entry)) ⌝ }
+{
+    let mut lengths = [0usize; ENVELOPES];
+    check_all(edition, rows, pool, &mut lengths[..])
 }
 
 // Takes all rows, and room for the envelopes' lengths. Answers the bytes that the rows need, and then the lengths are noted. Refuses, in this order,
