@@ -11,6 +11,7 @@ pub mod Words
 pub mod Headers
 pub mod Writing
 pub mod Memory
+pub mod Lookup
 pub mod Payload
 pub mod Plain
 pub mod Listing
