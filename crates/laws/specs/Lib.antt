@@ -43,6 +43,11 @@ pub mod PlainNumbers
 pub mod PlainDates
 pub mod Ties
 pub mod Walks
+pub mod Levels
+pub mod Ranked
+pub mod Lacking
+pub mod Passing
+pub mod Looking
 pub mod Demands
 pub mod Tolerant
 pub mod Notes

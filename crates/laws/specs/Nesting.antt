@@ -15,7 +15,7 @@ use Rattle.meaning.specs.Skips.{Rank, holdsDeeper, isValue, beside, belongs, be
 -- Kinds
 
 -- what holds of each test of kinds, under the kinds that have it, holds of a kind's own
-by-beside : (P : (ℕ → Bool) → Type 0) (k : ℕ) → (k ≡ 1 → P (λ c. ltb 2 c)) → (k ≡ 2 → P (λ c. ltb 2 c)) → (k ≡ 15 → P (λ c. ltb 15 c)) → (k ≡ 16 → P (λ c. eqb c 17)) → (k ≡ 19 → P (λ c. isValue c)) → (k ≡ 29 → P (λ c. isValue c))
+pub by-beside : (P : (ℕ → Bool) → Type 0) (k : ℕ) → (k ≡ 1 → P (λ c. ltb 2 c)) → (k ≡ 2 → P (λ c. ltb 2 c)) → (k ≡ 15 → P (λ c. ltb 15 c)) → (k ≡ 16 → P (λ c. eqb c 17)) → (k ≡ 19 → P (λ c. isValue c)) → (k ≡ 29 → P (λ c. isValue c))
     → (k ≡ 25 → P (λ c. eqb c 26)) → (k ≡ 27 → P (λ c. eqb c 28)) → P (λ c. false) → P (λ c. beside k c)
 by-beside P k p₁ p₂ p₁₅ p₁₆ p₁₉ p₂₉ p₂₅ p₂₇ p₀ = at (eqb k 1) (eqb k 2) (eqb k 15) (eqb k 16) (eqb k 19) (eqb k 29) (eqb k 25) (eqb k 27) refl refl refl refl refl refl refl refl
   where
@@ -31,10 +31,10 @@ by-beside P k p₁ p₂ p₁₅ p₁₆ p₁₉ p₂₉ p₂₅ p₂₇ p₀ = a
     at false false false false false false false true qa qb qc qd qe qf qg qh = p₂₇ (eqb-true k 27 qh)
     at false false false false false false false false qa qb qc qd qe qf qg qh = p₀
 
-false-not : {A : Type 0} → false ≡ true → A
+pub false-not : {A : Type 0} → false ≡ true → A
 false-not q = let z : _≡_ {A = ℕ} 0 1 = cc q in absurd (omega arith)
 
-value-is : {A : Type 0} (c : ℕ) → isValue c ≡ true → (c ≡ 20 → A) → (c ≡ 21 → A) → A
+pub value-is : {A : Type 0} (c : ℕ) → isValue c ≡ true → (c ≡ 20 → A) → (c ≡ 21 → A) → A
 value-is {A} c h f g = at (eqb c 20) (eqb c 21) refl refl h
   where
     at : (x y : Bool) → eqb c 20 ≡ x → eqb c 21 ≡ y → x || y ≡ true → A
@@ -43,7 +43,7 @@ value-is {A} c h f g = at (eqb c 20) (eqb c 21) refl refl h
     at false false p q r = false-not r
 
 -- what a row has beside it is above an envelope's kind; beside an agent's own rows, above an agent's
-above : (least b c : ℕ) → (b ≡ 1 → least ≤ 2) → (b ≡ 2 → least ≤ 2) → (b ≡ 15 → least ≤ 15) → least ≤ 16 → beside b c ≡ true → least < c
+pub above : (least b c : ℕ) → (b ≡ 1 → least ≤ 2) → (b ≡ 2 → least ≤ 2) → (b ≡ 15 → least ≤ 15) → least ≤ 16 → beside b c ≡ true → least < c
 above least b c h₁ h₂ h₁₅ h =
     by-beside (λ f. f c ≡ true → least < c) b (λ q i. let x = ltb-true 2 c i in let y = h₁ q in omega arith) (λ q i. let x = ltb-true 2 c i in let y = h₂ q in omega arith)
     (λ q i. let x = ltb-true 15 c i in let y = h₁₅ q in omega arith) (λ q i. let x = eqb-true c 17 i in omega arith) (λ q i. value-is c i (λ x. omega arith) (λ x. omega arith)) (λ q i. value-is c i (λ x. omega arith) (λ x. omega arith))
@@ -70,7 +70,7 @@ kinds-nest a b c =
 none-deeper : (k b : ℕ) → holdsDeeper k ≡ false → b ≡ k → holdsDeeper b ≡ true → ⊥
 none-deeper k b n q h = false-not (sym n ∙ ap holdsDeeper (sym q) ∙ h)
 
-deeper-nests : (a b : ℕ) → beside a b ≡ true → holdsDeeper b ≡ true → holdsDeeper a ≡ true
+pub deeper-nests : (a b : ℕ) → beside a b ≡ true → holdsDeeper b ≡ true → holdsDeeper a ≡ true
 deeper-nests a b =
     by-beside (λ f. f b ≡ true → holdsDeeper b ≡ true → holdsDeeper a ≡ true) a (λ q i h. ap holdsDeeper q) (λ q i h. ap holdsDeeper q) (λ q i h. ap holdsDeeper q)
     (λ q i h. absurd (none-deeper 17 b refl (eqb-true b 17 i) h))
