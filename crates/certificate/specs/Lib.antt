@@ -4,5 +4,6 @@ pub mod Lent
 pub mod Calls
 pub mod Tolerant
 pub mod Walks
+pub mod Lookup
 pub mod Coders
 pub mod Premises

@@ -2,6 +2,7 @@
 // and says what each takes, answers, refuses and leaves.
 ghost use Rattle.reader.specs.Promises.{ReadPromise, TolerantPromise, PartPromise};
 ghost use Rattle.writer.specs.Promise.{WritePromise};
+ghost use Rattle.lookup.specs.Promise.{LookupPromise};
 ghost use Rattle.coders.specs.Plain.{NumberDecodes, NumberEncodes, DateDecodes, DateEncodes, plainOf};
 ghost use Rattle.gamulisyan.specs.Version.{version};
 ghost use mathlib.Core.Path.{_≡_};
@@ -43,6 +44,13 @@ pub extern "C" fn gamulisyan_payload(edition: u32, input: &[u8]) -> Part
     ensures { λ r. ⌜ PartPromise edition (now (input .entry)) r ⌝ }
 {
     reader::payload_part(edition, input)
+}
+
+#[no_mangle]
+pub extern "C" fn gamulisyan_lookup(rows: &[u32], words: &[u32], code: u32) -> Reply
+    ensures { λ r. ⌜ LookupPromise (now (rows .entry)) (now (words .entry)) code r ⌝ }
+{
+    lookup::lookup(rows, words, code)
 }
 
 #[no_mangle]

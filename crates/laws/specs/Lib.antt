@@ -48,6 +48,7 @@ pub mod Ranked
 pub mod Lacking
 pub mod Passing
 pub mod Looking
+pub mod LookedUp
 pub mod Demands
 pub mod Tolerant
 pub mod Notes
