@@ -20,6 +20,8 @@ use Rattle.meaning.specs.Days.{days}
 use Rattle.meaning.specs.Breaks.{breaks}
 use Rattle.meaning.specs.Widths.{widths}
 use Rattle.meaning.specs.Hops as hops
+use Rattle.meaning.specs.Lookup.{lookOn, lookedUp, lookup}
+use Rattle.meaning.specs.Lookings.{lookings}
 
 abbrev pub readings : Bool
 readings =
@@ -38,6 +40,6 @@ values =
 abbrev pub skips : Bool
 skips = every hops.skipsRead hops.read && every hops.rewritten hops.read && every writes hops.wrong && every writes hops.first
 
-pub bounds : T (readings && writings && values && days && breaks && widths && skips)
-unfolding textByte takeText textOk turn takeNumber numberOk lastDay passes takeDate dateOk highFirst tooWide takeBytes blockOf takeBlock blockOk shared own moves takeValue find look stepMove step run inside envelope header readBy valid writeValue wayOf fit fitRow closeWithin close planOf writeRows belongs belonging heldAgainst cellsOf ranksOf skipsOf skipsHeld laidOver write answerBy rowsBy writeAnswer writeOutput payloadStart payloadEnd payloadBytes numberValue digitsWithin digitsOf packed decodeNumber numberDecoded numberPlain numberBytes numberEncoded numberOutput decodeDate dateDecoded datePlain dateInRange dateEncoded dateOutput decimal viewed lineOf listingOf listing
+pub bounds : T (readings && writings && values && days && breaks && widths && skips && lookings)
+unfolding textByte takeText textOk turn takeNumber numberOk lastDay passes takeDate dateOk highFirst tooWide takeBytes blockOf takeBlock blockOk shared own moves takeValue find look stepMove step run inside envelope header readBy valid writeValue wayOf fit fitRow closeWithin close planOf writeRows belongs belonging heldAgainst cellsOf ranksOf skipsOf skipsHeld laidOver write answerBy rowsBy writeAnswer writeOutput payloadStart payloadEnd payloadBytes numberValue digitsWithin digitsOf packed decodeNumber numberDecoded numberPlain numberBytes numberEncoded numberOutput decodeDate dateDecoded datePlain dateInRange dateEncoded dateOutput decimal viewed lineOf listingOf listing lookOn lookedUp lookup
 bounds = tt

@@ -24,4 +24,5 @@ pub mod Days
 pub mod Breaks
 pub mod Widths
 pub mod Hops
+pub mod Lookings
 pub mod Bounds
