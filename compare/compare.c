@@ -3,6 +3,7 @@
 #include "both.h"
 #include "damage.h"
 #include "generate.h"
+#include "lookup.h"
 #include "tables.h"
 
 #include <inttypes.h>
@@ -160,6 +161,7 @@ static void check_header(struct source *source, struct tally *tally, uint32_t ed
     check_demands(tally, edition, header, read);
     check_tables(source, tally, edition, header, read);
     check_crowd(source, tally, edition, header, read.rows);
+    check_lookups(source, tally, table, read.rows);
     both_read(tally, edition, header->bytes, header->length, read.rows * ROW_NUMBERS - random_below(source, 5) % (read.rows * ROW_NUMBERS), NULL);
 }
 
@@ -240,6 +242,7 @@ int main(int count, char **arguments)
             check_header(&source, &tally, edition, &header);
         }
         check_values(&source, &tally);
+        check_any_lookup(&source, &tally);
     }
     printf("%lu passed, %lu failed\n", tally.passed, tally.failed);
     return tally.failed == 0 ? 0 : 1;

@@ -29,6 +29,7 @@ int main(void)
     run_writing(&bench);
     run_values(&bench);
     run_listing(&bench);
+    run_lookup(&bench);
     printf("%u passed, %u failed\n", bench.passed, bench.failed);
     return bench.failed == 0 ? 0 : 1;
 }

@@ -27,5 +27,6 @@ void run_reading(struct bench *bench);
 void run_writing(struct bench *bench);
 void run_values(struct bench *bench);
 void run_listing(struct bench *bench);
+void run_lookup(struct bench *bench);
 
 #endif
