@@ -73,6 +73,7 @@ extern "C" {
         output: *mut u8,
         length: usize,
     ) -> Answer;
+    pub fn gamulisyan_lookup(rows: *const u32, numbers: usize, words: *const u32, word_count: usize, code: u32) -> Answer;
     pub fn gamulisyan_payload(edition: u32, input: *const u8, length: usize) -> Part;
     pub fn gamulisyan_number_decode(bytes: *const u8, length: usize) -> Number;
     pub fn gamulisyan_number_encode(value: u64, output: *mut u8, length: usize) -> Coded;
