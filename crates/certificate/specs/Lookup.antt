@@ -14,7 +14,7 @@ use Rattle.meaning.specs.Memory.{ranksOf, Reply}
 use Rattle.meaning.specs.Lookup.{lookup}
 use Rattle.laws.specs.Logic.{areBytes}
 use Rattle.laws.specs.Firsts.{firstFrom}
-use Rattle.laws.specs.Passing.{levelZero}
+use Rattle.laws.specs.PassedOver.{levelZero}
 use Rattle.laws.specs.LookedUp.{TrueWords, LooksUp, written-looks-up, read-looks-up}
 use Rattle.table.specs.declared.reply.Reply as declared
 use Rattle.reader.specs.Promises.{ReadsBy}

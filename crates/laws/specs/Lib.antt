@@ -46,7 +46,7 @@ pub mod Walks
 pub mod Levels
 pub mod Ranked
 pub mod Lacking
-pub mod Passing
+pub mod PassedOver
 pub mod Looking
 pub mod LookedUp
 pub mod Demands

@@ -26,7 +26,7 @@ use Rattle.laws.specs.Envelopes.{Writes}
 use Rattle.laws.specs.Plans.{written-writes}
 use Rattle.laws.specs.Ties.{written-right, accepted-known, written-known, whole-of, cells-placed}
 use Rattle.laws.specs.Ranked.{Ranked, table-ranked}
-use Rattle.laws.specs.Passing.{levelZero}
+use Rattle.laws.specs.PassedOver.{levelZero}
 use Rattle.laws.specs.Looking.{TrueFrom, looked-first}
 
 -- sixteen words or more, with those of the rows' envelopes at their front

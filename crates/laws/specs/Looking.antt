@@ -22,7 +22,7 @@ use Rattle.laws.specs.Firsts.{firstFrom}
 use Rattle.laws.specs.Hopping.{rankAt, ranksAt, ranksFor, ranks-length, ranks-next, ranks-drop, givenAt, skipAt, skip-forward, skip-most, AllRight}
 use Rattle.laws.specs.Levels.{bad}
 use Rattle.laws.specs.Ranked.{Fair, Ranked, next}
-use Rattle.laws.specs.Passing.{levelZero, none-and, first-over, fewer, row-valueless, no-word, words-over, lands, lacking, dateless}
+use Rattle.laws.specs.PassedOver.{levelZero, none-and, first-over, fewer, row-valueless, no-word, words-over, lands, lacking, dateless}
 
 -- words for the envelopes from this number on
 abbrev pub TrueFrom : List ℕ → ℕ → List ℕ → Type 0
