@@ -3,7 +3,8 @@
                                        both programs checked
      bench once INPUT PROGRAM CALL     the call once for each header of the input, for whoever counts instructions from outside
      bench time INPUT CALL             nanoseconds of the processor for a header, the archive's and the second program's
-   PROGRAM is archive or second, CALL is read, write or present (of code 06, which stands behind every list, or nowhere). Whatever is measured is checked: every call must be accepted, and rows
+   PROGRAM is archive or second, CALL is read, write, present or lookup (both of code 06, which stands behind
+   every list, or nowhere). Whatever is measured is checked: every call must be accepted, and rows
    and bytes must be the other program's. */
 #define _POSIX_C_SOURCE 200809L
 
@@ -21,18 +22,21 @@ enum { EDITION = GAMULISYAN_EDITION_D, ROW = GAMULISYAN_ROW_NUMBERS, MOST_NUMBER
 /* Nanoseconds: of one batch, and of all of them. */
 enum { BATCH = 1000000, LONG_ENOUGH = 2000000000 };
 
-enum call { READ, WRITE, PRESENT };
+enum call { READ, WRITE, PRESENT, LOOKUP };
 
 typedef struct second_reply reading(uint32_t, const uint8_t *, size_t, uint32_t *, size_t, uint32_t *, size_t);
 typedef struct second_reply writing(uint32_t, const uint32_t *, size_t, const uint8_t *, size_t, uint8_t *, size_t);
 
 typedef struct second_reply presenting(uint32_t, const uint32_t *, size_t, const uint8_t *, size_t, uint32_t);
 
+typedef struct second_reply looking(const uint32_t *, size_t, const uint32_t *, size_t, uint32_t);
+
 struct program {
     const char *name;
     reading *read;
     writing *write;
     presenting *present;
+    looking *lookup;
 };
 
 /* The rows of header n lie from places[n] up to places[n + 1]. */
@@ -68,8 +72,14 @@ static struct second_reply archive_present(uint32_t edition, const uint32_t *row
     return (struct second_reply){present.answer, present.place, present.rows};
 }
 
-static const struct program archive = {"archive", archive_read, archive_write, archive_present};
-static const struct program second = {"second", second_read, second_write, second_present};
+static struct second_reply archive_lookup(const uint32_t *rows, size_t numbers, const uint32_t *words, size_t word_count, uint32_t code)
+{
+    struct gamulisyan_answer found = gamulisyan_lookup(rows, numbers, words, word_count, code);
+    return (struct second_reply){found.answer, found.place, found.rows};
+}
+
+static const struct program archive = {"archive", archive_read, archive_write, archive_present, archive_lookup};
+static const struct program second = {"second", second_read, second_write, second_present, second_lookup};
 
 static const uint8_t *header_at(size_t number)
 {
@@ -113,6 +123,14 @@ static struct second_reply write_one(const struct program *program, size_t numbe
 static struct second_reply present_one(const struct program *program, size_t number)
 {
     return program->present(EDITION, table_at(number), table_length(number), header_at(number), header_length(number), GAMULISYAN_PARAMETER_PAYLOAD_LENGTH);
+}
+
+/* With words that lack nothing: every envelope is entered, and every parameter before the code's passed over. */
+static struct second_reply lookup_one(const struct program *program, size_t number)
+{
+    static uint32_t words[GAMULISYAN_WORDS];
+    memset(words, 0xFF, sizeof words);
+    return program->lookup(table_at(number), table_length(number), words, GAMULISYAN_WORDS, GAMULISYAN_PARAMETER_PAYLOAD_LENGTH);
 }
 
 static int is_whole(struct second_reply reply, size_t number)
@@ -164,6 +182,26 @@ static void check_presenting(const struct program *program, const struct program
     }
 }
 
+static void check_looking(const struct program *program)
+{
+    for (size_t number = 0; number < headers.count; number++) {
+        struct second_reply got = lookup_one(program, number);
+        require(got.answer == GAMULISYAN_ACCEPTED && got.place <= table_length(number) / ROW, program->name, "lookup", number);
+    }
+}
+
+/* A lookup finds what is present, in both programs by as many looks. */
+static void check_alike(void)
+{
+    for (size_t number = 0; number < headers.count; number++) {
+        struct second_reply got = lookup_one(&archive, number);
+        struct second_reply has = lookup_one(&second, number);
+        require(got.answer == GAMULISYAN_ACCEPTED && got.place == present_one(&archive, number).place && has.answer == got.answer
+                    && has.place == got.place && has.rows == got.rows,
+                "archive", "lookup", number);
+    }
+}
+
 static void check_both(void)
 {
     fill_tables(&archive);
@@ -171,6 +209,7 @@ static void check_both(void)
     check_writing(&archive);
     check_writing(&second);
     check_presenting(&archive, &second);
+    check_alike();
 }
 
 static void print_names(void)
@@ -191,8 +230,10 @@ static void call_all(const struct program *program, enum call call)
             read_one(program, number);
         else if (call == WRITE)
             write_one(program, number);
-        else
+        else if (call == PRESENT)
             present_one(program, number);
+        else
+            lookup_one(program, number);
 }
 
 /* Nanoseconds of the processor for that many times over the whole input. */
@@ -233,7 +274,7 @@ static void print_times(enum call call)
 
 static enum call call_named(const char *name)
 {
-    return strcmp(name, "read") == 0 ? READ : strcmp(name, "write") == 0 ? WRITE : PRESENT;
+    return strcmp(name, "read") == 0 ? READ : strcmp(name, "write") == 0 ? WRITE : strcmp(name, "present") == 0 ? PRESENT : LOOKUP;
 }
 
 static void call_once(const char *name, enum call call)
@@ -246,8 +287,10 @@ static void call_once(const char *name, enum call call)
         check_reading(program);
     else if (call == WRITE)
         check_writing(program);
-    else
+    else if (call == PRESENT)
         check_presenting(program, other);
+    else
+        check_looking(program);
 }
 
 int main(int count, char **arguments)

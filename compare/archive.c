@@ -37,6 +37,11 @@ struct second_reply archive_present(uint32_t edition, const uint32_t *rows, size
     return reply_of(gamulisyan_present(edition, rows, rows_length, pool, pool_length, code));
 }
 
+struct second_reply archive_lookup(const uint32_t *rows, size_t rows_length, const uint32_t *words, size_t words_length, uint32_t code)
+{
+    return reply_of(gamulisyan_lookup(rows, rows_length, words, words_length, code));
+}
+
 struct second_part archive_payload(uint32_t edition, const uint8_t *input, size_t length)
 {
     struct gamulisyan_part part = gamulisyan_payload(edition, input, length);

@@ -10,3 +10,4 @@
 #define second_number_encode archive_number_encode
 #define second_date_decode archive_date_decode
 #define second_date_encode archive_date_encode
+#define second_lookup archive_lookup

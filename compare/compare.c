@@ -3,6 +3,7 @@
 #include "both.h"
 #include "damage.h"
 #include "generate.h"
+#include "lookup.h"
 #include "present.h"
 #include "tables.h"
 #include "words.h"
@@ -177,6 +178,7 @@ static void check_header(struct source *source, struct tally *tally, uint32_t ed
         check_present(source, tally, edition, table, read.rows, header->bytes, header->length);
     check_tables(source, tally, edition, header, read);
     check_crowd(source, tally, edition, header, read.rows);
+    check_lookups(source, tally, table, read.rows);
     both_read(tally, edition, header->bytes, header->length, read.rows * ROW_NUMBERS - random_below(source, 5) % (read.rows * ROW_NUMBERS), NULL);
 }
 
@@ -257,6 +259,7 @@ int main(int count, char **arguments)
             check_header(&source, &tally, edition, &header);
         }
         check_values(&source, &tally);
+        check_any_lookup(&source, &tally);
     }
     printf("%lu passed, %lu failed\n", tally.passed, tally.failed);
     return tally.failed == 0 ? 0 : 1;

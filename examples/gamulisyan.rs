@@ -1,4 +1,4 @@
-//! The archive's eleven entries for Rust, as `include/gamulisyan.h` declares them, and `read`, `read_tolerant`, `write`, `present` and others over slices.
+//! The archive's twelve entries for Rust, as `include/gamulisyan.h` declares them, and `read`, `read_tolerant`, `write`, `present` and others over slices.
 //! Copy this file; docs/RUST.md says how to link it.
 #![allow(dead_code)]
 
@@ -112,6 +112,7 @@ extern "C" {
         pool_length: usize,
         code: u32,
     ) -> Answer;
+    pub fn gamulisyan_lookup(rows: *const u32, numbers: usize, words: *const u32, word_count: usize, code: u32) -> Answer;
     pub fn gamulisyan_payload(edition: u32, input: *const u8, length: usize) -> Part;
     pub fn gamulisyan_number_decode(bytes: *const u8, length: usize) -> Number;
     pub fn gamulisyan_number_encode(value: u64, output: *mut u8, length: usize) -> Coded;
@@ -225,6 +226,15 @@ pub fn version() -> [u32; 3] {
     [number / 1_000_000, number / 1000 % 1000, number % 1000]
 }
 
+/// The row of a parameter's first value by hops, none if there is none, and how many rows were looked at; or the refusal.
+pub fn lookup(rows: &[Row], words: &[u32], code: u32) -> Result<(Option<usize>, usize), Answer> {
+    let found = unsafe { gamulisyan_lookup(rows.as_ptr().cast(), rows.len() * ROW_NUMBERS, words.as_ptr(), words.len(), code) };
+    match found.answer {
+        ACCEPTED => Ok(((found.place < rows.len()).then_some(found.place), found.rows)),
+        _ => Err(found),
+    }
+}
+
 #[cfg(test)]
 mod tests {
     use super::*;
@@ -278,6 +288,14 @@ mod tests {
         assert_eq!(present(EDITION_D, &rows, &M, PARAMETER_TO), Ok(None));
         assert_eq!(present(EDITION_D, &rows, &M, 0), Err(Answer { answer: PARAMETER_UNKNOWN, place: 0, rows: 0 }));
         assert_eq!(present(EDITION_D, &rows[..2], &M, PARAMETER_TO), Err(Answer { answer: 15, place: 2, rows: 0 }));
+    }
+
+    #[test]
+    fn looks_up_by_hops() {
+        let Header { rows, words, .. } = read(EDITION_B, &M).unwrap();
+        assert_eq!(lookup(&rows, &words, PARAMETER_DATE), Ok((Some(2), 3)));
+        assert_eq!(lookup(&rows, &words, PARAMETER_TO), Ok((None, 1)));
+        assert_eq!(lookup(&rows, &words[..15], PARAMETER_TO), Err(Answer { answer: ROWS_SHORT, place: 0, rows: 0 }));
     }
 
     #[test]

@@ -8,7 +8,8 @@
        cc -std=c11 -O2 -I include -o gateway examples/gateway.c target/staticlib/libgamulisyan.a
 
    A line for each envelope, as a monitor prints it: how many different parameters it has, and which. A line for each agent of `to` and of
-   the intended receiver, as they are now: the list, the name, the addresses. Then the bytes of the header and of the payload. Fields are
+   the intended receiver, as they are now: the list, the name, the addresses. A line for the payload's
+   encoding, if it has one, and how many rows were looked at for it. Then the bytes of the header and of the payload. Fields are
    parted by tabs, which no name and no address holds.
    Status: 0 if all went well; 1 for a header that is refused; 2 for wrong use, a file that cannot be read, no memory. */
 #include "gamulisyan.h"
@@ -184,6 +185,17 @@ static void print_words(const uint32_t *rows, size_t count, const uint32_t *word
         print_word(*words++);
 }
 
+/* By hops, with the words of the same reading: envelopes without the parameter are left out, and lists are not walked through. */
+static void print_encoding(struct bytes input, const uint32_t *rows, size_t count, const uint32_t *words)
+{
+    struct gamulisyan_answer found =
+        gamulisyan_lookup(rows, count * GAMULISYAN_ROW_NUMBERS, words, GAMULISYAN_WORDS, GAMULISYAN_PARAMETER_PAYLOAD_ENCODING);
+    if (found.answer != GAMULISYAN_ACCEPTED || found.place == count)
+        return;
+    struct row row = row_at(rows, found.place);
+    printf("payload encoding\t%.*s\tin %zu looks\n", (int)row.length, (const char *)input.at + row.start, found.rows);
+}
+
 static int say_refusal(const char *call, struct gamulisyan_answer answer)
 {
     fprintf(stderr, "gateway: %s refused with %u at %zu\n", call, (unsigned)answer.answer, answer.place);
@@ -224,6 +236,7 @@ static int pass_on(uint32_t edition, struct bytes input)
     if (read.answer == GAMULISYAN_ACCEPTED) {
         print_words(rows, read.rows, words);
         print_receivers(edition, input, rows, read.rows);
+        print_encoding(input, rows, read.rows, words);
         status = write_again(edition, input, rows, read);
     } else {
         status = say_refusal("reading", read);

@@ -4,7 +4,7 @@
 
 mod gamulisyan;
 
-use gamulisyan::{Answer, Header, Row, EDITION_B, EDITION_D, LENGTH_FORM_WIDE, PARAMETER_RECEIVER, PARAMETER_TO};
+use gamulisyan::{Answer, Header, Row, EDITION_B, EDITION_D, LENGTH_FORM_WIDE, PARAMETER_PAYLOAD_ENCODING, PARAMETER_RECEIVER, PARAMETER_TO};
 use std::io::{Read, Write};
 use std::process::ExitCode;
 
@@ -89,6 +89,15 @@ fn receivers(edition: u32, input: &[u8], rows: &[Row], lines: &mut Vec<u8>) {
     present(edition, input, rows, PARAMETER_RECEIVER, "intended receiver", lines);
 }
 
+/// By hops, with the words of the same reading: envelopes without the parameter are left out, and lists are not walked through.
+fn encoding(input: &[u8], header: &Header, lines: &mut Vec<u8>) {
+    if let Ok((Some(place), looked)) = gamulisyan::lookup(&header.rows, &header.words, PARAMETER_PAYLOAD_ENCODING) {
+        lines.extend_from_slice(b"payload encoding");
+        put_text(input, header.rows[place], lines);
+        lines.extend(format!("\tin {looked} looks\n").bytes());
+    }
+}
+
 fn say_refusal(call: &str, refusal: Answer) -> ExitCode {
     eprintln!("gateway: {call} refused with {} at {}", refusal.answer, refusal.place);
     ExitCode::from(1)
@@ -120,6 +129,7 @@ fn pass_on(edition: u32, input: &[u8]) -> ExitCode {
     let same = output[..written] == input[..length];
     lines.extend(parameters(&header));
     receivers(edition, input, &header.rows, &mut lines);
+    encoding(input, &header, &mut lines);
     let verdict = if same { "the same".to_string() } else { format!("in {written}") };
     let payload = input.len() - length;
     lines.extend(format!("header {length} bytes, written again {verdict}\npayload {payload} bytes\n").bytes());

@@ -98,8 +98,8 @@ enum {
 
 struct gamulisyan_answer {
     uint32_t answer;
-    size_t place; /* the header's length if accepted, of gamulisyan_present the row; else as document 01's table says */
-    size_t rows;  /* rows read, written or asked about; rows needed for 14; else 0 */
+    size_t place; /* the header's length if accepted, of gamulisyan_present and gamulisyan_lookup the row; else as document 01's table says */
+    size_t rows;  /* rows read, written, asked about or looked at; rows needed for 14 of a reader; else 0 */
 };
 
 /* A part of the input: its first place, and the place behind its last byte. */
@@ -187,6 +187,16 @@ struct gamulisyan_answer gamulisyan_write(uint32_t edition, const uint32_t *rows
    no envelope has one, so for _ENCRYPTED in edition D. Refuses in this order: 1; 17 at 0 for another code; then with 15 and 5 what gamulisyan_write
    refuses of the rows, at the same place. Changes no memory. */
 struct gamulisyan_answer gamulisyan_present(uint32_t edition, const uint32_t *rows, size_t numbers, const uint8_t *pool, size_t pool_length, uint32_t code);
+
+/* Takes rows, `numbers` again counting uint32_t, a word for each of their first sixteen envelopes, and a code: 02 to 0B, or 20 for the
+   base's own date. Hops from row 0 by skip numbers, leaves out envelopes whose word lacks the code (for 20 all extensions), and stops
+   at the first row of a kind that the code asks for. Answers 0, that row, or the row count for none, and in `rows` how many rows were
+   looked at; or a refusal, and 0 there: 17 at 0 for another code; 14 at 0 for fewer than sixteen words; 15 at the count of whole rows if
+   the numbers are not whole rows; 15 at the first row looked at whose skip number is not above its own number or passes the row count.
+   Takes any rows and words, and always ends; on rows that gamulisyan_write accepts, lent with their own words, it is the present value,
+   and at most sixteen rows more are looked at than stand at level 0. An envelope past the sixteenth has no word and lacks no code but
+   20, if it is an extension. Changes no memory. */
+struct gamulisyan_answer gamulisyan_lookup(const uint32_t *rows, size_t numbers, const uint32_t *words, size_t word_count, uint32_t code);
 
 /* Takes an input. Answers where its payload lies: from behind the header up to the input's end, or from 0 to 0 if the header is
    refused. Changes no memory; 14 cannot arise. */

@@ -31,6 +31,7 @@ int main(void)
     run_listing(&bench);
     run_words(&bench);
     run_present(&bench);
+    run_lookup(&bench);
     printf("%u passed, %u failed\n", bench.passed, bench.failed);
     return bench.failed == 0 ? 0 : 1;
 }

@@ -30,5 +30,6 @@ void run_values(struct bench *bench);
 void run_listing(struct bench *bench);
 void run_words(struct bench *bench);
 void run_present(struct bench *bench);
+void run_lookup(struct bench *bench);
 
 #endif

@@ -57,6 +57,9 @@ struct second_reply second_write(uint32_t edition, const uint32_t *rows, size_t 
 struct second_reply second_present(uint32_t edition, const uint32_t *rows, size_t rows_length, const uint8_t *pool, size_t pool_length,
                                    uint32_t code);
 
+/* Order 8: the row found, or the row count, as place; the rows looked at. */
+struct second_reply second_lookup(const uint32_t *rows, size_t rows_length, const uint32_t *words, size_t words_length, uint32_t code);
+
 /* The empty part at the front if the header is refused. */
 struct second_part second_payload(uint32_t edition, const uint8_t *input, size_t length);
 

@@ -1,5 +1,5 @@
-/* Runs the recorded cases of one folder: read.tsv, write.tsv, number.tsv, date.tsv, days.tsv, breaks.tsv, tolerant.tsv, skips.tsv, words.tsv
-   and present.tsv. Each case is given its own lent
+/* Runs the recorded cases of one folder: read.tsv, write.tsv, number.tsv, date.tsv, days.tsv, breaks.tsv, tolerant.tsv, skips.tsv, words.tsv,
+   present.tsv and lookup.tsv. Each case is given its own lent
    memory between guards, and the whole of it is compared afterwards. */
 #include "second.h"
 
@@ -378,6 +378,24 @@ static bool check_present(const struct fields *fields, struct bench *bench)
     return false;
 }
 
+/* rows, words, code; answer, row or place, rows looked at */
+static bool check_lookup(const struct fields *fields, struct bench *bench)
+{
+    size_t rows_bytes = list_bytes(fields->text[0], bench->given);
+    const uint32_t *rows = as_rows(lend_copy(&bench->source, bench->given, rows_bytes));
+    size_t words_bytes = list_bytes(fields->text[1], bench->expected);
+    const uint32_t *words = as_rows(lend_copy(&bench->pool, bench->expected, words_bytes));
+    uint32_t code = (uint32_t)number(fields->text[2]);
+    struct second_reply got = second_lookup(rows, rows_bytes / sizeof *rows, words, words_bytes / sizeof *words, code);
+    if (got.answer == number(fields->text[3]) && got.place == number(fields->text[4]) && got.rows == number(fields->text[5])
+        && holds_only(&bench->source, bench->given, rows_bytes) && holds_only(&bench->pool, bench->expected, words_bytes))
+        return true;
+    printf("  got %" PRIu32 "\t%" PRIu64 "\t%" PRIu64, got.answer, got.place, got.rows);
+    print_lent(&bench->source);
+    print_lent(&bench->pool);
+    return false;
+}
+
 struct tally {
     unsigned passed;
     unsigned failed;
@@ -416,6 +434,7 @@ int main(int count, char **arguments)
     check_file(arguments[1], "skips.tsv", check_named, &bench, &tally);
     check_file(arguments[1], "words.tsv", check_words, &bench, &tally);
     check_file(arguments[1], "present.tsv", check_present, &bench, &tally);
+    check_file(arguments[1], "lookup.tsv", check_lookup, &bench, &tally);
     printf("%u passed, %u failed\n", tally.passed, tally.failed);
     return tally.failed == 0 ? 0 : 1;
 }

@@ -6,5 +6,6 @@ pub mod Tolerant
 pub mod Walks
 pub mod Presence
 pub mod Present
+pub mod Lookup
 pub mod Coders
 pub mod Premises

@@ -4,6 +4,7 @@ ghost use Rattle.meaning.specs.Words.{onesOf};
 ghost use Rattle.reader.specs.Promises.{ReadPromise, TolerantPromise, PartPromise};
 ghost use Rattle.writer.specs.Promise.{WritePromise};
 ghost use Rattle.present.specs.Promise.{PresentPromise};
+ghost use Rattle.lookup.specs.Promise.{LookupPromise};
 ghost use Rattle.coders.specs.Plain.{NumberDecodes, NumberEncodes, DateDecodes, DateEncodes, plainOf};
 ghost use Rattle.gamulisyan.specs.Version.{version};
 ghost use mathlib.Core.Path.{_≡_};
@@ -69,6 +70,13 @@ pub extern "C" fn gamulisyan_present(edition: u32, rows: &[u32], pool: &[u8], co
     ensures { λ r. ⌜ PresentPromise edition (now (rows .entry)) (now (pool .entry)) code r ⌝ }
 {
     present::present(edition, rows, pool, code)
+}
+
+#[no_mangle]
+pub extern "C" fn gamulisyan_lookup(rows: &[u32], words: &[u32], code: u32) -> Reply
+    ensures { λ r. ⌜ LookupPromise (now (rows .entry)) (now (words .entry)) code r ⌝ }
+{
+    lookup::lookup(rows, words, code)
 }
 
 #[no_mangle]

@@ -51,8 +51,14 @@ pub mod PlainDates
 pub mod Standing
 pub mod Ties
 pub mod Walks
+pub mod Levels
+pub mod Ranked
+pub mod Lacking
+pub mod PassedOver
+pub mod Looking
 pub mod Demands
 pub mod PresentValues
 pub mod Tolerant
 pub mod Notes
 pub mod Days
+pub mod LookedUp

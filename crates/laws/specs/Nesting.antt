@@ -43,7 +43,7 @@ value-is {A} c h f g = at (eqb c 20) (eqb c 21) refl refl h
     at false false p q r = false-not r
 
 -- what a row has beside it is above an envelope's kind; beside an agent's own rows, above an agent's
-above : (least b c : ℕ) → (b ≡ 1 → least ≤ 2) → (b ≡ 2 → least ≤ 2) → (b ≡ 15 → least ≤ 15) → least ≤ 16 → beside b c ≡ true → least < c
+pub above : (least b c : ℕ) → (b ≡ 1 → least ≤ 2) → (b ≡ 2 → least ≤ 2) → (b ≡ 15 → least ≤ 15) → least ≤ 16 → beside b c ≡ true → least < c
 above least b c h₁ h₂ h₁₅ h =
     by-beside (λ f. f c ≡ true → least < c) b (λ q i. let x = ltb-true 2 c i in let y = h₁ q in omega arith) (λ q i. let x = ltb-true 2 c i in let y = h₂ q in omega arith)
     (λ q i. let x = ltb-true 15 c i in let y = h₁₅ q in omega arith) (λ q i. let x = eqb-true c 17 i in omega arith) (λ q i. value-is c i (λ x. omega arith) (λ x. omega arith)) (λ q i. value-is c i (λ x. omega arith) (λ x. omega arith))
@@ -70,7 +70,7 @@ kinds-nest a b c =
 none-deeper : (k b : ℕ) → holdsDeeper k ≡ false → b ≡ k → holdsDeeper b ≡ true → ⊥
 none-deeper k b n q h = false-not (sym n ∙ ap holdsDeeper (sym q) ∙ h)
 
-deeper-nests : (a b : ℕ) → beside a b ≡ true → holdsDeeper b ≡ true → holdsDeeper a ≡ true
+pub deeper-nests : (a b : ℕ) → beside a b ≡ true → holdsDeeper b ≡ true → holdsDeeper a ≡ true
 deeper-nests a b =
     by-beside (λ f. f b ≡ true → holdsDeeper b ≡ true → holdsDeeper a ≡ true) a (λ q i h. ap holdsDeeper q) (λ q i h. ap holdsDeeper q) (λ q i h. ap holdsDeeper q)
     (λ q i h. absurd (none-deeper 17 b refl (eqb-true b 17 i) h))

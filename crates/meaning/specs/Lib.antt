@@ -12,6 +12,7 @@ pub mod Headers
 pub mod Writing
 pub mod Memory
 pub mod Present
+pub mod Lookup
 pub mod Payload
 pub mod Plain
 pub mod Listing
@@ -26,4 +27,5 @@ pub mod Widths
 pub mod Hops
 pub mod Presence
 pub mod Asking
+pub mod Lookings
 pub mod Bounds
