@@ -13,6 +13,7 @@ pub mod Writing
 pub mod Memory
 pub mod Present
 pub mod Lookup
+pub mod Which
 pub mod Payload
 pub mod Plain
 pub mod Listing
