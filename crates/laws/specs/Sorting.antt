@@ -7,15 +7,16 @@ use mathlib.Core.Logic.{_⊎_, inl, inr}
 use mathlib.Core.Path.{_≡_, refl, ap, sym, _∙_}
 use native.Mathlib.Omega.{arith}
 use lib.Dec.{T}
+use Rattle.meaning.specs.Basics.{every}
 use Rattle.meaning.specs.Told.{Edition, B, D, strict, told}
 use Rattle.meaning.specs.Headers.{Placed, meant, Answer, refused, accepted, envelopesMost, header, read}
-use Rattle.meaning.specs.Writing.{written}
-use Rattle.meaning.specs.Memory.{write}
+use Rattle.meaning.specs.Writing.{cell, written}
+use Rattle.meaning.specs.Memory.{tableOf, cellsOf, write}
 use Rattle.meaning.specs.Which.{allowing, either, editionsOf, readEither}
 use Rattle.laws.specs.Logic.{areBytes}
 use Rattle.laws.specs.PlainRows.{other, allPlain}
 use Rattle.laws.specs.Envelopes.{RefusesHeader}
-use Rattle.laws.specs.Ties.{numberOf, read-known}
+use Rattle.laws.specs.Ties.{numberOf, plainCell, plainTable, plain-cells, read-known, whole-of, cells-placed}
 use Rattle.laws.specs.BothEditions.{OtherReads, other-reads}
 use Rattle.laws.specs.Demands.{written-then-read}
 
@@ -82,3 +83,19 @@ pub written-named : (e : Edition) (rows pool : List ℕ) (room : ℕ) (bytes : L
 written-named e rows pool room bytes t q payload =
     let (found, is, means) = written-then-read (numberOf e) rows pool room bytes t q payload in
     allowed-named e (bytes ++ payload) is
+
+-- .. of the table in memory, which views the input
+pub three-if-plain-table : (e : Edition) (input : List ℕ) (place : ℕ) (rows : List Placed) → T (areBytes input) → read (numberOf e) input ≡ accepted place rows
+    → ((plainTable (tableOf rows) input ≡ true) × (editionsOf input ≡ 3)) ⊎ ((plainTable (tableOf rows) input ≡ false) × (editionsOf input ≡ numberOf e))
+three-if-plain-table e input place rows t q = at (three-if-plain e input place rows t q)
+  where
+    same : plainTable (tableOf rows) input ≡ allPlain (map meant rows)
+    same =
+        let w = whole-of (told e) input place rows t (sym (read-known strict e input) ∙ q) in
+        let cells : cellsOf input (tableOf rows) ≡ map cell (map meant rows) = ap (λ (x : List ℕ). cellsOf x (tableOf rows)) (w .parts) ∙ cells-placed (w .bytes) (w .payload) rows (w .views) in
+        ap (every plainCell) cells ∙ plain-cells (map meant rows)
+
+    at : ((allPlain (map meant rows) ≡ true) × (editionsOf input ≡ 3)) ⊎ ((allPlain (map meant rows) ≡ false) × (editionsOf input ≡ numberOf e))
+        → ((plainTable (tableOf rows) input ≡ true) × (editionsOf input ≡ 3)) ⊎ ((plainTable (tableOf rows) input ≡ false) × (editionsOf input ≡ numberOf e))
+    at (inl (p, x)) = inl (same ∙ p, x)
+    at (inr (p, x)) = inr (same ∙ p, x)

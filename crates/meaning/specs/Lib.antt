@@ -29,4 +29,5 @@ pub mod Hops
 pub mod Presence
 pub mod Asking
 pub mod Lookings
+pub mod Sortings
 pub mod Bounds
