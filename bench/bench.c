@@ -3,7 +3,7 @@
                                        both programs checked
      bench once INPUT PROGRAM CALL     the call once for each header of the input, for whoever counts instructions from outside
      bench time INPUT CALL             nanoseconds of the processor for a header, the archive's and the second program's
-   PROGRAM is archive or second, CALL is read, write, present or lookup (both of code 06, which stands behind
+   PROGRAM is archive or second, CALL is read, which, write, present or lookup (these two of code 06, which stands behind
    every list, or nowhere). Whatever is measured is checked: every call must be accepted, and rows
    and bytes must be the other program's. */
 #define _POSIX_C_SOURCE 200809L
@@ -22,7 +22,7 @@ enum { EDITION = GAMULISYAN_EDITION_D, ROW = GAMULISYAN_ROW_NUMBERS, MOST_NUMBER
 /* Nanoseconds: of one batch, and of all of them. */
 enum { BATCH = 1000000, LONG_ENOUGH = 2000000000 };
 
-enum call { READ, WRITE, PRESENT, LOOKUP };
+enum call { READ, WHICH, WRITE, PRESENT, LOOKUP };
 
 typedef struct second_reply reading(uint32_t, const uint8_t *, size_t, uint32_t *, size_t, uint32_t *, size_t);
 typedef struct second_reply writing(uint32_t, const uint32_t *, size_t, const uint8_t *, size_t, uint8_t *, size_t);
@@ -31,9 +31,12 @@ typedef struct second_reply presenting(uint32_t, const uint32_t *, size_t, const
 
 typedef struct second_reply looking(const uint32_t *, size_t, const uint32_t *, size_t, uint32_t);
 
+typedef struct second_sorted sorting(const uint8_t *, size_t, uint32_t *, size_t, uint32_t *, size_t);
+
 struct program {
     const char *name;
     reading *read;
+    sorting *which;
     writing *write;
     presenting *present;
     looking *lookup;
@@ -78,8 +81,14 @@ static struct second_reply archive_lookup(const uint32_t *rows, size_t numbers, 
     return (struct second_reply){found.answer, found.place, found.rows};
 }
 
-static const struct program archive = {"archive", archive_read, archive_write, archive_present, archive_lookup};
-static const struct program second = {"second", second_read, second_write, second_present, second_lookup};
+static struct second_sorted archive_which(const uint8_t *input, size_t length, uint32_t *rows, size_t numbers, uint32_t *words, size_t word_count)
+{
+    struct gamulisyan_sorted sorted = gamulisyan_which(input, length, rows, numbers, words, word_count);
+    return (struct second_sorted){{sorted.answer, sorted.place, sorted.rows}, sorted.editions};
+}
+
+static const struct program archive = {"archive", archive_read, archive_which, archive_write, archive_present, archive_lookup};
+static const struct program second = {"second", second_read, second_which, second_write, second_present, second_lookup};
 
 static const uint8_t *header_at(size_t number)
 {
@@ -112,6 +121,11 @@ static void require(int holds, const char *program, const char *call, size_t num
 static struct second_reply read_one(const struct program *program, size_t number)
 {
     return program->read(EDITION, header_at(number), header_length(number), lent_rows, MOST_NUMBERS, lent_words, GAMULISYAN_WORDS);
+}
+
+static struct second_sorted which_one(const struct program *program, size_t number)
+{
+    return program->which(header_at(number), header_length(number), lent_rows, MOST_NUMBERS, lent_words, GAMULISYAN_WORDS);
 }
 
 static struct second_reply write_one(const struct program *program, size_t number)
@@ -161,6 +175,17 @@ static void check_reading(const struct program *program)
     }
 }
 
+/* The same without a label; edition D, in which all inputs are made, is one that allows them. */
+static void check_sorting(const struct program *program)
+{
+    for (size_t number = 0; number < headers.count; number++) {
+        struct second_sorted sorted = which_one(program, number);
+        require(is_whole(sorted.reply, number) && (sorted.editions & EDITION) != 0 && sorted.reply.rows * ROW == table_length(number)
+                    && memcmp(lent_rows, table_at(number), table_length(number) * sizeof *lent_rows) == 0,
+                program->name, "which", number);
+    }
+}
+
 static void check_writing(const struct program *program)
 {
     for (size_t number = 0; number < headers.count; number++) {
@@ -206,6 +231,8 @@ static void check_both(void)
 {
     fill_tables(&archive);
     check_reading(&second);
+    check_sorting(&archive);
+    check_sorting(&second);
     check_writing(&archive);
     check_writing(&second);
     check_presenting(&archive, &second);
@@ -228,6 +255,8 @@ static void call_all(const struct program *program, enum call call)
     for (size_t number = 0; number < headers.count; number++)
         if (call == READ)
             read_one(program, number);
+        else if (call == WHICH)
+            which_one(program, number);
         else if (call == WRITE)
             write_one(program, number);
         else if (call == PRESENT)
@@ -274,7 +303,11 @@ static void print_times(enum call call)
 
 static enum call call_named(const char *name)
 {
-    return strcmp(name, "read") == 0 ? READ : strcmp(name, "write") == 0 ? WRITE : strcmp(name, "present") == 0 ? PRESENT : LOOKUP;
+    static const char *const names[] = {"read", "which", "write", "present"};
+    enum call call = READ;
+    while (call < LOOKUP && strcmp(name, names[call]) != 0)
+        call++;
+    return call;
 }
 
 static void call_once(const char *name, enum call call)
@@ -285,6 +318,8 @@ static void call_once(const char *name, enum call call)
     fill_tables(other);
     if (call == READ)
         check_reading(program);
+    else if (call == WHICH)
+        check_sorting(program);
     else if (call == WRITE)
         check_writing(program);
     else if (call == PRESENT)

@@ -42,6 +42,12 @@ struct second_reply archive_lookup(const uint32_t *rows, size_t rows_length, con
     return reply_of(gamulisyan_lookup(rows, rows_length, words, words_length, code));
 }
 
+struct second_sorted archive_which(const uint8_t *input, size_t length, uint32_t *rows, size_t rows_length, uint32_t *words, size_t words_length)
+{
+    struct gamulisyan_sorted sorted = gamulisyan_which(input, length, rows, rows_length, words, words_length);
+    return (struct second_sorted){{sorted.answer, sorted.place, sorted.rows}, sorted.editions};
+}
+
 struct second_part archive_payload(uint32_t edition, const uint8_t *input, size_t length)
 {
     struct gamulisyan_part part = gamulisyan_payload(edition, input, length);

@@ -11,3 +11,4 @@
 #define second_date_decode archive_date_decode
 #define second_date_encode archive_date_encode
 #define second_lookup archive_lookup
+#define second_which archive_which

@@ -6,6 +6,7 @@
 #include "lookup.h"
 #include "present.h"
 #include "tables.h"
+#include "which.h"
 #include "words.h"
 
 #include <inttypes.h>
@@ -171,6 +172,8 @@ static void check_header(struct source *source, struct tally *tally, uint32_t ed
         both_read(tally, label, header->bytes, header->length, numbers, NULL);
         both_read_tolerant(tally, label, header->bytes, header->length, numbers, NULL);
     }
+    if (random_once_in(source, 2))
+        check_which(source, tally, header);
     if (read.answer != ACCEPTED)
         return;
     check_demands(tally, edition, header, read);

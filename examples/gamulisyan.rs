@@ -1,4 +1,4 @@
-//! The archive's twelve entries for Rust, as `include/gamulisyan.h` declares them, and `read`, `read_tolerant`, `write`, `present` and others over slices.
+//! The archive's thirteen entries for Rust, as `include/gamulisyan.h` declares them, and `read`, `read_tolerant`, `write`, `present` and others over slices.
 //! Copy this file; docs/RUST.md says how to link it.
 #![allow(dead_code)]
 
@@ -74,6 +74,16 @@ pub struct Dated {
     pub date: Date,
 }
 
+#[repr(C)]
+#[derive(Clone, Copy, Debug, PartialEq, Eq)]
+pub struct Sorted {
+    pub answer: u32,
+    pub place: usize,
+    pub rows: usize,
+    /// 1, 2, or 3 for both; 0 if refused.
+    pub editions: u32,
+}
+
 #[link(name = "gamulisyan", kind = "static")]
 extern "C" {
     pub fn gamulisyan_read(
@@ -94,6 +104,14 @@ extern "C" {
         words: *mut u32,
         word_count: usize,
     ) -> Answer;
+    pub fn gamulisyan_which(
+        input: *const u8,
+        length: usize,
+        rows: *mut u32,
+        numbers: usize,
+        words: *mut u32,
+        word_count: usize,
+    ) -> Sorted;
     pub fn gamulisyan_ones(word: u32) -> u32;
     pub fn gamulisyan_write(
         edition: u32,
@@ -235,6 +253,27 @@ pub fn lookup(rows: &[Row], words: &[u32], code: u32) -> Result<(Option<usize>, 
     }
 }
 
+/// The header at the front of `input`, which has no label, and the editions that allow it: 1, 2, or 3 for both; or the refusal.
+pub fn which(input: &[u8]) -> Result<(Header, u32), Answer> {
+    let mut rows = vec![[0; ROW_NUMBERS]; USUAL_ROWS];
+    let mut words = [0; WORDS];
+    let mut sorted = which_into(input, &mut rows, &mut words);
+    if sorted.answer == ROWS_SHORT {
+        rows.resize(sorted.rows, [0; ROW_NUMBERS]);
+        sorted = which_into(input, &mut rows, &mut words);
+    }
+    if sorted.answer != ACCEPTED {
+        return Err(Answer { answer: sorted.answer, place: sorted.place, rows: sorted.rows });
+    }
+    rows.truncate(sorted.rows);
+    Ok((Header { rows, words, length: sorted.place }, sorted.editions))
+}
+
+fn which_into(input: &[u8], rows: &mut [Row], words: &mut [u32; WORDS]) -> Sorted {
+    let numbers = rows.len() * ROW_NUMBERS;
+    unsafe { gamulisyan_which(input.as_ptr(), input.len(), rows.as_mut_ptr().cast(), numbers, words.as_mut_ptr(), words.len()) }
+}
+
 #[cfg(test)]
 mod tests {
     use super::*;
@@ -296,6 +335,16 @@ mod tests {
         assert_eq!(lookup(&rows, &words, PARAMETER_DATE), Ok((Some(2), 3)));
         assert_eq!(lookup(&rows, &words, PARAMETER_TO), Ok((None, 1)));
         assert_eq!(lookup(&rows, &words[..15], PARAMETER_TO), Err(Answer { answer: ROWS_SHORT, place: 0, rows: 0 }));
+    }
+
+    #[test]
+    fn says_which_edition() {
+        let (header, editions) = which(&M).unwrap();
+        assert_eq!((header, editions), (read(EDITION_B, &M).unwrap(), 3));
+        let mut backward = M;
+        backward[4] = 0x22;
+        assert_eq!(which(&backward).unwrap().1, EDITION_D);
+        assert_eq!(which(&M[..14]), Err(Answer { answer: 2, place: 14, rows: 0 }));
     }
 
     #[test]

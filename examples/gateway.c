@@ -7,7 +7,7 @@
        rt staticlib gamulisyan
        cc -std=c11 -O2 -I include -o gateway examples/gateway.c target/staticlib/libgamulisyan.a
 
-   A line for each envelope, as a monitor prints it: how many different parameters it has, and which. A line for each agent of `to` and of
+   A line for the editions that allow the header. A line for each envelope, as a monitor prints it: how many different parameters it has, and which. A line for each agent of `to` and of
    the intended receiver, as they are now: the list, the name, the addresses. A line for the payload's
    encoding, if it has one, and how many rows were looked at for it. Then the bytes of the header and of the payload. Fields are
    parted by tabs, which no name and no address holds.
@@ -185,6 +185,18 @@ static void print_words(const uint32_t *rows, size_t count, const uint32_t *word
         print_word(*words++);
 }
 
+/* As if it had come without a label: the editions that allow it. A header that is only read tolerantly has none. */
+static void print_editions(struct bytes input, size_t count)
+{
+    uint32_t *rows = room_for(NULL, count * GAMULISYAN_ROW_NUMBERS * sizeof *rows);
+    uint32_t words[GAMULISYAN_WORDS];
+    struct gamulisyan_sorted sorted =
+        gamulisyan_which(input.at, input.length, rows, count * GAMULISYAN_ROW_NUMBERS, words, GAMULISYAN_WORDS);
+    free(rows);
+    if (sorted.answer == GAMULISYAN_ACCEPTED)
+        printf("allowed by%s%s\n", sorted.editions & GAMULISYAN_EDITION_B ? "\tb" : "", sorted.editions & GAMULISYAN_EDITION_D ? "\td" : "");
+}
+
 /* By hops, with the words of the same reading: envelopes without the parameter are left out, and lists are not walked through. */
 static void print_encoding(struct bytes input, const uint32_t *rows, size_t count, const uint32_t *words)
 {
@@ -234,6 +246,7 @@ static int pass_on(uint32_t edition, struct bytes input)
     struct gamulisyan_answer read = read_rows(edition, input, &rows, words);
     int status;
     if (read.answer == GAMULISYAN_ACCEPTED) {
+        print_editions(input, read.rows);
         print_words(rows, read.rows, words);
         print_receivers(edition, input, rows, read.rows);
         print_encoding(input, rows, read.rows, words);

@@ -127,6 +127,10 @@ fn pass_on(edition: u32, input: &[u8]) -> ExitCode {
         Err(refusal) => return say_refusal("writing", refusal),
     };
     let same = output[..written] == input[..length];
+    if let Ok((_, editions)) = gamulisyan::which(input) {
+        let allowed = ["", "\tb", "\td", "\tb\td"][editions as usize];
+        lines.extend(format!("allowed by{allowed}\n").bytes());
+    }
     lines.extend(parameters(&header));
     receivers(edition, input, &header.rows, &mut lines);
     encoding(input, &header, &mut lines);

@@ -38,7 +38,8 @@ enum {
     GAMULISYAN_PARAMETER_UNKNOWN = 17
 };
 
-enum { GAMULISYAN_EDITION_B = 1, GAMULISYAN_EDITION_D = 2 };
+/* Both stands in no call: it is what gamulisyan_which answers. */
+enum { GAMULISYAN_EDITION_B = 1, GAMULISYAN_EDITION_D = 2, GAMULISYAN_EDITION_BOTH = 3 };
 
 /* A row is five numbers: kind, level, start and length of its bytes in the input or pool, and skip: the row behind all that belongs to it.
    That is for an envelope the next envelope's row, or the row count; for another opening row, an agent's name or kind 8 the row behind its
@@ -100,6 +101,14 @@ struct gamulisyan_answer {
     uint32_t answer;
     size_t place; /* the header's length if accepted, of gamulisyan_present and gamulisyan_lookup the row; else as document 01's table says */
     size_t rows;  /* rows read, written, asked about or looked at; rows needed for 14 of a reader; else 0 */
+};
+
+/* The same, and the editions that allow the bytes: GAMULISYAN_EDITION_B, GAMULISYAN_EDITION_D, or GAMULISYAN_EDITION_BOTH; 0 if refused. */
+struct gamulisyan_sorted {
+    uint32_t answer;
+    size_t place;
+    size_t rows;
+    uint32_t editions;
 };
 
 /* A part of the input: its first place, and the place behind its last byte. */
@@ -173,6 +182,12 @@ struct gamulisyan_answer gamulisyan_read_tolerant(uint32_t edition, const uint8_
 /* Takes a presence word, or any other number. Answers how many of its bits are set: how many different parameter codes its envelope has.
    Changes no memory. */
 uint32_t gamulisyan_ones(uint32_t word);
+
+/* Takes an input without a label, and rows and words lent as gamulisyan_read does. Answers as gamulisyan_read does under an edition that
+   allows the bytes, and beside it which do; where both do, both give the same answer, rows and words. Refuses what neither allows with
+   edition 2's answer and place, and with 14 as gamulisyan_read does. Leaves rows and words as gamulisyan_read does, and after a refusal
+   nothing. */
+struct gamulisyan_sorted gamulisyan_which(const uint8_t *input, size_t length, uint32_t *rows, size_t numbers, uint32_t *words, size_t word_count);
 
 /* Takes rows, `numbers` again counting uint32_t, the pool whose bytes they view (for rows just read: their input) and an output
    lent. Answers 0, the bytes written and the rows; or a refusal, checked in this order: 1; 15 at the row that is wrong, and only where no row is wrong otherwise at the lowest with

@@ -32,6 +32,7 @@ int main(void)
     run_words(&bench);
     run_present(&bench);
     run_lookup(&bench);
+    run_which(&bench);
     printf("%u passed, %u failed\n", bench.passed, bench.failed);
     return bench.failed == 0 ? 0 : 1;
 }

@@ -31,5 +31,6 @@ void run_listing(struct bench *bench);
 void run_words(struct bench *bench);
 void run_present(struct bench *bench);
 void run_lookup(struct bench *bench);
+void run_which(struct bench *bench);
 
 #endif

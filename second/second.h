@@ -60,6 +60,14 @@ struct second_reply second_present(uint32_t edition, const uint32_t *rows, size_
 /* Order 8: the row found, or the row count, as place; the rows looked at. */
 struct second_reply second_lookup(const uint32_t *rows, size_t rows_length, const uint32_t *words, size_t words_length, uint32_t code);
 
+/* Order 9: what a reading answers, and the editions that allow the bytes; 0 for a refusal. */
+struct second_sorted {
+    struct second_reply reply;
+    uint32_t editions;
+};
+
+struct second_sorted second_which(const uint8_t *input, size_t length, uint32_t *rows, size_t rows_length, uint32_t *words, size_t words_length);
+
 /* The empty part at the front if the header is refused. */
 struct second_part second_payload(uint32_t edition, const uint8_t *input, size_t length);
 

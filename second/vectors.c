@@ -1,5 +1,5 @@
 /* Runs the recorded cases of one folder: read.tsv, write.tsv, number.tsv, date.tsv, days.tsv, breaks.tsv, tolerant.tsv, skips.tsv, words.tsv,
-   present.tsv and lookup.tsv. Each case is given its own lent
+   present.tsv, lookup.tsv and which.tsv. Each case is given its own lent
    memory between guards, and the whole of it is compared afterwards. */
 #include "second.h"
 
@@ -396,6 +396,27 @@ static bool check_lookup(const struct fields *fields, struct bench *bench)
     return false;
 }
 
+/* input, numbers lent, words lent; answer, place, rows, editions, rows themselves, the words of the envelopes */
+static bool check_which(const struct fields *fields, struct bench *bench)
+{
+    size_t length = hex_bytes(fields->text[0], bench->given);
+    uint8_t *input = lend_copy(&bench->source, bench->given, length);
+    size_t room = number(fields->text[1]);
+    size_t word_count = number(fields->text[2]);
+    uint32_t *rows = as_rows(lend(&bench->target, room * sizeof *rows));
+    uint32_t *words = as_rows(lend(&bench->words, word_count * sizeof *words));
+    struct second_sorted got = second_which(input, length, rows, room, words, word_count);
+    size_t expected = list_bytes(fields->text[7], bench->expected);
+    bool filled = holds_only(&bench->target, bench->expected, expected);
+    expected = list_bytes(fields->text[8], bench->expected);
+    if (got.reply.answer == number(fields->text[3]) && got.reply.place == number(fields->text[4]) && got.reply.rows == number(fields->text[5])
+        && got.editions == number(fields->text[6]) && filled && holds_only(&bench->words, bench->expected, expected)
+        && holds_only(&bench->source, bench->given, length))
+        return true;
+    printf("  got %" PRIu32 "\t%" PRIu64 "\t%" PRIu64 "\t%" PRIu32, got.reply.answer, got.reply.place, got.reply.rows, got.editions);
+    return false;
+}
+
 struct tally {
     unsigned passed;
     unsigned failed;
@@ -435,6 +456,7 @@ int main(int count, char **arguments)
     check_file(arguments[1], "words.tsv", check_words, &bench, &tally);
     check_file(arguments[1], "present.tsv", check_present, &bench, &tally);
     check_file(arguments[1], "lookup.tsv", check_lookup, &bench, &tally);
+    check_file(arguments[1], "which.tsv", check_which, &bench, &tally);
     printf("%u passed, %u failed\n", tally.passed, tally.failed);
     return tally.failed == 0 ? 0 : 1;
 }

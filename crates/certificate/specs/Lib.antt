@@ -7,5 +7,6 @@ pub mod Walks
 pub mod Presence
 pub mod Present
 pub mod Lookup
+pub mod Which
 pub mod Coders
 pub mod Premises

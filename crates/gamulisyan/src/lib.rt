@@ -5,6 +5,7 @@ ghost use Rattle.reader.specs.Promises.{ReadPromise, TolerantPromise, PartPromi
 ghost use Rattle.writer.specs.Promise.{WritePromise};
 ghost use Rattle.present.specs.Promise.{PresentPromise};
 ghost use Rattle.lookup.specs.Promise.{LookupPromise};
+ghost use Rattle.which.specs.Promise.{WhichPromise};
 ghost use Rattle.coders.specs.Plain.{NumberDecodes, NumberEncodes, DateDecodes, DateEncodes, plainOf};
 ghost use Rattle.gamulisyan.specs.Version.{version};
 ghost use mathlib.Core.Path.{_≡_};
@@ -14,6 +15,7 @@ use coders::decode::DecodedNumber;
 use coders::encode::Encoded;
 use reader::Part;
 use table::reply::Reply;
+use which::Sorted;
 
 #[no_mangle]
 pub extern "C" fn gamulisyan_read(
@@ -37,6 +39,13 @@ pub extern "C" fn gamulisyan_read_tolerant(
     ensures { λ r. ⌜ TolerantPromise edition (now (input .entry)) (now (rows .entry)) (now (words .entry)) r (now (rows .exit)) (now (words .exit)) ⌝ }
 {
     reader::read_tolerant(edition, input, rows, words)
+}
+
+#[no_mangle]
+pub extern "C" fn gamulisyan_which(input: &[u8], rows: &mut [u32], words: &mut [u32]) -> Sorted
+    ensures { λ r. ⌜ WhichPromise (now (input .entry)) (now (rows .entry)) (now (words .entry)) r (now (rows .exit)) (now (words .exit)) ⌝ }
+{
+    which::which(input, rows, words)
 }
 
 #[no_mangle]

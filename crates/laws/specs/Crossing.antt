@@ -10,13 +10,13 @@ use borrow.Author.Tests.{eqb-true}
 use Rattle.meaning.specs.Basics.{pick, every}
 use Rattle.meaning.specs.Told.{Edition, told}
 use Rattle.meaning.specs.Editions.{State, Move, noCode, moves}
-use Rattle.meaning.specs.Reading.{Row, seen, hasCode, look, withRows}
+use Rattle.meaning.specs.Reading.{Row, hasCode, look, withRows}
 use Rattle.meaning.specs.Writing.{writeValue, fits, fitRow, close}
 use Rattle.laws.specs.Logic.{either}
 use Rattle.laws.specs.Tables.{every-in}
 use Rattle.laws.specs.Steps.{rests, moves-on, inside-path}
 use Rattle.laws.specs.Fits.{fit-holds, close-holds}
-use Rattle.laws.specs.WrittenRead.{Reads, Closes, reads-end, reads-row, fitAll, then-inv, ReadsAll}
+use Rattle.laws.specs.WrittenRead.{seenBefore, Reads, Closes, reads-end, reads-row, fitAll, then-inv, ReadsAll}
 use Rattle.laws.specs.PlainRows.{Crosses, allPlain, alone, clashOk, isLost, isPlain, lowMove, other, row-crosses, step-quiet-other}
 use Rattle.laws.specs.Clashes.{Low, LowRoom, Refuses, fault-behind, foreign-refused}
 
@@ -53,7 +53,7 @@ low-all e (row ∷ rows) st st′ bs q f =
 
 -- The whole inside of an envelope
 
-closing-crosses : (e e′ : Edition) (st st′ : State) (bs : List ℕ) → close e st ≡ fits st′ bs → Closes (told e′) st bs st′
+pub closing-crosses : (e e′ : Edition) (st st′ : State) (bs : List ℕ) → close e st ≡ fits st′ bs → Closes (told e′) st bs st′
 closing-crosses e e′ =
     close-holds e (λ st st′ bs. Closes (told e′) st bs st′) (λ st h. (h, rests)) (λ st st′ m bs i q c. (c .0, moves-on (step-quiet-other e e′ st m bs i q) (c .1)))
 
@@ -62,8 +62,8 @@ CrossAll e rows st bs = ((allPlain rows ≡ true) × ReadsAll (told (other e)) s
 
 all-behind : (e : Edition) (row : Row) (rows : List Row) (st st₁ : State) (bs ds : List ℕ) → isPlain row ≡ true → Reads (told (other e)) st bs row st₁ ds → CrossAll e rows st₁ ds → CrossAll e (row ∷ rows) st bs
 all-behind e row rows st st₁ bs ds pl r (inl (a, rs)) = inl (rw (pl, a) refl, reads-row (told (other e)) row rows st st₁ bs ds r rs)
-all-behind e row rows st st₁ bs ds pl (left, p) (inr (a, (refusal, l, q, t))) =
-    inr (rw (pl, a) refl, (refusal, l, inside-path (told (other e)) p ∙ ap (withRows (seen (row .kind) (row .level) left (row .view) ∷ [])) q, t))
+all-behind e row rows st st₁ bs ds pl p (inr (a, (refusal, l, q, t))) =
+    inr (rw (pl, a) refl, (refusal, l, inside-path (told (other e)) p ∙ ap (withRows (seenBefore row ds ∷ [])) q, t))
 
 all-here : (e : Edition) (row : Row) (rows : List Row) (st st₁ : State) (bs ds : List ℕ) → Crosses e (other e) row st bs st₁ ds → CrossAll e rows st₁ ds → (LowRoom e (st₁ .room) → Low ds) → CrossAll e (row ∷ rows) st bs
 all-here e row rows st st₁ bs ds (inl (pl, r)) c k = all-behind e row rows st st₁ bs ds pl r c

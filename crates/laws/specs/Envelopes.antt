@@ -94,19 +94,20 @@ map-append (x ∷ xs) ys = ap (λ (l : List Row). meant x ∷ l) (map-append xs 
 abbrev pub ReadsHeader : ℕ → Told → ℕ → List ℕ → List Row → Type 0
 ReadsHeader n told at w table = (rows : List Placed) × ((payload : List ℕ) → header n told at (w ++ payload) ≡ accepted (at + length w) rows) × (map meant rows ≡ table)
 
-abbrev rowsOf : Bool → ℕ → ℕ → List Seen → List Placed
+abbrev pub rowsOf : Bool → ℕ → ℕ → List Seen → List Placed
 rowsOf b at n rs = placedRow (opening b) 0 at [] ∷ map (placed (at + n)) rs
+
+pub base-step : (n : ℕ) (told : Told) (at : ℕ) (bs payload : List ℕ) (rs : List Seen) → withinLimit (length bs) ≡ true → inside told (start true) bs ≡ done rs []
+    → header (suc n) told at (wrap true bs ++ payload) ≡ accepted (at + length (wrap true bs)) (rowsOf true at (envelopeSize (length bs)) rs)
+base-step n told at bs payload rs hi q = envelope-read n told true bs payload at hi ∙ rw (q, wrap-length true bs) refl
 
 base-read : (n : ℕ) (told : Told) (at : ℕ) (rows : List Row) (bs : List ℕ) → withinLimit (length bs) ≡ true → ReadsAll told (start true) bs rows → ReadsHeader (suc n) told at (wrap true bs) (openingRow true ∷ rows)
 base-read n told at rows bs hi (rs, q, m) =
-    let k = envelopeSize (length bs) in (
-      rowsOf true at k rs,
-      λ payload. envelope-read n told true bs payload at hi ∙ rw (q, wrap-length true bs) refl,
-      ap (λ (x : List Row). openingRow true ∷ x) (placed-meant (at + k) rs ∙ m),
-    )
+    let k = envelopeSize (length bs) in
+    (rowsOf true at k rs, λ payload. base-step n told at bs payload rs hi q, ap (λ (x : List Row). openingRow true ∷ x) (placed-meant (at + k) rs ∙ m))
 
 -- behind an extension the reader goes on
-extension-step : (n : ℕ) (told : Told) (at : ℕ) (bs rest : List ℕ) (rs : List Seen) → withinLimit (length bs) ≡ true → inside told (start false) bs ≡ done rs []
+pub extension-step : (n : ℕ) (told : Told) (at : ℕ) (bs rest : List ℕ) (rs : List Seen) → withinLimit (length bs) ≡ true → inside told (start false) bs ≡ done rs []
     → header (suc n) told at (wrap false bs ++ rest) ≡ behind (rowsOf false at (envelopeSize (length bs)) rs) (header n told (at + envelopeSize (length bs)) rest)
 extension-step n told at bs rest rs hi q = envelope-read n told false bs rest at hi ∙ rw q (twice (header n told (at + envelopeSize (length bs)) rest))
   where
@@ -149,10 +150,10 @@ opening-plain : (b : Bool) → isPlain (openingRow b) ≡ true
 opening-plain true = refl
 opening-plain false = refl
 
-plain-behind : (b : Bool) (rows : List Row) → allPlain (openingRow b ∷ rows) ≡ allPlain rows
+pub plain-behind : (b : Bool) (rows : List Row) → allPlain (openingRow b ∷ rows) ≡ allPlain rows
 plain-behind b rows = rw (opening-plain b) refl
 
-plain-append : (xs ys : List Row) → allPlain (xs ++ ys) ≡ allPlain xs && allPlain ys
+pub plain-append : (xs ys : List Row) → allPlain (xs ++ ys) ≡ allPlain xs && allPlain ys
 plain-append [] ys = refl
 plain-append (x ∷ xs) ys = at (isPlain x) (plain-append xs ys)
   where

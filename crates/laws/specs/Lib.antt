@@ -50,6 +50,7 @@ pub mod PlainNumbers
 pub mod PlainDates
 pub mod Standing
 pub mod Ties
+pub mod BothEditions
 pub mod Walks
 pub mod Levels
 pub mod Ranked
@@ -57,6 +58,7 @@ pub mod Lacking
 pub mod PassedOver
 pub mod Looking
 pub mod Demands
+pub mod Sorting
 pub mod PresentValues
 pub mod Tolerant
 pub mod Notes

@@ -214,7 +214,7 @@ pub step-quiet-other : (e e′ : Edition) (st : State) (m : Move) (s : List ℕ)
 step-quiet-other e e′ st m s i q = step-quiet (told e′) st m s (in-shared e′ (st .room) m (quiet-shared e (st .room) m q (in-moves e (st .room) m i))) q
 
 cross-after : (e e′ : Edition) (row : Row) (st st₁ st′ : State) (s s₁ rest : List ℕ) → step (told e′) st s ≡ next st₁ [] s₁ → Crosses e e′ row st₁ s₁ st′ rest → Crosses e e′ row st s st′ rest
-cross-after e e′ row st st₁ st′ s s₁ rest q (inl (a, (left, p))) = inl (a, (left, moves-on q p))
+cross-after e e′ row st st₁ st′ s s₁ rest q (inl (a, p)) = inl (a, moves-on q p)
 cross-after e e′ row st st₁ st′ s s₁ rest q (inr (a, f)) = inr (a, record { at = f .at; bytes = f .bytes; by = f .by; path = moves-on q (f .path); its-own = f .its-own; put = f .put })
 
 pub row-crosses : (e e′ : Edition) (row : Row) (st st′ : State) (bs : List ℕ) → fitRow e st row ≡ fits st′ bs → (rest : List ℕ) → Crosses e e′ row st (bs ++ rest) st′ rest

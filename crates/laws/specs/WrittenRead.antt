@@ -1,28 +1,50 @@
 -- What the writer gives for the rows of an envelope, the reader reads as those rows: a step for each row, and one for each pass before it.
 use Prim.Native.Nat.{ℕ, suc, _+_}
 use mathlib.Core.List.{List, [], _∷_, _++_, map}
-use mathlib.Core.Bool.{Bool, true, false}
+use mathlib.Core.Bool.{Bool, true, false, _||_}
 use mathlib.Core.Path.{_≡_, refl, ap, sym, _∙_}
 use native.Mathlib.Omega.{arith}
-use lib.Dec.{T}
+use lib.Dec.{T, eqb, eqb→eq}
 use lib.ListN.{length}
 use borrow.Author.Tests.{eqb-true}
-use Rattle.meaning.specs.Basics.{pick}
+use Rattle.meaning.specs.Basics.{pick, every}
 use Rattle.meaning.specs.Bytes.{took, textByte, textOk}
+use Rattle.meaning.specs.Kinds.{standardRepresentation, dateAbsolute, dateForward, dateBackward, anyBytes, payloadLength}
 use Rattle.meaning.specs.Told.{Edition, Told}
-use Rattle.meaning.specs.Editions.{State, go, Form, text, date, number, block, itself, opens, quiet, isQuiet, Move, noCode, closing, moves}
+use Rattle.meaning.specs.Editions.{Room, State, go, Form, text, date, number, block, itself, opens, quiet, isQuiet, Move, noCode, closing, moves, shared, own}
 use Rattle.meaning.specs.Reading.{Row, Seen, seen, rowOf, takeValue, reachBack, seenBy, hasCode, isClosed, tooDeep, next, step, done, withRows, inside}
 use Rattle.meaning.specs.Writing.{valid, writeValue, Fit, unfit, fits, led, fitRow, close}
 use Rattle.laws.specs.Logic.{left-of}
 use Rattle.laws.specs.Values.{text-byte-above, value-in}
-use Rattle.laws.specs.Tables.{In}
+use Rattle.laws.specs.Tables.{In, every-in, allRooms, each-room}
 use Rattle.laws.specs.Lookups.{isTextForm, look-coded, look-uncoded, uncoded-text, quiet-coded, quiet-flat}
 use Rattle.laws.specs.Steps.{Path, rests, moves-on, inside-path, inside-over, step-is, step-over, loud-seen, quiet-seen}
 use Rattle.laws.specs.Fits.{unfit-fits, led-inv, Placing, fit-holds, close-holds}
 
+-- how far a row of a kind starts before the end of its view: in both editions a kind's values have one form
+abbrev reachOf : ℕ → ℕ
+reachOf kind =
+    pick (eqb kind standardRepresentation || eqb kind dateAbsolute || eqb kind dateForward || eqb kind dateBackward || eqb kind anyBytes || eqb kind payloadLength) 0 1
+
+abbrev reachOk : Move → Bool
+reachOk m = isQuiet (m .form) || eqb (reachBack (m .form)) (reachOf (m .kind))
+
+reach-test : T (allRooms (λ e r. every reachOk (moves e r)))
+unfolding moves shared own
+reach-test = tt
+
+reach-is : (e : Edition) (r : Room) {m : Move} → In m (moves e r) → isQuiet (m .form) ≡ false → reachBack (m .form) ≡ reachOf (m .kind)
+reach-is e r {m} i q =
+    let t : T (reachOk m) = every-in reachOk i (each-room (λ e r. every reachOk (moves e r)) reach-test e r) in
+    eqb→eq (reachBack (m .form)) (reachOf (m .kind)) (rw q at t)
+
+-- a row as it is seen, with these bytes behind its value: its start is the same for every edition
+abbrev pub seenBefore : Row → List ℕ → Seen
+seenBefore row rest = seen (row .kind) (row .level) (length rest + length (row .view) + reachOf (row .kind)) (row .view)
+
 -- the reader goes over one row
 abbrev pub Reads : Told → State → List ℕ → Row → State → List ℕ → Type 0
-Reads told st s row st′ rest = (left : ℕ) × Path told st s (seen (row .kind) (row .level) left (row .view) ∷ []) st′ rest
+Reads told st s row st′ rest = Path told st s (seenBefore row rest ∷ []) st′ rest
 
 -- a written text does not begin with 01
 pub text-first : (f : Form) (c : ℕ) (v rest : List ℕ) → T (isTextForm f) → T (valid f c v) → (b : ℕ) × (s : List ℕ) × (writeValue f v ++ rest ≡ b ∷ s) × (b ≡ closing → ⊥)
@@ -53,13 +75,13 @@ step-written told st m v rest false q i d ok =
 -- a row in its own place
 pub reads-own : (told : Told) (row : Row) (st st′ : State) (m : Move) (bs : List ℕ) → In m (moves (told .edition) (st .room)) → Placing st row m st′ bs → (rest : List ℕ) → Reads told st (bs ++ rest) row st′ rest
 reads-own told row st st′ m bs i p rest =
-    let left = length rest + length (row .view) + reachBack (m .form) in
-    let a : seenBy (m .form) (m .kind) (st .level) (row .view) rest ≡ seen (row .kind) (row .level) left (row .view) ∷ []
-    = loud-seen (m .form) (m .kind) (st .level) (row .view) rest (p .loud) ∙ rw (p .kind-is, p .level-is) refl in
-    let s : step told st (bs ++ rest) ≡ next st′ (seen (row .kind) (row .level) left (row .view) ∷ []) rest
+    let back : reachBack (m .form) ≡ reachOf (m .kind) = reach-is (told .edition) (st .room) i (p .loud) in
+    let a : seenBy (m .form) (m .kind) (st .level) (row .view) rest ≡ seenBefore row rest ∷ []
+    = loud-seen (m .form) (m .kind) (st .level) (row .view) rest (p .loud) ∙ rw (back, p .kind-is, p .level-is) refl in
+    let s : step told st (bs ++ rest) ≡ next st′ (seenBefore row rest ∷ []) rest
     = ap (λ (x : List ℕ). step told st (x ++ rest)) (sym (p .out)) ∙ step-written told st m (row .view) rest (hasCode noCode m) refl i (p .flat) (p .ok)
     ∙ ap (λ (x : State). next x (seenBy (m .form) (m .kind) (st .level) (row .view) rest) rest) (p .to) ∙ ap (λ (x : List Seen). next st′ x rest) a in
-    (left, moves-on s rests)
+    moves-on s rests
 
 pub quiet-takes : (told : Told) (f : Form) (left c : ℕ) (s : List ℕ) → isQuiet f ≡ true → takeValue told f left c s ≡ took [] s
 unfolding takeValue
@@ -81,7 +103,7 @@ step-quiet told st m s i q =
 pub row-written-read : (told : Told) (row : Row) (st st′ : State) (bs : List ℕ) → fitRow (told .edition) st row ≡ fits st′ bs → (rest : List ℕ) → Reads told st (bs ++ rest) row st′ rest
 row-written-read told row =
     fit-holds (told .edition) row (λ st st′ bs. (rest : List ℕ) → Reads told st (bs ++ rest) row st′ rest) (reads-own told row)
-    (λ st st′ m bs i q p rest. let (left, path) = p rest in (left, moves-on (step-quiet told st m (bs ++ rest) i q) path))
+    (λ st st′ m bs i q p rest. moves-on (step-quiet told st m (bs ++ rest) i q) (p rest))
 
 -- the closings to the envelope's end
 abbrev pub Closes : Told → State → List ℕ → State → Type 0
@@ -118,9 +140,9 @@ pub reads-end : (told : Told) (st st′ : State) (bs : List ℕ) → Closes told
 reads-end told st st′ bs (h, p) = ([], inside-path told p ∙ ap (withRows []) (inside-over told st′ [] (step-over told st′ h)), refl)
 
 pub reads-row : (told : Told) (row : Row) (rows : List Row) (st st₁ : State) (s rest : List ℕ) → Reads told st s row st₁ rest → ReadsAll told st₁ rest rows → ReadsAll told st s (row ∷ rows)
-reads-row told row rows st st₁ s rest (left, p) (seens, a, b) = (
-  seen (row .kind) (row .level) left (row .view) ∷ seens,
-  inside-path told p ∙ ap (withRows (seen (row .kind) (row .level) left (row .view) ∷ [])) a,
+reads-row told row rows st st₁ s rest p (seens, a, b) = (
+  seenBefore row rest ∷ seens,
+  inside-path told p ∙ ap (withRows (seenBefore row rest ∷ [])) a,
   ap (λ (x : List Row). row ∷ x) b,
 )
 

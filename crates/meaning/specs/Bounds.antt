@@ -26,6 +26,8 @@ use Rattle.meaning.specs.Present.{copyAll, allEnvelopes, present, checke
 use Rattle.meaning.specs.Asking.{presents}
 use Rattle.meaning.specs.Lookup.{lookOn, lookedUp, lookup}
 use Rattle.meaning.specs.Lookings.{lookings}
+use Rattle.meaning.specs.Which.{editionsOf, readEither, whichAnswer, whichRows, whichWords}
+use Rattle.meaning.specs.Sortings.{sortings}
 
 abbrev pub readings : Bool
 readings =
@@ -44,6 +46,6 @@ values =
 abbrev pub skips : Bool
 skips = every hops.skipsRead hops.read && every hops.rewritten hops.read && every writes hops.wrong && every writes hops.first
 
-pub bounds : T (readings && writings && values && days && breaks && widths && skips && presence && presents && lookings)
-unfolding textByte takeText textOk turn takeNumber numberOk lastDay passes takeDate dateOk highFirst tooWide takeBytes blockOf takeBlock blockOk shared own moves takeValue find look stepMove step run inside envelope header readBy valid writeValue wayOf fit fitRow closeWithin close planOf writeRows belongs belonging heldAgainst cellsOf ranksOf skipsOf skipsHeld laidOver write occurs wordOf wordsOf onesWithin onesOf answerBy rowsBy wordsBy writeAnswer writeOutput payloadStart payloadEnd payloadBytes numberValue digitsWithin digitsOf packed decodeNumber numberDecoded numberPlain numberBytes numberEncoded numberOutput decodeDate dateDecoded datePlain dateInRange dateEncoded dateOutput decimal viewed lineOf listingOf listing copyAll lookOn allEnvelopes lookedUp present checked presentAnswer lookup
+pub bounds : T (readings && writings && values && days && breaks && widths && skips && presence && presents && lookings && sortings)
+unfolding textByte takeText textOk turn takeNumber numberOk lastDay passes takeDate dateOk highFirst tooWide takeBytes blockOf takeBlock blockOk shared own moves takeValue find look stepMove step run inside envelope header readBy valid writeValue wayOf fit fitRow closeWithin close planOf writeRows belongs belonging heldAgainst cellsOf ranksOf skipsOf skipsHeld laidOver write occurs wordOf wordsOf onesWithin onesOf answerBy rowsBy wordsBy writeAnswer writeOutput payloadStart payloadEnd payloadBytes numberValue digitsWithin digitsOf packed decodeNumber numberDecoded numberPlain numberBytes numberEncoded numberOutput decodeDate dateDecoded datePlain dateInRange dateEncoded dateOutput decimal viewed lineOf listingOf listing copyAll lookOn allEnvelopes lookedUp present checked presentAnswer lookup editionsOf readEither whichAnswer whichRows whichWords
 bounds = tt

@@ -13,6 +13,7 @@ pub mod Writing
 pub mod Memory
 pub mod Present
 pub mod Lookup
+pub mod Which
 pub mod Payload
 pub mod Plain
 pub mod Listing
@@ -28,4 +29,5 @@ pub mod Hops
 pub mod Presence
 pub mod Asking
 pub mod Lookings
+pub mod Sortings
 pub mod Bounds

@@ -35,7 +35,7 @@ use Rattle.table.specs.Told.{labelIs, strictnessOf, toldOf}
 use Rattle.read_rows.specs.declared.Stage.{Stage}
 use Rattle.read_rows.specs.declared.Stage.the-variants.{Go, Refused}
 use Rattle.read_envelopes.specs.Headers.{fillingOf, PlaceFits, HeaderRead}
-use Rattle.reader.specs.Promises.{ReadsBy, PartPromise, PayloadPromise, AcceptedHeader, Surveyed}
+use Rattle.reader.specs.Promises.{ReadsBy, PartPromise, PayloadPromise, AcceptedHeader, Surveyed, Counted}
 
 -- One pass
 
@@ -86,16 +86,20 @@ module _ (w : Strictness) (edition : ℕ) (input m left : List ℕ) where
   unfolding answerBy rowsBy wordsBy
   refusal-answered before words h a s = let q = header-refused h a in record { answers = s ∙ rw q refl; rows = rw q refl; carries = rw q refl }
 
--- where the payload lies, by the strict reading
-module _ (edition : ℕ) (input m left : List ℕ) where
-  pub no-part : {r : Stage} {refusal p : ℕ} → r ≡ Refused p refusal → Surveyed strict edition input m r left → PartPromise edition input (record { start = 0; end = 0 })
-  unfolding payloadStart payloadEnd
-  no-part h a = let q = header-refused strict edition input m left h a in record { starts = rw q refl; ends = rw q refl; forward = omega arith; inside = omega arith }
+-- .. of a strict reading, whatever was lent
+pub counted : (edition : ℕ) (input m left : List ℕ) {r : Stage} → Surveyed strict edition input m r left → Counted edition input r
+counted edition input m left a = record { refuses = λ place refusal h. header-refused strict edition input m left h a; accepts = λ place n h. header-counted strict edition input m left h a }
 
-  pub the-part : {r : Stage} {p n : ℕ} → r ≡ Go p n → Surveyed strict edition input m r left → PartPromise edition input (record { start = p; end = length input })
+-- where the payload lies, by the strict reading
+module _ (edition : ℕ) (input : List ℕ) where
+  pub no-part : {r : Stage} {refusal p : ℕ} → r ≡ Refused p refusal → Counted edition input r → PartPromise edition input (record { start = 0; end = 0 })
+  unfolding payloadStart payloadEnd
+  no-part h a = let q = a .refuses _ _ h in record { starts = rw q refl; ends = rw q refl; forward = omega arith; inside = omega arith }
+
+  pub the-part : {r : Stage} {p n : ℕ} → r ≡ Go p n → Counted edition input r → PartPromise edition input (record { start = p; end = length input })
   unfolding payloadStart payloadEnd
   the-part h a =
-      let c = header-counted strict edition input m left h a in
+      let c = a .accepts _ _ h in
       let q = c .is in
       record { starts = rw q refl; ends = rw q refl; forward = c .within; inside = omega arith }
 

@@ -4,7 +4,7 @@ use mathlib.Core.List.{List}
 use mathlib.Core.Path.{_≡_}
 use lib.ListN.{length, take, drop}
 use Rattle.meaning.specs.Told.{Strictness, strict, tolerant}
-use Rattle.meaning.specs.Headers.{Placed, accepted, envelopeMost, readBy}
+use Rattle.meaning.specs.Headers.{Placed, refused, accepted, envelopeMost, readBy}
 use Rattle.meaning.specs.Memory.{answerBy, rowsBy, wordsBy}
 use Rattle.meaning.specs.Payload.{payloadStart, payloadEnd, payloadBytes}
 use Rattle.laws.specs.Pouring.{headerMost}
@@ -12,6 +12,7 @@ use Rattle.laws.specs.Finishing.{finish}
 use Rattle.table.specs.declared.reply.Reply.{Reply}
 use Rattle.table.specs.Reply.{replyOf}
 use Rattle.read_rows.specs.declared.Stage.{Stage}
+use Rattle.read_rows.specs.declared.Stage.the-variants.{Refused, Go}
 use Rattle.read_envelopes.specs.Headers.{fillingOf, PlaceFits}
 use Rattle.reader.specs.declared.Part.{Part}
 
@@ -53,3 +54,8 @@ pub record AcceptedHeader (strictness : Strictness) (edition : ℕ) (input : Lis
   pub count : length rows ≡ n
   pub within : place ≤ length input
   pub few : n ≤ headerMost + envelopeMost
+
+-- what a strict reading counts: the refusal, or an accepted header with n rows
+pub record Counted (edition : ℕ) (input : List ℕ) (r : Stage) : Type 0 where
+  pub refuses : (place refusal : ℕ) → r ≡ Refused place refusal → readBy strict edition input ≡ refused refusal place
+  pub accepts : (place n : ℕ) → r ≡ Go place n → AcceptedHeader strict edition input place n

@@ -19,7 +19,7 @@ ghost use lib.Dec.{leb};
 ghost use Rattle.meaning.specs.Basics.{pick};
 ghost use Rattle.meaning.specs.Memory.{rowWidth, wordsBorrowed};
 ghost use Rattle.table.specs.Told.{strictnessOf};
-ghost use Rattle.reader.specs.Promises.{ReadsBy, ReadPromise, TolerantPromise, PartPromise, PayloadPromise, AcceptedHeader, Surveyed};
+ghost use Rattle.reader.specs.Promises.{ReadsBy, ReadPromise, TolerantPromise, PartPromise, PayloadPromise, AcceptedHeader, Surveyed, Counted};
 
 // A part of the input: its first place, and the place behind its last byte.
 #[repr(C)]
@@ -62,6 +62,15 @@ fn read_by(
     }
 }
 
+// Takes an edition's number and the input. Answers what a strict reading counts of the header at its front: the place behind it and its rows, or the
+// refusal; 14 cannot arise.
+pub fn count(edition: u32, input: &[u8]) -> Stage
+    ensures { λ r. ⌜ Counted edition (now (input .entry)) r ⌝ }
+{
+    let mut none = [0u32; 1];
+    survey(edition, Strictness::Strict, input, &mut none[..0])
+}
+
 // One pass over the header. Answers the place behind it and how many rows it has, or the refusal: "1: edition not 1 or 2; before all else, 0."
 // The rows are put where `rows` has room for them: over no rows they are counted, over enough they are filled.
 fn survey(edition: u32, strictness: Strictness, input: &[u8], rows: &mut [u32]) -> Stage
@@ -83,7 +92,7 @@ fn survey(edition: u32, strictness: Strictness, input: &[u8], rows: &mut [u32]) 
 
 // The second pass, over a header that is accepted and has n rows, and then their skip numbers and words. "14: all well, but rows exceed the room":
 // then no row and no word changes.
-fn fill(
+pub fn fill(
     edition: u32,
     strictness: Strictness,
     input: &[u8],
@@ -128,8 +137,7 @@ fn room_with(numbers: usize, words: usize) -> usize
 pub fn payload_part(edition: u32, input: &[u8]) -> Part
     ensures { λ r. ⌜ PartPromise edition (now (input .entry)) r ⌝ }
 {
-    let mut none = [0u32; 1];
-    let r = survey(edition, Strictness::Strict, input, &mut none[..0]);
+    let r = count(edition, input);
     let Stage::Go(first, _) = r else {
         return Part { start: 0, end: 0 };
     };
