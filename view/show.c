@@ -13,6 +13,7 @@ enum { ACCEPTED = 0, REFUSED = 1, WRONG_USE = 2 };
 static const char usage[] =
     "usage: ./show b|d [FILE..]     b: edition B (XC00088B); d: edition D (SC00088D); no FILE, or -: standard input\n"
     "       ./show FILE..           the edition is not known: it says which editions read the message\n"
+    "       ./show --version        the version of the archive inside\n"
     "\n"
     "One file: every row by its name, indented by what it belongs to; then the present values, and the bytes of header and\n"
     "payload. Texts stand in quotes; what is not printable in ASCII as \\n, \\r, \\t or \\xHH. A refusal: its number, place and\n"
@@ -110,6 +111,13 @@ static int show_all(char **names, int count, uint32_t told)
     return status;
 }
 
+/* The version of the archive that this program is linked with. */
+static int print_version(void)
+{
+    unsigned number = gamulisyan_version();
+    return printf("%u.%u.%u\n", number / 1000000, number / 1000 % 1000, number % 1000) < 0 ? WRONG_USE : 0;
+}
+
 static uint32_t edition_of(const char *word)
 {
     return strcmp(word, "b") == 0 ? GAMULISYAN_EDITION_B : strcmp(word, "d") == 0 ? GAMULISYAN_EDITION_D : 0;
@@ -120,6 +128,8 @@ int main(int count, char **words)
     char *standard_input[] = {"-"};
     if (count == 2 && strcmp(words[1], "--help") == 0)
         return fputs(usage, stdout) < 0 ? WRONG_USE : 0;
+    if (count == 2 && strcmp(words[1], "--version") == 0)
+        return print_version();
     uint32_t told = count < 2 ? 0 : edition_of(words[1]);
     int first = told == 0 ? 1 : 2;
     if (first < count && strcmp(words[first], "--") == 0)
