@@ -21,7 +21,7 @@ pub fn present(edition: Edition, rows: &[Row], pool: &[u8], parameter: Parameter
     // SAFETY: all slices are valid, and nothing is changed.
     let found = unsafe { entries::gamulisyan_present(edition.number(), numbers, count, pool.as_ptr(), pool.len(), parameter.number()) };
     accepted(found.answer, found.place, found.rows)?;
-    Ok((found.place < rows.len()).then(|| found.place))
+    Ok((found.place < rows.len()).then_some(found.place))
 }
 
 /// What a lookup found: the row, or none; and how many rows were looked at.
@@ -49,5 +49,5 @@ pub fn lookup(rows: &[Row], words: &[u32], parameter: Parameter) -> Result<Found
     // SAFETY: all slices are valid, and nothing is changed.
     let found = unsafe { entries::gamulisyan_lookup(numbers, count, words.as_ptr(), words.len(), parameter.number()) };
     accepted(found.answer, found.place, 0)?;
-    Ok(Found { row: (found.place < rows.len()).then(|| found.place), looked: found.rows })
+    Ok(Found { row: (found.place < rows.len()).then_some(found.place), looked: found.rows })
 }
