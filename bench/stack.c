@@ -41,24 +41,6 @@ static struct gamulisyan_answer no_write(uint32_t e, const uint32_t *r, size_t n
     return (struct gamulisyan_answer){0, 0, 0};
 }
 
-static struct gamulisyan_sorted no_which(const uint8_t *i, size_t l, uint32_t *r, size_t n, uint32_t *w, size_t c)
-{
-    (void)i, (void)l, (void)r, (void)n, (void)w, (void)c;
-    return (struct gamulisyan_sorted){0, 0, 0, 0};
-}
-
-static struct gamulisyan_answer no_present(uint32_t e, const uint32_t *r, size_t n, const uint8_t *p, size_t m, uint32_t k)
-{
-    (void)e, (void)r, (void)n, (void)p, (void)m, (void)k;
-    return (struct gamulisyan_answer){0, 0, 0};
-}
-
-static struct gamulisyan_answer no_lookup(const uint32_t *r, size_t n, const uint32_t *w, size_t c, uint32_t k)
-{
-    (void)r, (void)n, (void)w, (void)c, (void)k;
-    return (struct gamulisyan_answer){0, 0, 0};
-}
-
 static struct gamulisyan_part no_payload(uint32_t e, const uint8_t *i, size_t l)
 {
     (void)e, (void)i, (void)l;
@@ -92,10 +74,6 @@ static struct gamulisyan_coded no_date_encode(uint32_t k, struct gamulisyan_date
 /* What is called next; volatile, so that the compiler sees through none of them. */
 static struct gamulisyan_answer (*volatile read_entry)(uint32_t, const uint8_t *, size_t, uint32_t *, size_t, uint32_t *, size_t);
 static struct gamulisyan_answer (*volatile write_entry)(uint32_t, const uint32_t *, size_t, const uint8_t *, size_t, uint8_t *, size_t);
-static struct gamulisyan_answer (*volatile read_tolerant_entry)(uint32_t, const uint8_t *, size_t, uint32_t *, size_t, uint32_t *, size_t);
-static struct gamulisyan_sorted (*volatile which_entry)(const uint8_t *, size_t, uint32_t *, size_t, uint32_t *, size_t);
-static struct gamulisyan_answer (*volatile present_entry)(uint32_t, const uint32_t *, size_t, const uint8_t *, size_t, uint32_t);
-static struct gamulisyan_answer (*volatile lookup_entry)(const uint32_t *, size_t, const uint32_t *, size_t, uint32_t);
 static struct gamulisyan_part (*volatile payload_entry)(uint32_t, const uint8_t *, size_t);
 static struct gamulisyan_number (*volatile number_decode_entry)(const uint8_t *, size_t);
 static struct gamulisyan_coded (*volatile number_encode_entry)(uint64_t, uint8_t *, size_t);
@@ -104,7 +82,6 @@ static struct gamulisyan_coded (*volatile date_encode_entry)(uint32_t, struct ga
 
 /* Answers go to memory of their own and not to the painted stack. */
 static struct gamulisyan_answer answer;
-static struct gamulisyan_sorted sorted;
 static struct gamulisyan_part part;
 static struct gamulisyan_number number;
 static struct gamulisyan_coded coded;
@@ -112,20 +89,11 @@ static struct gamulisyan_dated dated;
 
 static void read_call(void) { answer = read_entry(EDITION, headers.bytes, headers.places[1], rows, MOST_NUMBERS, words, GAMULISYAN_WORDS); }
 static void write_call(void) { answer = write_entry(EDITION, rows, numbers, headers.bytes, headers.places[1], output, sizeof output); }
-static void read_tolerant_call(void) { answer = read_tolerant_entry(EDITION, headers.bytes, headers.places[1], rows, MOST_NUMBERS, words, GAMULISYAN_WORDS); }
-static void which_call(void) { sorted = which_entry(headers.bytes, headers.places[1], rows, MOST_NUMBERS, words, GAMULISYAN_WORDS); }
-static void present_call(void) { answer = present_entry(EDITION, rows, numbers, headers.bytes, headers.places[1], GAMULISYAN_PARAMETER_PAYLOAD_LENGTH); }
-static void lookup_call(void) { answer = lookup_entry(rows, numbers, words, GAMULISYAN_WORDS, GAMULISYAN_PARAMETER_PAYLOAD_LENGTH); }
 static void payload_call(void) { part = payload_entry(EDITION, headers.bytes, headers.places[1]); }
 static void number_decode_call(void) { number = number_decode_entry(most_number, sizeof most_number); }
 static void number_encode_call(void) { coded = number_encode_entry(UINT32_MAX, output, sizeof output); }
 static void date_decode_call(void) { dated = date_decode_entry(GAMULISYAN_DATE_ABSOLUTE, designated_date, sizeof designated_date); }
 static void date_encode_call(void) { coded = date_encode_entry(GAMULISYAN_DATE_ABSOLUTE, plain_date, output, sizeof output); }
-
-static struct gamulisyan_answer no_read_tolerant(uint32_t e, const uint8_t *i, size_t l, uint32_t *r, size_t n, uint32_t *w, size_t c)
-{
-    return no_read(e, i, l, r, n, w, c);
-}
 
 /* How far down from its top the painted stack is used by a call. */
 static size_t depth_of(void (*call)(void))
@@ -176,14 +144,6 @@ int main(void)
     must(part.end == headers.places[1], "payload");
     MEASURE(write, deep);
     must(answer.answer == GAMULISYAN_ACCEPTED, "write");
-    MEASURE(read_tolerant, deep);
-    must(answer.answer == GAMULISYAN_ACCEPTED, "read_tolerant");
-    MEASURE(which, deep);
-    must(sorted.answer == GAMULISYAN_ACCEPTED, "which");
-    MEASURE(present, deep);
-    must(answer.answer == GAMULISYAN_ACCEPTED, "present");
-    MEASURE(lookup, deep);
-    must(answer.answer == GAMULISYAN_ACCEPTED, "lookup");
     MEASURE(number_decode, "4,294,967,295");
     must(number.answer == GAMULISYAN_ACCEPTED, "number_decode");
     MEASURE(number_encode, "4,294,967,295");
