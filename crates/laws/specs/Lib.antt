@@ -59,7 +59,14 @@ pub mod PassedOver
 pub mod Looking
 pub mod Demands
 pub mod Sorting
+pub mod Moving
+pub mod Joining
+pub mod Joined
+pub mod JoinedRead
+pub mod JoinedDemands
 pub mod PresentValues
+pub mod Dateless
+pub mod JoinedValues
 pub mod Tolerant
 pub mod Notes
 pub mod Days
