@@ -27,11 +27,11 @@ abbrev AnswerIs : ℕ → Answer → Type 0
 AnswerIs most (refused refusal place) = Unit {0}
 AnswerIs most (accepted place rs) = AtMost most (ranksRead rs)
 
-placed-ranks : (end : ℕ) (rs : List Seen) → ranksRead (map (placed end) rs) ≡ map rankSeen rs
+pub placed-ranks : (end : ℕ) (rs : List Seen) → ranksRead (map (placed end) rs) ≡ map rankSeen rs
 placed-ranks end [] = refl
 placed-ranks end (r ∷ rs) = ap (λ (x : List Rank). rankSeen r ∷ x) (placed-ranks end rs)
 
-ranks-append : (rs ts : List Placed) → ranksRead (rs ++ ts) ≡ ranksRead rs ++ ranksRead ts
+pub ranks-append : (rs ts : List Placed) → ranksRead (rs ++ ts) ≡ ranksRead rs ++ ranksRead ts
 ranks-append [] ts = refl
 ranks-append (r ∷ rs) ts = ap (λ (x : List Rank). rankOf (numbersOf r) ∷ x) (ranks-append rs ts)
 

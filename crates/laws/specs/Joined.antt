@@ -20,7 +20,7 @@ use Rattle.meaning.specs.Memory.{cellsOf, skipsHeld, wordsRead}
 use Rattle.meaning.specs.Relay.{extensionInside, extensionPlan, newRows, Joint, bytesOf, relayed, unrelayed, jointOf, oneMoreFits, joinedSkips, joinedPlan, behindOld, relayUnder, relay}
 use Rattle.laws.specs.Logic.{areBytes, both-hold}
 use Rattle.laws.specs.AllTabled.{ranksRead}
-use Rattle.laws.specs.Wording.{top}
+use Rattle.laws.specs.Wording.{no-words, opens-word}
 use Rattle.laws.specs.Envelopes.{openingRow, Writes, the-base, before}
 use Rattle.laws.specs.WrittenRead.{fitAll, then-inv}
 use Rattle.laws.specs.Plans.{OpensIs, opens-is, inner-kind, last-parsed}
@@ -127,18 +127,9 @@ inner-words e (row ∷ rows) table st st′ bs q =
     let h = inner-kind e row st st₁ cs q₁ in
     rw (ne-eqb (row .kind) 1 (λ x. omega arith), ne-eqb (row .kind) 2 (λ x. omega arith)) (inner-words e rows table st₁ st′ ds q₂)
 
-opens-word : (b : Bool) (ranks : List Rank) → length (wordsOf (top b ∷ ranks)) ≡ suc (length (wordsOf ranks))
-unfolding wordsOf
-opens-word true ranks = refl
-opens-word false ranks = refl
-
-no-words : length (wordsOf []) ≡ 0
-unfolding wordsOf
-no-words = refl
-
 pub written-count : (e : Edition) {n : ℕ} {table : List Row} {w : List ℕ} → Writes e n table w → length (wordsOf (map standing table)) ≡ n
 written-count e (the-base rows st bs q h) =
-    opens-word true (map standing rows) ∙ ap (λ (x : List Row). suc (length (wordsOf (map standing x)))) (sym (append-nil rows)) ∙ ap suc (inner-words e rows [] (start true) st bs q ∙ no-words)
+    opens-word true (map standing rows) ∙ ap (λ (x : List Row). suc (length (wordsOf (map standing x)))) (sym (append-nil rows)) ∙ ap suc (inner-words e rows [] (start true) st bs q ∙ ap length no-words)
 written-count e (before rows table st bs w n q h more) = opens-word false (map standing (rows ++ table)) ∙ ap suc (inner-words e rows table (start false) st bs q ∙ written-count e more)
 
 ranks-meant : (rs : List Placed) → map standing (map meant rs) ≡ ranksRead rs

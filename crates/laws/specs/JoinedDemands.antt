@@ -101,7 +101,7 @@ module _ (edition : ℕ) (input table pool rows words output : List ℕ) (j : Jo
   abbrev good : Joins edition input table pool j
   good = joins edition input table pool j q
 
-  read-laid : read edition (laidOver output (bytesOf j)) ≡ accepted (length (bytesOf j)) (joinedRows j)
+  pub read-laid : read edition (laidOver output (bytesOf j)) ≡ accepted (length (bytesOf j)) (joinedRows j)
   unfolding laidOver
   read-laid = joined-read good t (drop (length (bytesOf j)) output)
 

@@ -12,7 +12,7 @@ use Rattle.meaning.specs.Headers.{Placed}
 use Rattle.meaning.specs.Memory.{rankOf, numbersOf, rowsFrom, tableOf, wordsRead}
 use Rattle.meaning.specs.Relay.{moved, movedTable}
 use Rattle.laws.specs.Nesting.{belonging-on, belonging-ends, belonging-none}
-use Rattle.laws.specs.AllTabled.{ranksRead}
+use Rattle.laws.specs.AllTabled.{ranksRead, ranks-append}
 use Rattle.laws.specs.Moving.{ranks-moved}
 
 -- none of these rows belongs to a row before them
@@ -34,10 +34,6 @@ run-before r (x ∷ xs) ys = at (belongs r x) refl (run-before r xs ys)
     at : (b : Bool) → belongs r x ≡ b → take (belonging r xs) (xs ++ ys) ≡ take (belonging r xs) xs → take (belonging r (x ∷ xs)) (x ∷ (xs ++ ys)) ≡ take (belonging r (x ∷ xs)) (x ∷ xs)
     at true q ih = rw (belonging-on r x xs q, ih) refl
     at false q ih = rw (belonging-ends r x xs q) refl
-
-ranks-append : (rs ts : List Placed) → ranksRead (rs ++ ts) ≡ ranksRead rs ++ ranksRead ts
-ranks-append [] ts = refl
-ranks-append (r ∷ rs) ts = ap (λ (x : List Rank). rankOf (numbersOf r) ∷ x) (ranks-append rs ts)
 
 -- Words
 

@@ -50,6 +50,7 @@ pub mod PlainNumbers
 pub mod PlainDates
 pub mod Standing
 pub mod Ties
+pub mod EnvelopeCounts
 pub mod BothEditions
 pub mod Walks
 pub mod Levels
