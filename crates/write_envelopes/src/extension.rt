@@ -44,13 +44,7 @@ pub fn check_extension(edition: Edition, rows: &[u32], pool: &[u8]) -> Checked
 
 // Takes such a table's rows, once they are checked, and how many bytes the envelope has inside. Lays it over the front of `output`; bytes behind it are as they
 // were.
-pub fn put_extension(
-    edition: Edition,
-    rows: &[u32],
-    pool: &[u8],
-    many: usize,
-    output: &mut [u8],
-)
+pub fn put_extension(edition: Edition, rows: &[u32], pool: &[u8], many: usize, output: &mut [u8])
     requires { ⌜ ExtensionFits (editionOf edition) (now rows) (now pool) many (now output) ⌝ }
     ensures { λ _. ⌜ ExtensionLaid (editionOf edition) (now (rows .entry)) (now (pool .entry)) (now (output .entry)) (now (output .exit)) ⌝ }
 {

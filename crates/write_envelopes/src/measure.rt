@@ -104,7 +104,13 @@ fn passed(left: usize, total: usize, first: usize) -> Sizes
 
 // Takes the row after an envelope's own, and whether it is the base. Answers the row behind its inside, and how many bytes that has;
 // or the row that fits nowhere. Nothing is laid: its part of the output is empty.
-pub(crate) fn measure(edition: Edition, rows: &[u32], pool: &[u8], from: usize, base: bool) -> Bodied
+pub(crate) fn measure(
+    edition: Edition,
+    rows: &[u32],
+    pool: &[u8],
+    from: usize,
+    base: bool,
+) -> Bodied
     requires { ⌜ from ≤ roomOf (now rows) ⌝ }
     ensures { λ r. ⌜ Measured (bodyOf (editionOf edition) (cellsAt (now (pool .entry)) (now (rows .entry)) from) from (start base)) (now (pool .entry)) (now (rows .entry)) r ⌝ }
 {
