@@ -6,7 +6,7 @@ use mathlib.Core.Path.{_≡_, refl, ap, sym, _∙_, subst}
 use native.Mathlib.Omega.{arith}
 use lib.Dec.{eqb, ltb}
 use lib.ListN.{length, take, drop}
-use Rattle.meaning.specs.Basics.{pick, every}
+use Rattle.meaning.specs.Basics.{pick}
 use Rattle.meaning.specs.Bytes.{Count, counted, short, highFirst}
 use Rattle.meaning.specs.Told.{Label, known, unknown, labelOf, Strictness, Told, toldBy}
 use Rattle.meaning.specs.Reading.{Seen, Out, dry, fault, done, inside}

@@ -132,7 +132,7 @@ written-count e (the-base rows st bs q h) =
     opens-word true (map standing rows) ∙ ap (λ (x : List Row). suc (length (wordsOf (map standing x)))) (sym (append-nil rows)) ∙ ap suc (inner-words e rows [] (start true) st bs q ∙ ap length no-words)
 written-count e (before rows table st bs w n q h more) = opens-word false (map standing (rows ++ table)) ∙ ap suc (inner-words e rows table (start false) st bs q ∙ written-count e more)
 
-ranks-meant : (rs : List Placed) → map standing (map meant rs) ≡ ranksRead rs
+pub ranks-meant : (rs : List Placed) → map standing (map meant rs) ≡ ranksRead rs
 ranks-meant [] = refl
 ranks-meant (r ∷ rs) = ap (λ (x : List Rank). rank (r .kind) (r .level) ∷ x) (ranks-meant rs)
 

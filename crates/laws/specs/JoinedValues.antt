@@ -12,21 +12,21 @@ use Rattle.meaning.specs.Reading.{Row}
 use Rattle.meaning.specs.Skips.{Rank, rank}
 use Rattle.meaning.specs.Codes.{dateCode, hasValue, canAsk}
 use Rattle.meaning.specs.Words.{occurs}
-use Rattle.meaning.specs.Headers.{Placed, meant, start}
+use Rattle.meaning.specs.Headers.{meant, start}
 use Rattle.meaning.specs.Memory.{numbersOf, ranksOf, tableOf}
 use Rattle.meaning.specs.Present.{present}
 use Rattle.meaning.specs.Relay.{moved, Joint, joinedTable}
 use Rattle.laws.specs.Logic.{areBytes}
 use Rattle.laws.specs.Firsts.{firstFrom}
 use Rattle.laws.specs.Filling.{Standing, none-left, one-more, first-stands}
-use Rattle.laws.specs.AllTabled.{ranksRead}
+use Rattle.laws.specs.AllTabled.{ranksRead, ranks-append}
 use Rattle.laws.specs.Envelopes.{openingRow}
 use Rattle.laws.specs.RightSkips.{standing, table-ranks, cells-ranks}
 use Rattle.laws.specs.Standing.{Opened, opened, table-stands}
 use Rattle.laws.specs.PresentValues.{can-ask-open}
 use Rattle.laws.specs.Moving.{ranks-moved}
 use Rattle.laws.specs.Dateless.{extension-dateless}
-use Rattle.laws.specs.Joined.{Joins, old-written, joined-written}
+use Rattle.laws.specs.Joined.{Joins, ranks-meant, old-written, joined-written}
 use Rattle.laws.specs.JoinedRead.{joinedRows, new-means, table-is}
 
 -- The first value, among rows and rows behind them
@@ -63,10 +63,6 @@ map-both : (xs ys : List Row) → map standing (xs ++ ys) ≡ map standing xs ++
 map-both [] ys = refl
 map-both (x ∷ xs) ys = ap (λ (l : List Rank). standing x ∷ l) (map-both xs ys)
 
-ranks-meant : (rs : List Placed) → map standing (map meant rs) ≡ ranksRead rs
-ranks-meant [] = refl
-ranks-meant (r ∷ rs) = ap (λ (x : List Rank). rank (r .kind) (r .level) ∷ x) (ranks-meant rs)
-
 module _ {edition : ℕ} {input table pool : List ℕ} {j : Joint} (s : Joins edition input table pool j) (t : T (areBytes input)) where
   -- the new table's ranks, and those of the old rows
   opens-new : ranksOf table ≡ rank 1 0 ∷ map standing (s .extension .rows)
@@ -78,13 +74,9 @@ module _ {edition : ℕ} {input table pool : List ℕ} {j : Joint} (s : Joins ed
   joined-ranks : ranksOf (joinedTable j) ≡ ranksOf table ++ ranksOf (tableOf (j .old))
   joined-ranks =
       let n = length (j .envelope) in
-      ap ranksOf (table-is s) ∙ table-ranks 0 (map numbersOf (joinedRows j)) ∙ split (j .new) (map (moved n) (j .old))
+      ap ranksOf (table-is s) ∙ table-ranks 0 (map numbersOf (joinedRows j)) ∙ ranks-append (j .new) (map (moved n) (j .old))
       ∙ ap (λ (x : List Rank). ranksRead (j .new) ++ x) (ranks-moved n (j .old) ∙ sym (table-ranks 0 (map numbersOf (j .old))))
       ∙ ap (λ (x : List Rank). x ++ ranksOf (tableOf (j .old))) (sym (cells-ranks pool table (map meant (j .new)) (new-means s) ∙ ranks-meant (j .new)))
-    where
-      split : (rs ts : List Placed) → ranksRead (rs ++ ts) ≡ ranksRead rs ++ ranksRead ts
-      split [] ts = refl
-      split (r ∷ rs) ts = ap (λ (x : List Rank). rank (r .kind) (r .level) ∷ x) (split rs ts)
 
   all-stand : Standing (ranksOf table ++ ranksOf (tableOf (j .old)))
   all-stand =

@@ -14,7 +14,7 @@ use Rattle.meaning.specs.Editions.{Room, State, Form, text, date, number, block
 use Rattle.meaning.specs.Reading.{Row, hasCode}
 use Rattle.meaning.specs.Headers.{envelopeMost}
 use Rattle.meaning.specs.Writing.{valid, writeValue, fits, lead, fitRow, close, Cell, cell, broken, isShort, withinLimit, envelopeLength, wrap}
-use Rattle.meaning.specs.Memory.{cellOf, cellsOf}
+use Rattle.meaning.specs.Memory.{cellsOf}
 use Rattle.laws.specs.Logic.{left-of, right-of, both, isByte, areBytes}
 use Rattle.laws.specs.Rows.{every-cell}
 use Rattle.laws.specs.Tables.{In, every-in, allRooms, each-room}

@@ -14,7 +14,7 @@ use Rattle.meaning.specs.Told.{Edition, strict}
 use Rattle.meaning.specs.Headers.{accepted, envelopeMost, envelopesMost, read}
 use Rattle.meaning.specs.Writing.{envelopeSize, wrap}
 use Rattle.meaning.specs.Memory.{reply, roomOf, roomWith, laidOver}
-use Rattle.meaning.specs.Relay.{Joint, bytesOf, joinedCount, relayed, jointOf, relayReply, relay, relayAnswer, relayRows, relayWords, relayOutput}
+use Rattle.meaning.specs.Relay.{Joint, bytesOf, joinedCount, jointOf, relayAnswer, relayRows, relayWords, relayOutput}
 use Rattle.laws.specs.Logic.{areBytes}
 use Rattle.laws.specs.Envelopes.{wrap-length, limit-size}
 use Rattle.laws.specs.EnvelopeCounts.{place-most}
@@ -25,7 +25,6 @@ use Rattle.laws.specs.JoinedDemands.{LaidAsRead, joined-bytes, laid-as-read, re
 use Rattle.table.specs.declared.reply.Reply.{Reply}
 use Rattle.table.specs.Reply.{replyOf}
 use Rattle.reader.specs.Promises.{AcceptedHeader, ReadsBy}
-use Rattle.laws.specs.Pouring.{headerMost}
 use Rattle.write_envelopes.specs.Extension.{ExtensionFits, ExtensionLaid}
 use Rattle.relay.specs.Promise.{RelayPromise, Joinable}
 use Rattle.relay.proofs.Parts.{copied, joined-laid}

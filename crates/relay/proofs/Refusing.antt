@@ -8,12 +8,12 @@ use lib.Dec.{ltb, leb}
 use lib.ListN.{length, take}
 use borrow.Author.Tests.{ltb-false, lt-leb, lt-ltb, le-ltb}
 use Rattle.meaning.specs.Basics.{pick}
-use Rattle.meaning.specs.Told.{Edition, known, unknown, labelOf, strict, told}
+use Rattle.meaning.specs.Told.{Edition, known, labelOf, strict, told}
 use Rattle.meaning.specs.Skips.{Skips, right, wrongAt}
-use Rattle.meaning.specs.Headers.{Placed, refused, accepted, envelopeMost, envelopesMost, header, read}
+use Rattle.meaning.specs.Headers.{accepted, envelopeMost, envelopesMost, header}
 use Rattle.meaning.specs.Writing.{Envelope, Plan, stuck, plan, envelopeSize, withinLimit}
-use Rattle.meaning.specs.Memory.{reply, cellsOf, skipsHeld, wordsRead}
-use Rattle.meaning.specs.Relay.{extensionPlan, relayed, unrelayed, Relayed, jointOf, joinedPlan, behindOld, relayUnder, relay, relayReply, relayMemory, relayAnswer, relayRows, relayWords, relayOutput}
+use Rattle.meaning.specs.Memory.{reply, skipsHeld, wordsRead}
+use Rattle.meaning.specs.Relay.{extensionPlan, relayed, unrelayed, jointOf, joinedPlan, behindOld, relayUnder, relay, relayAnswer, relayRows, relayWords, relayOutput}
 use Rattle.laws.specs.Logic.{both-hold}
 use Rattle.laws.specs.Rows.{cellsAt, cells-are}
 use Rattle.laws.specs.Ties.{read-as}
@@ -25,11 +25,11 @@ use Rattle.table.specs.declared.told.Label.the-variants.{Known, Unknown}
 use Rattle.table.specs.declared.told.Edition as declared
 use Rattle.table.specs.Told.{editionOf, labelIs}
 use Rattle.read_rows.specs.declared.Stage.{Stage}
-use Rattle.read_rows.specs.declared.Stage.the-variants.{Refused, Go}
+use Rattle.read_rows.specs.declared.Stage.the-variants.{Refused}
 use Rattle.read_envelopes.specs.Counts.{EnvelopesCounted}
 use Rattle.reader.specs.Promises.{AcceptedHeader, Counted}
 use Rattle.write_rows.specs.Laying.{capped, capped-most}
-use Rattle.write_envelopes.specs.Whole.{Verdict, bad, needs, checkedOf}
+use Rattle.write_envelopes.specs.Whole.{checkedOf}
 use Rattle.write_envelopes.specs.Extension.{extensionVerdict}
 use Rattle.write_envelopes.specs.declared.measure.Checked.{Checked}
 use Rattle.write_envelopes.specs.declared.measure.Checked.the-variants.{Bad, Needs}

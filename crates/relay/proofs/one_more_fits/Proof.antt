@@ -1,6 +1,4 @@
 -- `one_more_fits`: the old header's envelopes, then the new one's size.
-use mathlib.Core.Path.{_∙_, refl, ap}
-use native.Mathlib.Omega.{arith}
 use borrow.Author.Needs.{needs}
 use Rattle.relay.proofs.Refusing.{no-more, one-more}
 use Rattle.relay.proofs.one_more_fits.Statement.{statement}

@@ -1,5 +1,5 @@
 -- `extension::put_extension`: the envelope is the one that the plan has.
-use mathlib.Core.Path.{_∙_, sym}
+use mathlib.Core.Path.{_∙_}
 use native.Mathlib.Omega.{arith}
 use borrow.Author.Needs.{needs}
 use Rattle.table.specs.Told.{editionOf}
