@@ -13,7 +13,7 @@ use Rattle.meaning.specs.Told.{Edition, Label, known, unknown, labelOf, strict,
 use Rattle.meaning.specs.Skips.{Skips, right, wrongAt}
 use Rattle.meaning.specs.Headers.{Placed, Answer, refused, accepted, envelopesMost, header, read}
 use Rattle.meaning.specs.Writing.{Plan, stuck, plan}
-use Rattle.meaning.specs.Memory.{Reply, reply, rowWidth, tableOf, cellsOf, skipsHeld, laidOver, readReply, roomWith, answerBy}
+use Rattle.meaning.specs.Memory.{Reply, reply, rowWidth, cellsOf, skipsHeld, laidOver, readReply, roomWith, answerBy}
 use Rattle.meaning.specs.Relay.{extensionPlan, Joint, bytesOf, joinedTable, joinedWords, joinedCount, Relayed, relayed, unrelayed, jointOf, oneMoreFits, joinedSkips, joinedPlan, behindOld, relayUnder, relay, relayReply, relayMemory, relayAnswer, relayRows, relayWords, relayOutput}
 use Rattle.laws.specs.Logic.{areBytes}
 use Rattle.laws.specs.Ties.{read-as}
@@ -29,7 +29,7 @@ use Rattle.certificate.specs.Calls.{sent}
 
 -- One promise allows one answer, and every call has one
 
-abbrev declaredOf : Reply → declared.Reply
+abbrev pub declaredOf : Reply → declared.Reply
 declaredOf r = record { answer = r .answer; place = r .place; rows = r .rows }
 
 pub one-relay : {edition : ℕ} {input table pool rows words output rows₁ words₁ out₁ rows₂ words₂ out₂ : List ℕ} {a b : declared.Reply} → RelayPromise edition input table pool rows words output a rows₁ words₁ out₁
@@ -145,14 +145,18 @@ module _ {edition : ℕ} {input table pool rows words output rows′ words′ ou
     abbrev good : Joins edition input table pool (call .joint)
     good = joins edition input table pool (call .joint) (call .is)
 
+    pub joins-of : Joins edition input table pool (joined-call z .joint)
+    joins-of = good
+
     -- what lies at the front of output and rows
     pub header-joined : take (a .place) out ≡ bytesOf (call .joint)
     header-joined = ap (take (a .place)) (call .leaves) ∙ laid-front output (bytesOf (call .joint)) (sym (call .ends))
 
+    pub table-long : length (joinedTable (call .joint)) ≡ a .rows * rowWidth
+    table-long = ap length (table-is good) ∙ table-length (joinedRows (call .joint)) ∙ ap (λ (n : ℕ). n * rowWidth) (sym (count-joined (call .joint)) ∙ sym (call .count))
+
     pub table-joined : firstRows (a .rows) rows′ ≡ joinedTable (call .joint)
-    table-joined =
-        ap (firstRows (a .rows)) (call .joins)
-        ∙ laid-front rows (joinedTable (call .joint)) (ap length (table-is good) ∙ table-length (joinedRows (call .joint)) ∙ ap (λ (n : ℕ). n * rowWidth) (sym (count-joined (call .joint)) ∙ sym (call .count)))
+    table-joined = ap (firstRows (a .rows)) (call .joins) ∙ laid-front rows (joinedTable (call .joint)) table-long
 
     -- "the joined rows are the reader's for the joined header", and so are the words: a call of `read` on the header in the output, with any payload behind it, lent
     -- the same rows and words, answers as the relay did and leaves the same
