@@ -10,3 +10,5 @@ pub mod Lookup
 pub mod Which
 pub mod Coders
 pub mod Premises
+pub mod Relay
+pub mod RelayDemands
