@@ -92,6 +92,21 @@ extern "C" {
     ) -> Answer;
     pub fn gamulisyan_present(edition: u32, rows: *const u32, numbers: usize, pool: *const u8, pool_length: usize, code: u32) -> Answer;
     pub fn gamulisyan_lookup(rows: *const u32, numbers: usize, words: *const u32, word_count: usize, code: u32) -> Answer;
+    pub fn gamulisyan_relay(
+        edition: u32,
+        input: *const u8,
+        length: usize,
+        table: *const u32,
+        table_numbers: usize,
+        pool: *const u8,
+        pool_length: usize,
+        rows: *mut u32,
+        numbers: usize,
+        words: *mut u32,
+        word_count: usize,
+        output: *mut u8,
+        output_length: usize,
+    ) -> Answer;
     pub fn gamulisyan_payload(edition: u32, input: *const u8, length: usize) -> Part;
     pub fn gamulisyan_number_decode(bytes: *const u8, length: usize) -> Number;
     pub fn gamulisyan_number_encode(value: u64, output: *mut u8, length: usize) -> Coded;

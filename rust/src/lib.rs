@@ -25,6 +25,7 @@ mod entries;
 mod names;
 mod reading;
 mod refusal;
+mod relaying;
 mod writing;
 
 pub use asking::{lookup, present, Found};
@@ -32,6 +33,7 @@ pub use coding::{date_decode, date_encode, number_decode, number_encode, Date};
 pub use names::{Edition, Editions, Fault, Kind, Parameter};
 pub use reading::{payload, read, read_into, read_tolerant, read_within, which, Header, Presence, Row, WORDS};
 pub use refusal::Refusal;
+pub use relaying::{relay, relay_into};
 pub use writing::{write, write_into};
 
 /// Major, minor and patch of the archive that is linked; all 0 if it is no release.
