@@ -104,6 +104,27 @@ fn asks_for_parameters_that_can_be_asked_for() {
 }
 
 #[test]
+fn relays_up_to_sixteen_envelopes() {
+    let hop = b"\xFD\x00\x11a\x00\x20\x31\x11\x16\x19\x15\x37\x62\x59\x20\x01\x01";
+    let table = read(Edition::D, &[&hop[..], &M].concat()).unwrap().rows[..3].to_vec();
+    let mut message = M.to_vec();
+    for envelopes in 2..=16 {
+        let (joined, header) = relay(Edition::D, &message, &table, hop).unwrap();
+        assert_eq!(joined, [&hop[..], &message].concat());
+        assert_eq!((header.presence().len(), &header), (envelopes, &read(Edition::D, &joined).unwrap()));
+        message = joined;
+    }
+    let seventeenth = relay(Edition::D, &message, &table, hop).unwrap_err();
+    assert_eq!((seventeenth.fault, seventeenth.place), (Fault::EnvelopeLimit, 0));
+    let base = read(Edition::D, &M).unwrap().rows;
+    assert_eq!(relay(Edition::D, &M, &base, &M).unwrap_err().fault, Fault::TableWrong);
+    let ended = relay(Edition::D, &M[..14], &table, hop).unwrap_err();
+    assert_eq!((ended.fault, ended.place), (Fault::InputEnds, 14));
+    let short = relay_into(Edition::D, &M, &table, hop, &mut [Row::default(); 6], &mut [0; WORDS], &mut [0; 31]).unwrap_err();
+    assert_eq!((short.fault, short.place), (Fault::OutputShort, 32));
+}
+
+#[test]
 fn codes_numbers() {
     assert_eq!(number_decode(b"\x53\xA5\xA7\x83\xA6\x00"), Ok(4_294_967_295));
     let refusal = number_decode(b"\x53\xA5\xA7\x83\xA7\x00").unwrap_err();
