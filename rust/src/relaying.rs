@@ -37,6 +37,18 @@ pub fn relay(edition: Edition, input: &[u8], table: &[Row], pool: &[u8]) -> Resu
 
 /// The same into rows, words and output of the caller's: the joined header's length and its row count. Refused also with 14 at that length
 /// with the rows needed, then with 16 at the bytes needed. A refusal changes nothing lent.
+///
+/// ```
+/// use gamulisyan::{read, relay_into, Edition, Fault, Row, WORDS};
+/// let old = b"\xFE\x00\x0F\x12\x20\x31\x11\x16\x19\x15\x37\x62\x59\x20\x01";
+/// let hop = b"\xFD\x00\x11a\x00\x20\x31\x11\x16\x19\x15\x37\x62\x59\x20\x01\x01";
+/// let table = &read(Edition::D, &[&hop[..], &old[..]].concat())?.rows[..3];
+/// let (mut rows, mut words, mut output) = ([Row::default(); 6], [0; WORDS], [0; 32]);
+/// let short = relay_into(Edition::D, old, table, hop, &mut rows[..5], &mut words, &mut output).unwrap_err();
+/// assert_eq!((short.fault, short.place, short.rows), (Fault::RowsShort, 32, 6));
+/// assert_eq!(relay_into(Edition::D, old, table, hop, &mut rows, &mut words, &mut output)?, (32, 6));
+/// # Ok::<(), gamulisyan::Refusal>(())
+/// ```
 pub fn relay_into(
     edition: Edition,
     input: &[u8],
