@@ -2,7 +2,7 @@
 use Prim.Native.Nat.{ℕ, _+_, _≤_}
 use mathlib.Core.List.{List, [], _∷_, _++_, map}
 use mathlib.Core.Bool.{Bool, true, false, _&&_, not}
-use mathlib.Core.Logic.{_⊎_, inl, inr}
+use mathlib.Core.Logic.{_⊎_, inl, inr, _↔_}
 use mathlib.Core.Path.{_≡_, refl, ap, sym, _∙_, subst}
 use native.Mathlib.Omega.{arith}
 use lib.Dec.{T}
@@ -34,6 +34,8 @@ use Rattle.laws.specs.WriterRefusals.{WriterRefusal, writer-refusal}
 use Rattle.laws.specs.PlainNumbers.{number-coded-decoded, number-decoded-coded}
 use Rattle.laws.specs.PlainDates.{date-coded-decoded, date-decoded-coded}
 use Rattle.laws.specs.Ties.{only-stuck, written-right, whole-front, numberOf, SameMeaning, plainCell, plainTable, read-known, write-known, accepted-known, written-known, read-as, write-as, cells-placed, whole-of, whole-written, same-meaning, plain-cells, seven-or-nine}
+use Rattle.laws.specs.Grammar.{HeaderOf}
+use Rattle.laws.specs.Exactly.{header-accepted, accepted-header, one-header}
 use Rattle.laws.specs.Fifteen.{IsTable, plan-table, BeginsTable, NoneWith, stuck-means}
 
 -- 1. "Read then written: the same bytes."
@@ -189,6 +191,16 @@ date-again kind d q = date-coded-decoded kind d q
 
 pub date-bytes-again : (kind : ℕ) (s v : List ℕ) → decodeDate kind s ≡ decoded v → (s ≡ v) × (dateInRange kind (dateOf v) ≡ true) × (dateBytes (dateOf v) ≡ s)
 date-bytes-again kind s v q = date-decoded-coded kind s v q
+
+-- 8. "The reader accepts exactly the edition's headers and gives exactly the rows."
+-- An input is accepted under an edition's number if and only if it is the bytes of a table of that edition, as document 01's grammar and limits have it (`Grammar`),
+-- with any payload behind them; the place is where they end, and the rows are that table's, starts included. No input is two such headers.
+
+pub accepts-exactly : (edition : ℕ) (input : List ℕ) (place : ℕ) (rows : List Placed) → T (areBytes input) → (read edition input ≡ accepted place rows) ↔ HeaderOf edition input place rows
+accepts-exactly edition input place rows t = (accepted-header edition input place rows t, header-accepted edition input place rows)
+
+pub one-table : (edition : ℕ) (input : List ℕ) (p q : ℕ) (rs ts : List Placed) → HeaderOf edition input p rs → HeaderOf edition input q ts → (p ≡ q) × (rs ≡ ts)
+one-table edition input p q rs ts h k = one-header edition input p q rs ts h k
 
 -- No premise above is empty: for each edition, a header that is read; a table that is written; and one that is plain, and one that is not.
 

@@ -57,6 +57,10 @@ pub mod Ranked
 pub mod Lacking
 pub mod PassedOver
 pub mod Looking
+pub mod Grammar
+pub mod Grammatical
+pub mod GrammarWritten
+pub mod Exactly
 pub mod Demands
 pub mod Sorting
 pub mod PresentValues
