@@ -1,5 +1,5 @@
 -- What the customer buys, over the definitions of `meaning`: each theorem stands under the sentence that it meets.
-use Prim.Native.Nat.{ℕ, _+_, _≤_}
+use Prim.Native.Nat.{ℕ, _+_, _≤_, _<_}
 use mathlib.Core.List.{List, [], _∷_, _++_, map}
 use mathlib.Core.Bool.{Bool, true, false, _&&_, not}
 use mathlib.Core.Logic.{_⊎_, inl, inr, _↔_}
@@ -13,7 +13,7 @@ use Rattle.meaning.specs.Reading.{Row}
 use Rattle.meaning.specs.Headers.{Placed, meant, refused, accepted, header, envelopesMost, labelled, readBy, read}
 use Rattle.meaning.specs.Writing.{Cell, cell, Envelope, stuck, plan, wholePlan, written, unwritten, writeRows}
 use Rattle.meaning.specs.Skips.{right, wrongAt, belongs, belonging, heldAgainst}
-use Rattle.meaning.specs.Memory.{row, tableOf, cellsOf, ranksOf, skipsOf, skipsHeld, roomOf, write}
+use Rattle.meaning.specs.Memory.{row, tableOf, reply, readReply, cellsOf, ranksOf, skipsOf, skipsHeld, roomOf, write}
 use Rattle.laws.specs.Logic.{areBytes}
 use Rattle.laws.specs.Views.{AllIn, view-part}
 use Rattle.laws.specs.Envelopes.{header-read, header-crosses, CrossHeader}
@@ -36,6 +36,8 @@ use Rattle.laws.specs.PlainDates.{date-coded-decoded, date-decoded-coded
 use Rattle.laws.specs.Ties.{only-stuck, written-right, whole-front, numberOf, SameMeaning, plainCell, plainTable, read-known, write-known, accepted-known, written-known, read-as, write-as, cells-placed, whole-of, whole-written, same-meaning, plain-cells, seven-or-nine}
 use Rattle.laws.specs.Grammar.{HeaderOf}
 use Rattle.laws.specs.Exactly.{header-accepted, accepted-header, one-header}
+use Rattle.laws.specs.Faults.{ReaderRefusal}
+use Rattle.laws.specs.ReadRefused.{refuses-as-said, Decided, fault-decides, placeOf, cut-is-two}
 use Rattle.laws.specs.Fifteen.{IsTable, plan-table, BeginsTable, NoneWith, stuck-means}
 
 -- 1. "Read then written: the same bytes."
@@ -199,8 +201,27 @@ date-bytes-again kind s v q = date-decoded-coded kind s v q
 pub accepts-exactly : (edition : ℕ) (input : List ℕ) (place : ℕ) (rows : List Placed) → T (areBytes input) → (read edition input ≡ accepted place rows) ↔ HeaderOf edition input place rows
 accepts-exactly edition input place rows t = (accepted-header edition input place rows t, header-accepted edition input place rows)
 
-pub one-table : (edition : ℕ) (input : List ℕ) (p q : ℕ) (rs ts : List Placed) → HeaderOf edition input p rs → HeaderOf edition input q ts → (p ≡ q) × (rs ≡ ts)
-one-table edition input p q rs ts h k = one-header edition input p q rs ts h k
+pub one-header-only : (edition : ℕ) (input : List ℕ) (p q : ℕ) (rs ts : List Placed) → HeaderOf edition input p rs → HeaderOf edition input q ts → (p ≡ q) × (rs ≡ ts)
+one-header-only edition input p q rs ts h k = one-header edition input p q rs ts h k
+
+-- 9. "Each refusal has its number and place, is given exactly when the documents say": of the reader.
+-- An answer other than 0, with its place and the rows it reports, is given if and only if what document 01 says of that number holds (`ReaderRefusal`, in `Faults`); room: the rows that the
+-- lent memory has room for.
+
+pub refuses-exactly : (edition : ℕ) (input : List ℕ) (room refusal place count : ℕ) → T (areBytes input) → 1 ≤ refusal → (readReply room (read edition input) ≡ reply refusal place count) ↔ ReaderRefusal edition input room refusal place count
+refuses-exactly edition input room refusal place count t some = refuses-as-said edition input room refusal place count t some
+
+-- 10. "Reading goes byte by byte; the first fault decides."
+-- The bytes up to the fault decide (`Decided`: how many from its place on, `decidedBy` says); with any others behind them the answer is the same, but that an input which then ends before the
+-- declared end is 2 at its own end. 2 itself speaks of the input's end.
+
+pub first-fault-decides : (edition : ℕ) (input : List ℕ) (refusal place : ℕ) → T (areBytes input) → read edition input ≡ refused refusal place → (refusal ≡ 2 → ⊥) → Decided edition input refusal place
+first-fault-decides edition input refusal place t q two = fault-decides edition input refusal place t q two
+
+-- An input that is cut before the place of its answer, a fault's or the payload's, is 2 at its own end; so it is never accepted.
+
+pub cut-before-place : (edition : ℕ) (front back : List ℕ) → T (areBytes (front ++ back)) → length front < placeOf (read edition (front ++ back)) → read edition front ≡ refused 2 (length front)
+cut-before-place edition front back t short = cut-is-two edition front back t short
 
 -- No premise above is empty: for each edition, a header that is read; a table that is written; and one that is plain, and one that is not.
 

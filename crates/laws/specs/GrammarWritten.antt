@@ -42,7 +42,7 @@ steps-append e {st₁ = st₁} {st₂ = st₂} {ys = ys} {ts = ts} (row {st = st
 steps-append e {st₁ = st₁} {st₂ = st₂} {ys = ys} {ts = ts} (pass {at = at} {bytes = bytes} m i q more) b = pass m i q (steps-append e more (subst (λ (x : ℕ). Steps e st₁ x ys ts st₂) (omega arith) b))
 
 -- an agent that is not too deep
-shallow : (m : Move) (st : State) → tooDeep m st ≡ false → m .kind ≡ agentName → st .level ≤ levelMost
+pub shallow : (m : Move) (st : State) → tooDeep m st ≡ false → m .kind ≡ agentName → st .level ≤ levelMost
 shallow m st d k = ltb-false levelMost (st .level) (rw (eq-eqb (m .kind) agentName k) at d)
 
 -- one row, from any place on

@@ -115,15 +115,22 @@ head-and-inside n = at (isShort n)
     at true = refl
     at false = refl
 
-pub inside-read : (e : Edition) (base : Bool) (at : ℕ) (bytes : List ℕ) (rows : List Placed) → Inside e base (at + headSize (length bytes)) bytes rows
-    → (seens : List Seen) × (inside (told e) (start base) bytes ≡ done seens []) × (map (placed (at + envelopeSize (length bytes))) seens ≡ rows)
-inside-read e base at bytes rows i =
-    let r = steps-read e (i .steps) [] in
-    let all : at + headSize (length bytes) + length (bytes ++ []) ≡ at + envelopeSize (length bytes) = omega (arith, length-append bytes [], head-and-inside (length bytes)) in (
+pub inside-done : (e : Edition) (base : Bool) (at : ℕ) (bytes : List ℕ) (rows : List Placed) → Inside e base at bytes rows
+    → (seens : List Seen) × (inside (told e) (start base) bytes ≡ done seens []) × (map (placed (at + length bytes)) seens ≡ rows)
+inside-done e base at bytes rows i =
+    let r = steps-read e (i .steps) [] in (
       r .seens,
       ap (inside (told e) (start base)) (sym (append-nil bytes)) ∙ inside-path (told e) (r .path) ∙ ap (withRows (r .seens)) (inside-over (told e) (i .last) [] (step-over (told e) (i .last) (i .closes))) ∙ ap (λ (x : List Seen). done x []) (append-nil (r .seens)),
-      ap (λ (x : ℕ). map (placed x) (r .seens)) (sym all) ∙ r .are,
+      ap (λ (x : List ℕ). map (placed (at + length x)) (r .seens)) (sym (append-nil bytes)) ∙ r .are,
     )
+
+-- behind an identifier and a length that the writer gives
+inside-read : (e : Edition) (base : Bool) (at : ℕ) (bytes : List ℕ) (rows : List Placed) → Inside e base (at + headSize (length bytes)) bytes rows
+    → (seens : List Seen) × (inside (told e) (start base) bytes ≡ done seens []) × (map (placed (at + envelopeSize (length bytes))) seens ≡ rows)
+inside-read e base at bytes rows i =
+    let (seens, q, are) = inside-done e base (at + headSize (length bytes)) bytes rows i in
+    let all : at + headSize (length bytes) + length bytes ≡ at + envelopeSize (length bytes) = omega (arith, head-and-inside (length bytes)) in
+    (seens, q, ap (λ (x : ℕ). map (placed x) seens) (sym all) ∙ are)
 
 -- A whole header is read with its rows, whatever stands behind it
 

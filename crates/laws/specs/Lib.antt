@@ -61,6 +61,13 @@ pub mod Grammar
 pub mod Grammatical
 pub mod GrammarWritten
 pub mod Exactly
+pub mod Faults
+pub mod FaultyValues
+pub mod FaultyInsides
+pub mod FaultyHeaders
+pub mod Decisive
+pub mod FirstFault
+pub mod ReadRefused
 pub mod Demands
 pub mod Sorting
 pub mod PresentValues
