@@ -11,14 +11,14 @@ use Rattle.meaning.specs.Basics.{every}
 use Rattle.meaning.specs.Told.{Edition, Label, known, unknown, labelOf, Strictness, strict, toldBy, told}
 use Rattle.meaning.specs.Reading.{Row}
 use Rattle.meaning.specs.Headers.{Placed, meant, refused, accepted, header, envelopesMost, labelled, readBy, read}
-use Rattle.meaning.specs.Writing.{Cell, cell, Envelope, stuck, plan, wholePlan, written, unwritten, writeRows}
-use Rattle.meaning.specs.Skips.{right, wrongAt, belongs, belonging, heldAgainst}
-use Rattle.meaning.specs.Memory.{row, tableOf, reply, readReply, cellsOf, ranksOf, skipsOf, skipsHeld, roomOf, write}
+use Rattle.meaning.specs.Writing.{Cell, cell, written, unwritten, writeRows}
+use Rattle.meaning.specs.Skips.{right, belongs, belonging, heldAgainst}
+use Rattle.meaning.specs.Memory.{row, tableOf, reply, readReply, cellsOf, ranksOf, skipsOf, skipsHeld, write}
 use Rattle.laws.specs.Logic.{areBytes}
 use Rattle.laws.specs.Views.{AllIn, view-part}
 use Rattle.laws.specs.Envelopes.{header-read, header-crosses, CrossHeader}
 use Rattle.laws.specs.Plans.{written-writes, writes-written}
-use Rattle.laws.specs.RightSkips.{table-right, LowestWrong, wrong-means}
+use Rattle.laws.specs.RightSkips.{table-right}
 use Rattle.laws.specs.WrittenBytes.{written-are-bytes}
 use Rattle.laws.specs.PlainRows.{other, allPlain}
 use Rattle.meaning.specs.Bytes.{numberMost, textByte, takeText, textOk, turn, takeNumber, numberOk, lastDay, passes, takeDate, dateOk, highFirst, tooWide, takeBytes, blockOf, takeBlock, blockOk}
@@ -30,15 +30,15 @@ use Rattle.meaning.specs.Plain.{decoded, decodeNumber, numberValue, numberBytes
 use Rattle.meaning.specs.Cases.{hex, baseWith, inMemory, baseRows}
 use Rattle.laws.specs.Refusals.{not-zero, refused-shape as header-refused}
 use Rattle.laws.specs.RowCounts.{table-few, length-meant}
-use Rattle.laws.specs.WriterRefusals.{WriterRefusal, writer-refusal}
 use Rattle.laws.specs.PlainNumbers.{number-coded-decoded, number-decoded-coded}
 use Rattle.laws.specs.PlainDates.{date-coded-decoded, date-decoded-coded}
-use Rattle.laws.specs.Ties.{only-stuck, written-right, whole-front, numberOf, SameMeaning, plainCell, plainTable, read-known, write-known, accepted-known, written-known, read-as, write-as, cells-placed, whole-of, whole-written, same-meaning, plain-cells, seven-or-nine}
+use Rattle.laws.specs.Ties.{written-right, whole-front, numberOf, SameMeaning, plainCell, plainTable, read-known, write-known, accepted-known, written-known, read-as, write-as, cells-placed, whole-of, whole-written, same-meaning, plain-cells, seven-or-nine}
 use Rattle.laws.specs.Grammar.{HeaderOf}
 use Rattle.laws.specs.Exactly.{header-accepted, accepted-header, one-header}
 use Rattle.laws.specs.Faults.{ReaderRefusal}
 use Rattle.laws.specs.ReadRefused.{refuses-as-said, Decided, fault-decides, placeOf, cut-is-two}
-use Rattle.laws.specs.Fifteen.{IsTable, plan-table, BeginsTable, NoneWith, stuck-means}
+use Rattle.laws.specs.WriterFaults.{WriterFault, WritesAs}
+use Rattle.laws.specs.WriteRefused.{unwritten-as-said, written-as-said, PlaceShape, fault-shape}
 
 -- 1. "Read then written: the same bytes."
 -- Every accepted input's rows, written under the same edition with the input as pool and room for the bytes, give the bytes up to the payload.
@@ -125,24 +125,16 @@ payload-alters-nothing edition input place rows t q payload =
     let same : accepted (0 + length (w .bytes)) read-rows ≡ accepted place rows = sym (f (w .payload)) ∙ ap (header envelopesMost (told e) 0) (sym (w .parts)) ∙ a in
     read-as strict edition e (take place input ++ payload) k ∙ ap (λ (x : List ℕ). header envelopesMost (told e) 0 (x ++ payload)) (whole-front (told e) input place rows w) ∙ f payload ∙ same
 
--- 5. "15: rows up to here begin no table of this edition, or start plus length passes the pool, or rows or slice end early"
--- The rows before the one that 15 names begin a table, its limits aside; with that row none do; where it names the row count, they are no table.
--- Order 7: "15 for a wrong skip number, at its row, after 15's other faults": or the rows are a table, the skip numbers before that row are right, and its is wrong.
+-- 5. "Each refusal has its number and place, is given exactly when the documents say": of the writer; and when it writes, and which bytes.
+-- 15: the rows before the one that it names begin a table of the edition, limits aside, and with that row none do; where it names the row count, they are no table. Or (order 7) they are one, the
+-- skip numbers before that row are right, and its is wrong. 5: they are one with right skip numbers, and that row opens the lowest envelope that is past a limit. 16: they are one within the limits,
+-- and its bytes, as many as it names, exceed the room. All over document 01's grammar (`WriterFaults`, over `Grammar`).
 
-abbrev pub BeginsNone : Edition → List ℕ → List ℕ → ℕ → Type 0
-BeginsNone e rows pool i = (front : List Cell) × (rest : List Cell) × (cellsOf pool rows ≡ front ++ rest) × (length front ≡ i) × BeginsTable e front × NoneWith e front rest
+pub writer-refuses-exactly : (edition : ℕ) (rows pool : List ℕ) (room refusal place : ℕ) → (write edition rows pool room ≡ unwritten refusal place) ↔ WriterFault edition rows pool room refusal place
+writer-refuses-exactly edition rows pool room refusal place = unwritten-as-said edition rows pool room refusal place
 
-pub record WrongSkip (e : Edition) (rows pool : List ℕ) (i : ℕ) : Type 0 where
-  pub table : IsTable e (cellsOf pool rows)
-  pub lowest : LowestWrong rows (roomOf rows) 0 i
-
-pub fifteen-means : (e : Edition) (rows pool : List ℕ) (room i : ℕ) → write (numberOf e) rows pool room ≡ unwritten 15 i → BeginsNone e rows pool i ⊎ WrongSkip e rows pool i
-unfolding writeRows
-fifteen-means e rows pool room i q = at (only-stuck room i (skipsHeld rows) (wholePlan e (cellsOf pool rows)) (sym (write-known e rows pool room) ∙ q))
-  where
-    at : (wholePlan e (cellsOf pool rows) ≡ stuck i) ⊎ ((bs : List ℕ) × (vs : List Envelope) × (wholePlan e (cellsOf pool rows) ≡ plan bs vs) × (skipsHeld rows ≡ wrongAt i)) → BeginsNone e rows pool i ⊎ WrongSkip e rows pool i
-    at (inl p) = inl (stuck-means e (cellsOf pool rows) i p)
-    at (inr (bs, vs, p, w)) = inr (record { table = plan-table e (cellsOf pool rows) bs vs p; lowest = wrong-means rows i w })
+pub writes-exactly : (edition : ℕ) (rows pool : List ℕ) (room : ℕ) (bytes : List ℕ) → (write edition rows pool room ≡ written bytes) ↔ WritesAs edition rows pool room bytes
+writes-exactly edition rows pool room bytes = written-as-said edition rows pool room bytes
 
 -- 6. The shape of an answer. Accepted: the place is in the input, every row views bytes of the header, and there are never more rows than bytes.
 
@@ -165,7 +157,7 @@ accepted-shape strictness edition input place rows t q =
     views-header bytes payload place [] l i = tt
     views-header bytes payload place (r ∷ rs) l (h, i) = let (v, m) = view-part bytes payload r h in ((omega arith, v), views-header bytes payload place rs l i)
 
--- Refused: the number is never 0 and the place never past the input. The writer's refusals name a row, or for 16 the bytes needed (`WriterRefusal`).
+-- Refused: the number is never 0 and the place never past the input. The writer's refusals name a row or the row count, but 16 the bytes needed, with room for which the rows are written.
 
 pub refused-shape : (strictness : Strictness) (edition : ℕ) (input : List ℕ) (refusal place : ℕ) → readBy strictness edition input ≡ refused refusal place → (1 ≤ refusal) × (place ≤ length input)
 unfolding readBy
@@ -177,8 +169,8 @@ refused-shape strictness edition input refusal place q = at (labelOf edition) q
         let (i, l) = header-refused envelopesMost (toldBy strictness e) input refusal place r in
         (not-zero (toldBy strictness e) refusal i, l)
 
-pub unwritten-shape : (edition : ℕ) (rows pool : List ℕ) (room refusal place : ℕ) → write edition rows pool room ≡ unwritten refusal place → WriterRefusal edition rows pool room refusal place
-unwritten-shape edition rows pool room refusal place q = writer-refusal edition rows pool room refusal place q
+pub unwritten-shape : (edition : ℕ) (rows pool : List ℕ) (room refusal place : ℕ) → write edition rows pool room ≡ unwritten refusal place → (1 ≤ refusal) × PlaceShape edition rows pool refusal place
+unwritten-shape edition rows pool room refusal place q = fault-shape edition rows pool room (unwritten-as-said edition rows pool room refusal place .0 q)
 
 -- 7. "Coding and decoding of numbers and dates are inverse on what they accept, both ways."
 

@@ -44,7 +44,6 @@ pub mod WrittenBytes
 pub mod Refusals
 pub mod Tolerance
 pub mod RowCounts
-pub mod WriterRefusals
 pub mod CodedNumbers
 pub mod PlainNumbers
 pub mod PlainDates
@@ -68,6 +67,10 @@ pub mod FaultyHeaders
 pub mod Decisive
 pub mod FirstFault
 pub mod ReadRefused
+pub mod WriterFaults
+pub mod Planning
+pub mod Limits
+pub mod WriteRefused
 pub mod Demands
 pub mod Sorting
 pub mod PresentValues
