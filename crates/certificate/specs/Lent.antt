@@ -18,6 +18,7 @@ use Rattle.meaning.specs.Plain.{Decoded, decoded, undecoded, Outcome, outcome, 
 use Rattle.laws.specs.Rows.{rows-whole}
 use Rattle.laws.specs.Plans.{written-writes}
 use Rattle.laws.specs.Ties.{SameMeaning, written-known}
+use Rattle.laws.specs.WriterRefusals.{WriterRefusal, no-edition, no-table, past-limit, no-room}
 use Rattle.laws.specs.Demands.{refused-shape, unwritten-shape}
 use Rattle.listing.specs.Listed.{table-length}
 use Rattle.coders.specs.declared.encode.Encoded.{Encoded}
@@ -113,6 +114,12 @@ module _ {w : Strictness} {edition : ℕ} {input before words after words′ : L
 
 -- The writer
 
+refusal-some : {edition : ℕ} {rows pool : List ℕ} {room refusal place : ℕ} → WriterRefusal edition rows pool room refusal place → 1 ≤ refusal
+refusal-some (no-edition k) = omega arith
+refusal-some (no-table h) = omega arith
+refusal-some (past-limit h) = omega arith
+refusal-some (no-room bytes h l w) = omega arith
+
 module _ {edition : ℕ} {rows pool before after : List ℕ} {a : declared.Reply} (p : WritePromise edition rows pool before a after) where
   abbrev WrittenCall : Type 0
   WrittenCall = (bytes : List ℕ) × (write edition rows pool (length before) ≡ written bytes) × Laid bytes rows before a after
@@ -135,7 +142,7 @@ module _ {edition : ℕ} {rows pool before after : List ℕ} {a : declared.Reply
     where
       at : (found : Written) → write edition rows pool (length before) ≡ found → reply (a .answer) (a .place) (a .rows) ≡ writeReply (roomOf rows) found → WrittenCall
       at (unwritten refusal place) q r =
-          let h = unwritten-shape edition rows pool (length before) refusal place q .0 in let x : a .answer ≡ refusal = ap (λ (x : Reply). x .answer) r in
+          let h = refusal-some (unwritten-shape edition rows pool (length before) refusal place q) in let x : a .answer ≡ refusal = ap (λ (x : Reply). x .answer) r in
           absurd (omega arith)
       at (written bytes) q r = (bytes, q, lays q)
 

@@ -29,6 +29,7 @@ use Rattle.meaning.specs.Writing.{Written, valid, writeValue, wayOf, fit, fitRo
 use Rattle.meaning.specs.Plain.{decoded, decodeNumber, numberValue, numberBytes, Date, dateOf, dateBytes, decodeDate, dateInRange}
 use Rattle.meaning.specs.Cases.{hex, baseWith, inMemory, baseRows}
 use Rattle.laws.specs.Refusals.{not-zero, refused-shape as header-refused}
+use Rattle.laws.specs.WriterRefusals.{WriterRefusal, writer-refusal}
 use Rattle.laws.specs.RowCounts.{table-few, length-meant}
 use Rattle.laws.specs.PlainNumbers.{number-coded-decoded, number-decoded-coded}
 use Rattle.laws.specs.PlainDates.{date-coded-decoded, date-decoded-coded}
@@ -38,7 +39,7 @@ use Rattle.laws.specs.Exactly.{header-accepted, accepted-header, one-hea
 use Rattle.laws.specs.Faults.{ReaderRefusal}
 use Rattle.laws.specs.ReadRefused.{refuses-as-said, Decided, fault-decides, placeOf, cut-is-two}
 use Rattle.laws.specs.WriterFaults.{WriterFault, WritesAs}
-use Rattle.laws.specs.WriteRefused.{unwritten-as-said, written-as-said, PlaceShape, fault-shape}
+use Rattle.laws.specs.WriteRefused.{unwritten-as-said, written-as-said}
 
 -- 1. "Read then written: the same bytes."
 -- Every accepted input's rows, written under the same edition with the input as pool and room for the bytes, give the bytes up to the payload.
@@ -157,7 +158,7 @@ accepted-shape strictness edition input place rows t q =
     views-header bytes payload place [] l i = tt
     views-header bytes payload place (r ∷ rs) l (h, i) = let (v, m) = view-part bytes payload r h in ((omega arith, v), views-header bytes payload place rs l i)
 
--- Refused: the number is never 0 and the place never past the input. The writer's refusals name a row or the row count, but 16 the bytes needed, with room for which the rows are written.
+-- Refused: the number is never 0 and the place never past the input. The writer's refusals name a row, or for 16 the bytes needed (`WriterRefusal`).
 
 pub refused-shape : (strictness : Strictness) (edition : ℕ) (input : List ℕ) (refusal place : ℕ) → readBy strictness edition input ≡ refused refusal place → (1 ≤ refusal) × (place ≤ length input)
 unfolding readBy
@@ -169,8 +170,8 @@ refused-shape strictness edition input refusal place q = at (labelOf edition) q
         let (i, l) = header-refused envelopesMost (toldBy strictness e) input refusal place r in
         (not-zero (toldBy strictness e) refusal i, l)
 
-pub unwritten-shape : (edition : ℕ) (rows pool : List ℕ) (room refusal place : ℕ) → write edition rows pool room ≡ unwritten refusal place → (1 ≤ refusal) × PlaceShape edition rows pool refusal place
-unwritten-shape edition rows pool room refusal place q = fault-shape edition rows pool room (unwritten-as-said edition rows pool room refusal place .0 q)
+pub unwritten-shape : (edition : ℕ) (rows pool : List ℕ) (room refusal place : ℕ) → write edition rows pool room ≡ unwritten refusal place → WriterRefusal edition rows pool room refusal place
+unwritten-shape edition rows pool room refusal place q = writer-refusal edition rows pool room refusal place q
 
 -- 7. "Coding and decoding of numbers and dates are inverse on what they accept, both ways."
 

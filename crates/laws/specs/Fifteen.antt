@@ -1,5 +1,5 @@
--- What a plan that is stuck says: the rows before the one that it names begin a plan (some rows behind them complete it), and with that row none do:
--- a row that fits nowhere fits nowhere, whatever follows. What that means of tables: `WriteRefused`.
+-- What 15 means: the rows before the one that it names begin a table (some rows behind them complete it), and with that row none do:
+-- a row that fits nowhere fits nowhere, whatever follows.
 use Prim.Native.Nat.{ℕ, zero, suc, _+_, _≤_}
 use mathlib.Core.List.{List, [], _∷_, _++_, append-assoc, append-nil, map}
 use mathlib.Core.Bool.{Bool, true, false}
@@ -153,22 +153,27 @@ split-at cs zero h = ([], cs, refl, refl)
 split-at [] (suc j) h = absurd (omega arith)
 split-at (c ∷ cs) (suc j) h = let (xs, zs, p, q) = split-at cs j (omega arith) in (c ∷ xs, zs, ap (λ (x : List Cell). c ∷ x) p, ap suc q)
 
--- Rows have a plan, or begin some that have one
-abbrev pub HasPlan : Edition → List Cell → Type 0
-HasPlan e cs = (bs : List ℕ) × (vs : List Envelope) × (wholePlan e cs ≡ plan bs vs)
+-- Rows begin a table of the edition if some rows behind them make one, its limits aside
+pub IsTable : Edition → List Cell → Type 0
+IsTable e cs = (bs : List ℕ) × (vs : List Envelope) × (wholePlan e cs ≡ plan bs vs)
 
-abbrev pub BeginsPlan : Edition → List Cell → Type 0
-BeginsPlan e cs = (more : List Cell) × HasPlan e (cs ++ more)
+pub plan-table : (e : Edition) (cs : List Cell) (bs : List ℕ) (vs : List Envelope) → wholePlan e cs ≡ plan bs vs → IsTable e cs
+unfolding IsTable
+plan-table e cs bs vs q = (bs, vs, q)
 
--- rows that end before the row that is named begin a plan; with that row, none do; if there is none, they have none
-abbrev pub NoPlanWith : Edition → List Cell → List Cell → Type 0
-NoPlanWith e xs [] = HasPlan e xs → ⊥
-NoPlanWith e xs (c ∷ zs) = BeginsPlan e (xs ++ (c ∷ [])) → ⊥
+pub BeginsTable : Edition → List Cell → Type 0
+BeginsTable e cs = (more : List Cell) × IsTable e (cs ++ more)
+
+-- rows that end before the row that is named begin a table; with that row, none do; if there is none, they are no table
+abbrev pub NoneWith : Edition → List Cell → List Cell → Type 0
+NoneWith e xs [] = IsTable e xs → ⊥
+NoneWith e xs (c ∷ zs) = BeginsTable e (xs ++ (c ∷ [])) → ⊥
 
 closed-sound : Sound (state closed 0 false)
 closed-sound t = absurd t
 
-pub stuck-means : (e : Edition) (cs : List Cell) (j : ℕ) → wholePlan e cs ≡ stuck j → (xs : List Cell) × (zs : List Cell) × (cs ≡ xs ++ zs) × (length xs ≡ j) × BeginsPlan e xs × NoPlanWith e xs zs
+pub stuck-means : (e : Edition) (cs : List Cell) (j : ℕ) → wholePlan e cs ≡ stuck j → (xs : List Cell) × (zs : List Cell) × (cs ≡ xs ++ zs) × (length xs ≡ j) × BeginsTable e xs × NoneWith e xs zs
+unfolding BeginsTable IsTable
 stuck-means e cs j q =
     let h = stuck-between e cs 0 false (state closed 0 false) j q in
     let (xs, zs, p, l) = split-at cs j (omega arith) in
@@ -176,7 +181,7 @@ stuck-means e cs j q =
     let (more, bs, (vs, b, _)) = begins e xs zs 0 false (state closed 0 false) closed-sound r in
     (xs, zs, p, l, (map cell more, (bs, vs, b)), none-with xs zs r)
   where
-    none-with : (xs zs : List Cell) → planOf e (xs ++ zs) 0 false (state closed 0 false) ≡ stuck (0 + length xs) → NoPlanWith e xs zs
+    none-with : (xs zs : List Cell) → planOf e (xs ++ zs) 0 false (state closed 0 false) ≡ stuck (0 + length xs) → NoneWith e xs zs
     none-with xs [] r = λ (bs, vs, h). stuck-plan (sym h ∙ ap (wholePlan e) (sym (append-nil xs)) ∙ r)
     none-with xs (c ∷ zs) r = λ (more, (bs, vs, h)).
         stuck-plan (sym h ∙ ap (wholePlan e) (append-assoc xs (c ∷ []) more) ∙ stuck-stays e xs c zs more 0 false (state closed 0 false) r)

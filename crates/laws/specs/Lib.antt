@@ -44,6 +44,7 @@ pub mod WrittenBytes
 pub mod Refusals
 pub mod Tolerance
 pub mod RowCounts
+pub mod WriterRefusals
 pub mod CodedNumbers
 pub mod PlainNumbers
 pub mod PlainDates
@@ -70,6 +71,7 @@ pub mod ReadRefused
 pub mod WriterFaults
 pub mod Planning
 pub mod Limits
+pub mod Stopping
 pub mod WriteRefused
 pub mod Demands
 pub mod Sorting

@@ -1,19 +1,19 @@
 -- The ties between the entries of `meaning`, an edition, and the lent rows over their pool.
 use Prim.Native.Nat.{ℕ, suc, _+_}
 use mathlib.Core.List.{List, [], _∷_, _++_, append-nil, map}
-use mathlib.Core.Bool.{Bool, false, _&&_, _||_}
+use mathlib.Core.Bool.{Bool, true, false, _&&_, _||_}
 use mathlib.Core.Logic.{_⊎_, inl, inr}
 use mathlib.Core.Path.{_≡_, refl, ap, sym, _∙_, subst}
 use native.Mathlib.Omega.{arith}
-use lib.Dec.{T, eqb, eqb→eq}
+use lib.Dec.{T, eqb, leb, eqb→eq}
 use lib.ListN.{length, take, length-append}
 use lib.Seq.{take-append-seam}
 use borrow.Author.Tests.{le-leb}
-use Rattle.meaning.specs.Basics.{every}
-use Rattle.meaning.specs.Told.{Edition, Label, B, D, known, unknown, labelOf, Strictness, Told, toldBy, told}
+use Rattle.meaning.specs.Basics.{pick, every}
+use Rattle.meaning.specs.Told.{Edition, Label, B, D, known, unknown, labelOf, Strictness, strict, Told, toldBy, told}
 use Rattle.meaning.specs.Reading.{Row}
 use Rattle.meaning.specs.Headers.{Placed, meant, accepted, header, envelopesMost, labelled, readBy}
-use Rattle.meaning.specs.Writing.{Cell, cell, broken, Plan, stuck, plan, written, planned, wholePlan, writeRows, writtenUnder}
+use Rattle.meaning.specs.Writing.{Cell, cell, broken, Envelope, headerOf, Plan, stuck, plan, Limit, fine, exceeds, limits, written, unwritten, limited, planned, wholePlan, writeRows, writtenUnder}
 use Rattle.meaning.specs.Skips.{Skips, right, wrongAt}
 use Rattle.meaning.specs.Memory.{numbersOf, rowsFrom, tableOf, cellOf, cellsOf, skipsOf, skipsHeld, write}
 use Rattle.laws.specs.Logic.{either, areBytes}
@@ -131,6 +131,20 @@ seven-or-nine k t = at (either (eqb k 7) (eqb k 9) t)
 pub whole-front : (told : Told) (input : List ℕ) (place : ℕ) (rows : List Placed) (w : Whole envelopesMost told 0 input place rows) → take place input ≡ w .bytes
 whole-front told input place rows w =
     ap (λ (x : ℕ). take x input) (w .place ∙ from-zero (length (w .bytes))) ∙ ap (take (length (w .bytes))) (w .parts) ∙ take-append-seam (w .bytes) (w .payload)
+
+-- 15 is given only where a plan is stuck, or where it is not and a skip number is wrong
+pub only-stuck : (room i : ℕ) (skips : Skips) (p : Plan) → planned room skips p ≡ unwritten 15 i → (p ≡ stuck i) ⊎ ((bs : List ℕ) × (vs : List Envelope) × (p ≡ plan bs vs) × (skips ≡ wrongAt i))
+only-stuck room i skips (stuck j) r = inl (ap stuck (cc r))
+only-stuck room i (wrongAt j) (plan bs vs) r = inr (bs, vs, refl, ap wrongAt (cc r))
+only-stuck room i right (plan bs vs) r = absurd (limits-never (limits envelopesMost vs) r)
+  where
+    room-never : (b : Bool) → pick b (written (headerOf vs)) (unwritten 16 (length (headerOf vs))) ≡ unwritten 15 i → ⊥
+    room-never true q = let z : _≡_ {A = ℕ} 0 1 = cc q in absurd (omega arith)
+    room-never false q = let z : _≡_ {A = ℕ} 16 15 = cc q in absurd (omega arith)
+
+    limits-never : (o : Limit) → limited room vs o ≡ unwritten 15 i → ⊥
+    limits-never fine q = room-never (leb (length (headerOf vs)) room) q
+    limits-never (exceeds j) q = let z : _≡_ {A = ℕ} 5 15 = cc q in absurd (omega arith)
 
 -- what is written has right skip numbers
 pub written-right : (e : Edition) (room : ℕ) (cs : List Cell) (skips : Skips) (w : List ℕ) → writeRows e room cs skips ≡ written w → skips ≡ right

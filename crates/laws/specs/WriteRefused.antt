@@ -1,24 +1,27 @@
 -- What the writer's answers say (`WriterFault`, `WritesAs`), both ways: each is given exactly where it is said.
-use Prim.Native.Nat.{ℕ, suc, _+_, _≤_, _<_}
+use Prim.Native.Nat.{ℕ, _+_, _≤_, _<_}
 use mathlib.Core.List.{List, [], _∷_, _++_, append-assoc, append-nil, map}
 use mathlib.Core.Bool.{Bool, true, false}
-use mathlib.Core.Logic.{_⊎_, inl, inr, _↔_}
+use mathlib.Core.Logic.{_↔_}
 use mathlib.Core.Path.{_≡_, refl, ap, sym, _∙_, subst}
 use native.Mathlib.Omega.{arith}
 use lib.Dec.{leb, ltb}
-use lib.ListN.{length, length-append}
+use lib.ListN.{length, take, drop, length-take, take-append-drop}
 use borrow.Author.Tests.{le-leb, lt-leb, leb-true, leb-false, ltb-true, ltb-false}
 use Rattle.meaning.specs.Basics.{pick}
 use Rattle.meaning.specs.Told.{Edition, Label, known, unknown, labelOf}
-use Rattle.meaning.specs.Headers.{Placed, meant, envelopesMost}
+use Rattle.meaning.specs.Editions.{closed, state}
+use Rattle.meaning.specs.Headers.{envelopesMost}
 use Rattle.meaning.specs.Writing.{Cell, cell, Envelope, Plan, stuck, plan, wholePlan, headerOf, Limit, fine, exceeds, limits, Written, written, unwritten, limited, planned, writeRows, writtenUnder}
 use Rattle.meaning.specs.Skips.{Skips, right, wrongAt}
 use Rattle.meaning.specs.Memory.{roomOf, cellsOf, skipsHeld, write}
 use Rattle.laws.specs.Hopping.{AllRight, all-held, held-are}
-use Rattle.laws.specs.RightSkips.{LowestWrong, wrong-means, wrong-among, right-means}
+use Rattle.laws.specs.RightSkips.{LowestWrong, wrong-means, right-means}
 use Rattle.laws.specs.Ties.{write-as}
-use Rattle.laws.specs.Fifteen.{NoPlanWith, stuck-means}
-use Rattle.laws.specs.Grammar.{Mark, Header, the-base, extension, Small, PastLimit, one-too-many, too-large, later}
+use Rattle.laws.specs.Completing.{Sound}
+use Rattle.laws.specs.Fifteen.{stuck-between}
+use Rattle.laws.specs.Stopping.{begins-plan, with-none}
+use Rattle.laws.specs.Grammar.{Mark, Small, PastLimit}
 use Rattle.laws.specs.WriterFaults.{IsTable, BeginsTable, NoneWith, StopsAt, GoodRows, WriterFault, no-edition, no-table, wrong-skip, past-limit, no-room, WritesAs}
 use Rattle.laws.specs.Planning.{markOf, planned-table, table-planned}
 use Rattle.laws.specs.Limits.{LimitIs, limit-is, limit-fine, limit-past}
@@ -28,17 +31,32 @@ use Rattle.laws.specs.Limits.{LimitIs, limit-is, limit-fine, limit-past}
 plan-is-table : (e : Edition) (cs : List Cell) (bs : List ℕ) (vs : List Envelope) → wholePlan e cs ≡ plan bs vs → IsTable e cs
 plan-is-table e cs bs vs q = record { bytes = headerOf vs; marks = map markOf vs; are = planned-table e cs bs vs q }
 
-none-with : (e : Edition) (front rest : List Cell) → NoPlanWith e front rest → NoneWith e front rest
-none-with e front [] n = λ (t : IsTable e front). let (vs, p, _, _) = table-planned e front (t .bytes) (t .marks) (t .are) in n ([], vs, p)
-none-with e front (c ∷ rest) n = λ (t : BeginsTable e (front ++ (c ∷ []))).
+-- before the first envelope it is as behind one that is closed
+closed-sound : Sound (state closed 0 false)
+closed-sound t = absurd t
+
+plan-not-stuck : {i : ℕ} {bs : List ℕ} {vs : List Envelope} → plan bs vs ≡ stuck i → ⊥
+plan-not-stuck q = let z : _≡_ {A = ℕ} 0 1 = cc q in omega arith
+
+none-with : (e : Edition) (front rest : List Cell) → wholePlan e (front ++ rest) ≡ stuck (0 + length front) → NoneWith e front rest
+none-with e front [] q = λ (t : IsTable e front).
+    let (vs, p, _, _) = table-planned e front (t .bytes) (t .marks) (t .are) in
+    plan-not-stuck (sym p ∙ ap (wholePlan e) (sym (append-nil front)) ∙ q)
+none-with e front (c ∷ rest) q = λ (t : BeginsTable e (front ++ (c ∷ []))).
     let table = t .table in
     let (vs, p, _, _) = table-planned e ((front ++ (c ∷ [])) ++ t .more) (table .bytes) (table .marks) (table .are) in
-    n (t .more, ([], vs, p))
+    plan-not-stuck (sym p ∙ ap (wholePlan e) (append-assoc front (c ∷ []) (t .more)) ∙ with-none e 0 false (state closed 0 false) closed-sound front c rest (t .more) q)
 
 stuck-stops : (e : Edition) (cs : List Cell) (i : ℕ) → wholePlan e cs ≡ stuck i → StopsAt e cs i
 stuck-stops e cs i q =
-    let (front, rest, parts, count, (more, (bs, vs, p)), none) = stuck-means e cs i q in
-    record { front = front; rest = rest; parts = parts; count = count; begins = record { more = more; table = plan-is-table e (front ++ more) bs vs p }; none = none-with e front rest none }
+    let within = stuck-between e cs 0 false (state closed 0 false) i q in
+    let front = take i cs in
+    let rest = drop i cs in
+    let parts : cs ≡ front ++ rest = sym (take-append-drop i cs) in
+    let count : length front ≡ i = omega (arith, length-take i cs, within .1) in
+    let here : wholePlan e (front ++ rest) ≡ stuck (0 + length front) = ap (wholePlan e) (sym parts) ∙ q ∙ ap stuck (omega (arith, count)) in
+    let (more, bs, vs, p) = begins-plan e 0 false (state closed 0 false) closed-sound front rest here in
+    record { front = front; rest = rest; parts = parts; count = count; begins = record { more = map cell more; table = plan-is-table e (front ++ map cell more) bs vs p }; none = none-with e front rest here }
 
 -- of two fronts of one list the longer begins with the other and one more
 record Longer (xs zs ys : List Cell) : Type 0 where
@@ -175,37 +193,3 @@ unwritten-as-said edition rows pool room refusal place = ((λ q. subst (WrittenS
 
 pub written-as-said : (edition : ℕ) (rows pool : List ℕ) (room : ℕ) (bytes : List ℕ) → (write edition rows pool room ≡ written bytes) ↔ WritesAs edition rows pool room bytes
 written-as-said edition rows pool room bytes = ((λ q. subst (WrittenSays edition rows pool room) q (write-says edition rows pool room)), written-given edition rows pool room bytes)
-
--- The shape of a refusal: never 0; at a row or at the row count, but 16, at the bytes needed, with room for which the rows are written
-
-past-some : {n i : ℕ} {marks : List Mark} → PastLimit n marks i → 1 ≤ length marks
-past-some one-too-many = omega arith
-past-some (too-large h) = omega arith
-past-some (later h p) = omega arith
-
-past-below : (e : Edition) {k i at : ℕ} {bytes : List ℕ} {rows : List Placed} {marks : List Mark} → Header e i at bytes rows marks → (n j : ℕ) → i + length rows ≤ n → PastLimit k marks j → j < n
-past-below e (the-base h) n j l one-too-many = omega arith
-past-below e (the-base h) n j l (too-large q) = omega arith
-past-below e (the-base h) n j l (later q p) = absurd (omega (arith, past-some p))
-past-below e (extension h more) n j l one-too-many = omega arith
-past-below e (extension h more) n j l (too-large q) = omega arith
-past-below e (extension {rows = rows} {table = table} h more) n j l (later q p) = past-below e more n j (omega (arith, length-append rows table)) p
-
-cells-count : (rows : List Placed) → length (map cell (map meant rows)) ≡ length rows
-cells-count [] = refl
-cells-count (r ∷ rows) = ap suc (cells-count rows)
-
--- at a row, or at the row count; or the room that is needed
-abbrev pub PlaceShape : ℕ → List ℕ → List ℕ → ℕ → ℕ → Type 0
-PlaceShape edition rows pool refusal place = (place ≤ length (cellsOf pool rows)) ⊎ ((refusal ≡ 16) × (bytes : List ℕ) × (length bytes ≡ place) × (write edition rows pool place ≡ written bytes))
-
-pub fault-shape : (edition : ℕ) (rows pool : List ℕ) (room : ℕ) {refusal place : ℕ} → WriterFault edition rows pool room refusal place → (1 ≤ refusal) × PlaceShape edition rows pool refusal place
-fault-shape edition rows pool room (no-edition k) = (omega arith, inl (omega arith))
-fault-shape edition rows pool room (no-table k s) = (omega arith, inl (omega (arith, s .count, ap length (s .parts), length-append (s .front) (s .rest))))
-fault-shape edition rows pool room (wrong-skip {i = i} k t w) = (omega arith, inl (wrong-among pool rows i (wrong-held rows i w)))
-fault-shape edition rows pool room (past-limit {e = e} {i = i} k g p) =
-    let t = g .are in
-    let low = past-below e (t .header) (length (t .rows)) i (omega arith) p in
-    (omega arith, inl (omega (arith, low, ap length (t .say), cells-count (t .rows))))
-fault-shape edition rows pool room (no-room {e} {bytes} {marks} k g s few h) =
-    (omega arith, inr (refl, bytes, refl, written-given edition rows pool (length bytes) bytes (record { e = e; marks = marks; label = k; good = g; small = s; few = few; fits = omega arith })))
