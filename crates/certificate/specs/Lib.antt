@@ -2,6 +2,7 @@
 pub mod OneAnswer
 pub mod Lent
 pub mod Calls
+pub mod Exact
 pub mod Tolerant
 pub mod Walks
 pub mod Presence
