@@ -11,14 +11,14 @@ use Rattle.meaning.specs.Basics.{every}
 use Rattle.meaning.specs.Told.{Edition, Label, known, unknown, labelOf, Strictness, strict, toldBy, told}
 use Rattle.meaning.specs.Reading.{Row}
 use Rattle.meaning.specs.Headers.{Placed, meant, refused, accepted, header, envelopesMost, labelled, readBy, read}
-use Rattle.meaning.specs.Writing.{Cell, cell, written, unwritten, writeRows}
-use Rattle.meaning.specs.Skips.{right, belongs, belonging, heldAgainst}
-use Rattle.meaning.specs.Memory.{row, tableOf, reply, readReply, cellsOf, ranksOf, skipsOf, skipsHeld, write}
+use Rattle.meaning.specs.Writing.{Cell, cell, written, unwritten, writeRows, Envelope, stuck, plan, wholePlan}
+use Rattle.meaning.specs.Skips.{right, belongs, belonging, heldAgainst, wrongAt}
+use Rattle.meaning.specs.Memory.{row, tableOf, reply, readReply, cellsOf, ranksOf, skipsOf, skipsHeld, write, roomOf}
 use Rattle.laws.specs.Logic.{areBytes}
 use Rattle.laws.specs.Views.{AllIn, view-part}
 use Rattle.laws.specs.Envelopes.{header-read, header-crosses, CrossHeader}
 use Rattle.laws.specs.Plans.{written-writes, writes-written}
-use Rattle.laws.specs.RightSkips.{table-right}
+use Rattle.laws.specs.RightSkips.{table-right, LowestWrong, wrong-means}
 use Rattle.laws.specs.WrittenBytes.{written-are-bytes}
 use Rattle.laws.specs.PlainRows.{other, allPlain}
 use Rattle.meaning.specs.Bytes.{numberMost, textByte, takeText, textOk, turn, takeNumber, numberOk, lastDay, passes, takeDate, dateOk, highFirst, tooWide, takeBytes, blockOf, takeBlock, blockOk}
@@ -33,7 +33,8 @@ use Rattle.laws.specs.WriterRefusals.{WriterRefusal, writer-refusal}
 use Rattle.laws.specs.RowCounts.{table-few, length-meant}
 use Rattle.laws.specs.PlainNumbers.{number-coded-decoded, number-decoded-coded}
 use Rattle.laws.specs.PlainDates.{date-coded-decoded, date-decoded-coded}
-use Rattle.laws.specs.Ties.{written-right, whole-front, numberOf, SameMeaning, plainCell, plainTable, read-known, write-known, accepted-known, written-known, read-as, write-as, cells-placed, whole-of, whole-written, same-meaning, plain-cells, seven-or-nine}
+use Rattle.laws.specs.Ties.{written-right, whole-front, numberOf, SameMeaning, plainCell, plainTable, read-known, write-known, accepted-known, written-known, read-as, write-as, cells-placed, whole-of, whole-written, same-meaning, plain-cells, seven-or-nine, only-stuck}
+use Rattle.laws.specs.Fifteen.{IsTable, plan-table, BeginsTable, NoneWith, stuck-means}
 use Rattle.laws.specs.Grammar.{HeaderOf}
 use Rattle.laws.specs.Exactly.{header-accepted, accepted-header, one-header}
 use Rattle.laws.specs.Faults.{ReaderRefusal}
@@ -126,16 +127,24 @@ payload-alters-nothing edition input place rows t q payload =
     let same : accepted (0 + length (w .bytes)) read-rows ≡ accepted place rows = sym (f (w .payload)) ∙ ap (header envelopesMost (told e) 0) (sym (w .parts)) ∙ a in
     read-as strict edition e (take place input ++ payload) k ∙ ap (λ (x : List ℕ). header envelopesMost (told e) 0 (x ++ payload)) (whole-front (told e) input place rows w) ∙ f payload ∙ same
 
--- 5. "Each refusal has its number and place, is given exactly when the documents say": of the writer; and when it writes, and which bytes.
--- 15: the rows before the one that it names begin a table of the edition, limits aside, and with that row none do; where it names the row count, they are no table. Or (order 7) they are one, the
--- skip numbers before that row are right, and its is wrong. 5: they are one with right skip numbers, and that row opens the lowest envelope that is past a limit. 16: they are one within the limits,
--- and its bytes, as many as it names, exceed the room. All over document 01's grammar (`WriterFaults`, over `Grammar`).
+-- 5. "15: rows up to here begin no table of this edition, or start plus length passes the pool, or rows or slice end early"
+-- The rows before the one that 15 names begin a table, its limits aside; with that row none do; where it names the row count, they are no table.
+-- Order 7: "15 for a wrong skip number, at its row, after 15's other faults": or the rows are a table, the skip numbers before that row are right, and its is wrong.
 
-pub writer-refuses-exactly : (edition : ℕ) (rows pool : List ℕ) (room refusal place : ℕ) → (write edition rows pool room ≡ unwritten refusal place) ↔ WriterFault edition rows pool room refusal place
-writer-refuses-exactly edition rows pool room refusal place = unwritten-as-said edition rows pool room refusal place
+abbrev pub BeginsNone : Edition → List ℕ → List ℕ → ℕ → Type 0
+BeginsNone e rows pool i = (front : List Cell) × (rest : List Cell) × (cellsOf pool rows ≡ front ++ rest) × (length front ≡ i) × BeginsTable e front × NoneWith e front rest
 
-pub writes-exactly : (edition : ℕ) (rows pool : List ℕ) (room : ℕ) (bytes : List ℕ) → (write edition rows pool room ≡ written bytes) ↔ WritesAs edition rows pool room bytes
-writes-exactly edition rows pool room bytes = written-as-said edition rows pool room bytes
+pub record WrongSkip (e : Edition) (rows pool : List ℕ) (i : ℕ) : Type 0 where
+  pub table : IsTable e (cellsOf pool rows)
+  pub lowest : LowestWrong rows (roomOf rows) 0 i
+
+pub fifteen-means : (e : Edition) (rows pool : List ℕ) (room i : ℕ) → write (numberOf e) rows pool room ≡ unwritten 15 i → BeginsNone e rows pool i ⊎ WrongSkip e rows pool i
+unfolding writeRows
+fifteen-means e rows pool room i q = at (only-stuck room i (skipsHeld rows) (wholePlan e (cellsOf pool rows)) (sym (write-known e rows pool room) ∙ q))
+  where
+    at : (wholePlan e (cellsOf pool rows) ≡ stuck i) ⊎ ((bs : List ℕ) × (vs : List Envelope) × (wholePlan e (cellsOf pool rows) ≡ plan bs vs) × (skipsHeld rows ≡ wrongAt i)) → BeginsNone e rows pool i ⊎ WrongSkip e rows pool i
+    at (inl p) = inl (stuck-means e (cellsOf pool rows) i p)
+    at (inr (bs, vs, p, w)) = inr (record { table = plan-table e (cellsOf pool rows) bs vs p; lowest = wrong-means rows i w })
 
 -- 6. The shape of an answer. Accepted: the place is in the input, every row views bytes of the header, and there are never more rows than bytes.
 
@@ -199,7 +208,7 @@ one-header-only edition input p q rs ts h k = one-header edition input p q rs ts
 
 -- 9. "Each refusal has its number and place, is given exactly when the documents say": of the reader.
 -- An answer other than 0, with its place and the rows it reports, is given if and only if what document 01 says of that number holds (`ReaderRefusal`, in `Faults`); room: the rows that the
--- lent memory has room for.
+-- lent memory has room for. 2 is given only at the input's end (`two-at-end`, in `FirstFault`), 12 only at the 02 of an agent of level 9 (`twelve-at-nine`, in `Deepest`).
 
 pub refuses-exactly : (edition : ℕ) (input : List ℕ) (room refusal place count : ℕ) → T (areBytes input) → 1 ≤ refusal → (readReply room (read edition input) ≡ reply refusal place count) ↔ ReaderRefusal edition input room refusal place count
 refuses-exactly edition input room refusal place count t some = refuses-as-said edition input room refusal place count t some
@@ -215,6 +224,17 @@ first-fault-decides edition input refusal place t q two = fault-decides edition 
 
 pub cut-before-place : (edition : ℕ) (front back : List ℕ) → T (areBytes (front ++ back)) → length front < placeOf (read edition (front ++ back)) → read edition front ≡ refused 2 (length front)
 cut-before-place edition front back t short = cut-is-two edition front back t short
+
+-- 11. "Each refusal has its number and place, is given exactly when the documents say": of the writer; and when it writes, and which bytes.
+-- 15: the rows before the one that it names begin a table of the edition, limits aside, and with that row none do; where it names the row count, they are no table. Or (order 7) they are one, the
+-- skip numbers before that row are right, and its is wrong. 5: they are one with right skip numbers, and that row opens the lowest envelope that is past a limit. 16: they are one within the limits,
+-- and its bytes, as many as it names, exceed the room. All over document 01's grammar (`WriterFaults`, over `Grammar`).
+
+pub writer-refuses-exactly : (edition : ℕ) (rows pool : List ℕ) (room refusal place : ℕ) → (write edition rows pool room ≡ unwritten refusal place) ↔ WriterFault edition rows pool room refusal place
+writer-refuses-exactly edition rows pool room refusal place = unwritten-as-said edition rows pool room refusal place
+
+pub writes-exactly : (edition : ℕ) (rows pool : List ℕ) (room : ℕ) (bytes : List ℕ) → (write edition rows pool room ≡ written bytes) ↔ WritesAs edition rows pool room bytes
+writes-exactly edition rows pool room bytes = written-as-said edition rows pool room bytes
 
 -- No premise above is empty: for each edition, a header that is read; a table that is written; and one that is plain, and one that is not.
 

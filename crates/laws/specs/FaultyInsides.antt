@@ -100,7 +100,7 @@ step-fault e st (b ∷ s) = by-found (look b (moves e (st .room))) refl
     by-found (hit m) p = by-depth m (eqb (m .kind) agentName) (ltb levelMost (st .level)) refl refl p
 
 -- the grammar's moves to the envelope's end
-pub record Whole (e : Edition) (st : State) (at : ℕ) (bytes : List ℕ) : Type 0 where
+pub record ToItsEnd (e : Edition) (st : State) (at : ℕ) (bytes : List ℕ) : Type 0 where
   pub rows : List Placed
   pub last : State
   pub steps : Steps e st at bytes rows last
@@ -110,7 +110,7 @@ abbrev pub InsideIs : Edition → State → ℕ → List ℕ → Out → Type 0
 InsideIs e st at s dry = Unit {0}
 InsideIs e st at s (fault refusal left) = BadInside e st at s refusal left
 InsideIs e st at s (done rs (b ∷ t)) = BadInside e st at s 13 (length (b ∷ t))
-InsideIs e st at s (done rs []) = Whole e st at s
+InsideIs e st at s (done rs []) = ToItsEnd e st at s
 
 -- one move more before it
 module _ (e : Edition) (st st₁ : State) (at n : ℕ) (front bytes : List ℕ) (extends : (s : List ℕ) (rows : List Placed) (last : State) → Steps e st₁ (at + n) s rows last → (all : List Placed) × Steps e st at (front ++ s) all last) where
@@ -167,7 +167,7 @@ run-is zero e st at s t = tt
 run-is (suc n) e st at s t = by (step (told e) st s) (stepped (told e) st s t) (step-fault e st s) (λ st₁ at₁ s₁ u. run-is n e st₁ at₁ s₁ u)
   where
     closed : (t : List ℕ) → isClosed (st .room) ≡ true → s ≡ t → InsideIs e st at s (done [] t)
-    closed [] q p = subst (Whole e st at) (sym p) (record { rows = []; last = st; steps = Steps.none; closes = q })
+    closed [] q p = subst (ToItsEnd e st at) (sym p) (record { rows = []; last = st; steps = Steps.none; closes = q })
     closed (b ∷ t) q p = record { front = []; rest = b ∷ t; rows = []; reached = st; parts = p; steps = Steps.none; fault = closed-early q }
 
     by : (x : Step) → Stepped (told e) st s x → StepFault e st s x → ((st₁ : State) (at₁ : ℕ) (s₁ : List ℕ) → T (areBytes s₁) → InsideIs e st₁ at₁ s₁ (run n (told e) st₁ s₁)) → InsideIs e st at s (onward x (run n (told e)))

@@ -68,6 +68,7 @@ pub mod FaultyHeaders
 pub mod Decisive
 pub mod FirstFault
 pub mod ReadRefused
+pub mod Deepest
 pub mod WriterFaults
 pub mod Planning
 pub mod Limits

@@ -22,13 +22,13 @@ use Rattle.laws.specs.Completing.{Sound}
 use Rattle.laws.specs.Fifteen.{stuck-between}
 use Rattle.laws.specs.Stopping.{begins-plan, with-none}
 use Rattle.laws.specs.Grammar.{Mark, Small, PastLimit}
-use Rattle.laws.specs.WriterFaults.{IsTable, BeginsTable, NoneWith, StopsAt, GoodRows, WriterFault, no-edition, no-table, wrong-skip, past-limit, no-room, WritesAs}
+use Rattle.laws.specs.WriterFaults.{AreTable, BeginTable, NoneWithNext, StopsAt, GoodRows, WriterFault, no-edition, no-table, wrong-skip, past-limit, no-room, WritesAs}
 use Rattle.laws.specs.Planning.{markOf, planned-table, table-planned}
 use Rattle.laws.specs.Limits.{LimitIs, limit-is, limit-fine, limit-past}
 
 -- Where rows stop being a table
 
-plan-is-table : (e : Edition) (cs : List Cell) (bs : List ℕ) (vs : List Envelope) → wholePlan e cs ≡ plan bs vs → IsTable e cs
+plan-is-table : (e : Edition) (cs : List Cell) (bs : List ℕ) (vs : List Envelope) → wholePlan e cs ≡ plan bs vs → AreTable e cs
 plan-is-table e cs bs vs q = record { bytes = headerOf vs; marks = map markOf vs; are = planned-table e cs bs vs q }
 
 -- before the first envelope it is as behind one that is closed
@@ -38,11 +38,11 @@ closed-sound t = absurd t
 plan-not-stuck : {i : ℕ} {bs : List ℕ} {vs : List Envelope} → plan bs vs ≡ stuck i → ⊥
 plan-not-stuck q = let z : _≡_ {A = ℕ} 0 1 = cc q in omega arith
 
-none-with : (e : Edition) (front rest : List Cell) → wholePlan e (front ++ rest) ≡ stuck (0 + length front) → NoneWith e front rest
-none-with e front [] q = λ (t : IsTable e front).
+none-with : (e : Edition) (front rest : List Cell) → wholePlan e (front ++ rest) ≡ stuck (0 + length front) → NoneWithNext e front rest
+none-with e front [] q = λ (t : AreTable e front).
     let (vs, p, _, _) = table-planned e front (t .bytes) (t .marks) (t .are) in
     plan-not-stuck (sym p ∙ ap (wholePlan e) (sym (append-nil front)) ∙ q)
-none-with e front (c ∷ rest) q = λ (t : BeginsTable e (front ++ (c ∷ []))).
+none-with e front (c ∷ rest) q = λ (t : BeginTable e (front ++ (c ∷ []))).
     let table = t .table in
     let (vs, p, _, _) = table-planned e ((front ++ (c ∷ [])) ++ t .more) (table .bytes) (table .marks) (table .are) in
     plan-not-stuck (sym p ∙ ap (wholePlan e) (append-assoc front (c ∷ []) (t .more)) ∙ with-none e 0 false (state closed 0 false) closed-sound front c rest (t .more) q)
@@ -79,17 +79,17 @@ longer (x ∷ xs) zs (y ∷ ys) ws q h =
 not-before : (e : Edition) (cs : List Cell) (i j : ℕ) → StopsAt e cs i → StopsAt e cs j → i < j → ⊥
 not-before e cs i j s t h =
     let l = longer (s .front) (s .rest) (t .front) (t .rest) (sym (s .parts) ∙ t .parts) (omega (arith, s .count, t .count)) in
-    let none : NoneWith e (s .front) (l .next ∷ l .rest) = subst (NoneWith e (s .front)) (l .behind) (s .none) in
+    let none : NoneWithNext e (s .front) (l .next ∷ l .rest) = subst (NoneWithNext e (s .front)) (l .behind) (s .none) in
     let whole : t .front ++ t .begins .more ≡ (s .front ++ (l .next ∷ [])) ++ (l .more ++ t .begins .more) = ap (λ (x : List Cell). x ++ t .begins .more) (l .begins) ∙ append-assoc (s .front ++ (l .next ∷ [])) (l .more) (t .begins .more) in
-    none (record { more = l .more ++ t .begins .more; table = subst (IsTable e) whole (t .begins .table) })
+    none (record { more = l .more ++ t .begins .more; table = subst (AreTable e) whole (t .begins .table) })
 
 -- a table does not stop
-table-goes-on : (e : Edition) (cs : List Cell) (i : ℕ) → StopsAt e cs i → IsTable e cs → ⊥
+table-goes-on : (e : Edition) (cs : List Cell) (i : ℕ) → StopsAt e cs i → AreTable e cs → ⊥
 table-goes-on e cs i s t = at (s .rest) (s .parts) (s .none)
   where
-    at : (rest : List Cell) → cs ≡ s .front ++ rest → NoneWith e (s .front) rest → ⊥
-    at [] p n = n (subst (IsTable e) (p ∙ append-nil (s .front)) t)
-    at (c ∷ rest) p n = n (record { more = rest; table = subst (IsTable e) (p ∙ sym (append-assoc (s .front) (c ∷ []) rest)) t })
+    at : (rest : List Cell) → cs ≡ s .front ++ rest → NoneWithNext e (s .front) rest → ⊥
+    at [] p n = n (subst (AreTable e) (p ∙ append-nil (s .front)) t)
+    at (c ∷ rest) p n = n (record { more = rest; table = subst (AreTable e) (p ∙ sym (append-assoc (s .front) (c ∷ []) rest)) t })
 
 stops-stuck : (e : Edition) (cs : List Cell) (i : ℕ) → StopsAt e cs i → wholePlan e cs ≡ stuck i
 stops-stuck e cs i s = at (wholePlan e cs) refl

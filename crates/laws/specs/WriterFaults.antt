@@ -17,20 +17,20 @@ pub record RowsAre (e : Edition) (cells : List Cell) (bytes : List ℕ) (marks :
   pub header : Header e 0 0 bytes rows marks
   pub say : cells ≡ map cell (map meant rows)
 
-pub record IsTable (e : Edition) (cells : List Cell) : Type 0 where
+pub record AreTable (e : Edition) (cells : List Cell) : Type 0 where
   pub bytes : List ℕ
   pub marks : List Mark
   pub are : RowsAre e cells bytes marks
 
 -- rows begin a table if some rows behind them make one
-pub record BeginsTable (e : Edition) (cells : List Cell) : Type 0 where
+pub record BeginTable (e : Edition) (cells : List Cell) : Type 0 where
   pub more : List Cell
-  pub table : IsTable e (cells ++ more)
+  pub table : AreTable e (cells ++ more)
 
 -- with the next of the rows none do; where no row is left, they are none
-abbrev pub NoneWith : Edition → List Cell → List Cell → Type 0
-NoneWith e front [] = IsTable e front → ⊥
-NoneWith e front (c ∷ rest) = BeginsTable e (front ++ (c ∷ [])) → ⊥
+abbrev pub NoneWithNext : Edition → List Cell → List Cell → Type 0
+NoneWithNext e front [] = AreTable e front → ⊥
+NoneWithNext e front (c ∷ rest) = BeginTable e (front ++ (c ∷ [])) → ⊥
 
 -- "15: rows up to here begin no table of this edition, or start plus length passes the pool, or rows or slice end early, row number from 0": the lowest such row
 pub record StopsAt (e : Edition) (cells : List Cell) (i : ℕ) : Type 0 where
@@ -38,8 +38,8 @@ pub record StopsAt (e : Edition) (cells : List Cell) (i : ℕ) : Type 0 where
   pub rest : List Cell
   pub parts : cells ≡ front ++ rest
   pub count : length front ≡ i
-  pub begins : BeginsTable e front
-  pub none : NoneWith e front rest
+  pub begins : BeginTable e front
+  pub none : NoneWithNext e front rest
 
 -- a table whose skip numbers are right
 pub record GoodRows (e : Edition) (rows pool bytes : List ℕ) (marks : List Mark) : Type 0 where
@@ -51,7 +51,7 @@ pub data WriterFault (edition : ℕ) (rows pool : List ℕ) (room : ℕ) : ℕ �
   no-edition : labelOf edition ≡ unknown → WriterFault edition rows pool room 1 0
   no-table : {e : Edition} {i : ℕ} → labelOf edition ≡ known e → StopsAt e (cellsOf pool rows) i → WriterFault edition rows pool room 15 i
   -- order 7: "15 for a wrong skip number, at its row, after 15's other faults"
-  wrong-skip : {e : Edition} {i : ℕ} → labelOf edition ≡ known e → IsTable e (cellsOf pool rows) → LowestWrong rows (roomOf rows) 0 i → WriterFault edition rows pool room 15 i
+  wrong-skip : {e : Edition} {i : ℕ} → labelOf edition ≡ known e → AreTable e (cellsOf pool rows) → LowestWrong rows (roomOf rows) 0 i → WriterFault edition rows pool room 15 i
   past-limit : {e : Edition} {i : ℕ} {bytes : List ℕ} {marks : List Mark} → labelOf edition ≡ known e → GoodRows e rows pool bytes marks → PastLimit envelopesMost marks i → WriterFault edition rows pool room 5 i
   -- "16: output too short, bytes needed"
   no-room : {e : Edition} {bytes : List ℕ} {marks : List Mark} → labelOf edition ≡ known e → GoodRows e rows pool bytes marks → Small marks → length marks ≤ envelopesMost → room < length bytes
