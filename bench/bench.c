@@ -3,8 +3,8 @@
                                        both programs checked
      bench once INPUT PROGRAM CALL     the call once for each header of the input, for whoever counts instructions from outside
      bench time INPUT CALL             nanoseconds of the processor for a header, the archive's and the second program's
-   PROGRAM is archive or second, CALL is read, which, write, present or lookup (these two of code 06, which stands behind
-   every list, or nowhere). Whatever is measured is checked: every call must be accepted, and rows
+   PROGRAM is archive or second, CALL is read, which, write, relay (of a small envelope), present or lookup (these two of code 06,
+   which stands behind every list, or nowhere). Whatever is measured is checked: every call must be accepted, and rows
    and bytes must be the other program's. */
 #define _POSIX_C_SOURCE 200809L
 
@@ -22,10 +22,13 @@ enum { EDITION = GAMULISYAN_EDITION_D, ROW = GAMULISYAN_ROW_NUMBERS, MOST_NUMBER
 /* Nanoseconds: of one batch, and of all of them. */
 enum { BATCH = 1000000, LONG_ENOUGH = 2000000000 };
 
-enum call { READ, WHICH, WRITE, PRESENT, LOOKUP };
+enum call { READ, WHICH, WRITE, RELAY, PRESENT, LOOKUP };
 
 typedef struct second_reply reading(uint32_t, const uint8_t *, size_t, uint32_t *, size_t, uint32_t *, size_t);
 typedef struct second_reply writing(uint32_t, const uint32_t *, size_t, const uint8_t *, size_t, uint8_t *, size_t);
+
+typedef struct second_reply relaying(uint32_t, const uint8_t *, size_t, const uint32_t *, size_t, const uint8_t *, size_t, uint32_t *, size_t, uint32_t *, size_t, uint8_t *,
+                                     size_t);
 
 typedef struct second_reply presenting(uint32_t, const uint32_t *, size_t, const uint8_t *, size_t, uint32_t);
 
@@ -38,6 +41,7 @@ struct program {
     reading *read;
     sorting *which;
     writing *write;
+    relaying *relay;
     presenting *present;
     looking *lookup;
 };
@@ -52,7 +56,12 @@ static struct headers headers;
 static struct tables tables;
 static uint32_t lent_rows[MOST_NUMBERS];
 static uint32_t lent_words[GAMULISYAN_WORDS];
-static uint8_t lent_output[MOST_BYTES];
+static uint8_t lent_output[MOST_BYTES + 64];
+
+/* The new envelope of a relay: received by `a`, its bytes being its own pool. */
+static const uint8_t new_envelope[] = {0xFD, 0x00, 0x11, 0x61, 0x00, 0x20, 0x31, 0x11, 0x16, 0x19, 0x15, 0x37, 0x62, 0x59, 0x20, 0x01, 0x01};
+static const uint32_t new_table[] = {1, 0, 0, 0, 3, 8, 0, 3, 1, 3, 5, 1, 6, 9, 3};
+enum { NEW_BYTES = sizeof new_envelope, NEW_NUMBERS = sizeof new_table / sizeof *new_table, START = 2, SKIP = 4 };
 
 /* The copy of an answer's three numbers is in the archive's time, but not in its count. */
 static struct second_reply archive_read(uint32_t edition, const uint8_t *input, size_t length, uint32_t *rows, size_t numbers, uint32_t *words,
@@ -67,6 +76,14 @@ static struct second_reply archive_write(uint32_t edition, const uint32_t *rows,
 {
     struct gamulisyan_answer written = gamulisyan_write(edition, rows, numbers, pool, pool_length, output, length);
     return (struct second_reply){written.answer, written.place, written.rows};
+}
+
+static struct second_reply archive_relay(uint32_t edition, const uint8_t *input, size_t length, const uint32_t *table, size_t table_numbers, const uint8_t *pool,
+                                         size_t pool_length, uint32_t *rows, size_t numbers, uint32_t *words, size_t word_count, uint8_t *output,
+                                         size_t output_length)
+{
+    struct gamulisyan_answer joined = gamulisyan_relay(edition, input, length, table, table_numbers, pool, pool_length, rows, numbers, words, word_count, output, output_length);
+    return (struct second_reply){joined.answer, joined.place, joined.rows};
 }
 
 static struct second_reply archive_present(uint32_t edition, const uint32_t *rows, size_t numbers, const uint8_t *pool, size_t pool_length, uint32_t code)
@@ -87,8 +104,8 @@ static struct second_sorted archive_which(const uint8_t *input, size_t length, u
     return (struct second_sorted){{sorted.answer, sorted.place, sorted.rows}, sorted.editions};
 }
 
-static const struct program archive = {"archive", archive_read, archive_which, archive_write, archive_present, archive_lookup};
-static const struct program second = {"second", second_read, second_which, second_write, second_present, second_lookup};
+static const struct program archive = {"archive", archive_read, archive_which, archive_write, archive_relay, archive_present, archive_lookup};
+static const struct program second = {"second", second_read, second_which, second_write, second_relay, second_present, second_lookup};
 
 static const uint8_t *header_at(size_t number)
 {
@@ -132,6 +149,12 @@ static struct second_reply write_one(const struct program *program, size_t numbe
 {
     return program->write(EDITION, table_at(number), table_length(number), header_at(number), header_length(number), lent_output,
                           header_length(number));
+}
+
+static struct second_reply relay_one(const struct program *program, size_t number)
+{
+    return program->relay(EDITION, header_at(number), header_length(number), new_table, NEW_NUMBERS, new_envelope, NEW_BYTES, lent_rows, MOST_NUMBERS, lent_words,
+                          GAMULISYAN_WORDS, lent_output, sizeof lent_output);
 }
 
 static struct second_reply present_one(const struct program *program, size_t number)
@@ -197,6 +220,29 @@ static void check_writing(const struct program *program)
     }
 }
 
+/* The old rows stand behind the new ones, with starts and skip numbers moved. */
+static int is_moved(size_t number)
+{
+    const uint32_t *old = table_at(number), *moved = lent_rows + NEW_NUMBERS;
+    for (size_t place = 0; place < table_length(number); place++)
+        if (moved[place] != old[place] + (place % ROW == START ? NEW_BYTES : place % ROW == SKIP ? NEW_NUMBERS / ROW : 0))
+            return 0;
+    return memcmp(lent_rows, new_table, sizeof new_table) == 0;
+}
+
+/* Of inputs whose headers have room for one envelope more. */
+static void check_relaying(const struct program *program)
+{
+    for (size_t number = 0; number < headers.count; number++) {
+        memset(lent_output, 0, NEW_BYTES + header_length(number));
+        struct second_reply joined = relay_one(program, number);
+        require(joined.answer == GAMULISYAN_ACCEPTED && joined.place == NEW_BYTES + header_length(number) && joined.rows * ROW == NEW_NUMBERS + table_length(number)
+                    && memcmp(lent_output, new_envelope, NEW_BYTES) == 0 && memcmp(lent_output + NEW_BYTES, header_at(number), header_length(number)) == 0
+                    && is_moved(number),
+                program->name, "relay", number);
+    }
+}
+
 static void check_presenting(const struct program *program, const struct program *other)
 {
     for (size_t number = 0; number < headers.count; number++) {
@@ -259,6 +305,8 @@ static void call_all(const struct program *program, enum call call)
             which_one(program, number);
         else if (call == WRITE)
             write_one(program, number);
+        else if (call == RELAY)
+            relay_one(program, number);
         else if (call == PRESENT)
             present_one(program, number);
         else
@@ -303,7 +351,7 @@ static void print_times(enum call call)
 
 static enum call call_named(const char *name)
 {
-    static const char *const names[] = {"read", "which", "write", "present"};
+    static const char *const names[] = {"read", "which", "write", "relay", "present"};
     enum call call = READ;
     while (call < LOOKUP && strcmp(name, names[call]) != 0)
         call++;
@@ -322,6 +370,8 @@ static void call_once(const char *name, enum call call)
         check_sorting(program);
     else if (call == WRITE)
         check_writing(program);
+    else if (call == RELAY)
+        check_relaying(program);
     else if (call == PRESENT)
         check_presenting(program, other);
     else

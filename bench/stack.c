@@ -20,9 +20,14 @@ static ucontext_t there;
 
 static struct headers headers;
 static uint32_t rows[MOST_NUMBERS];
+static uint32_t other_rows[MOST_NUMBERS];
 static size_t numbers;
 static uint32_t words[GAMULISYAN_WORDS];
 static uint8_t output[MOST_BYTES];
+
+/* The new envelope of a relay: received by `a`, its bytes being its own pool. */
+static const uint8_t new_envelope[] = {0xFD, 0x00, 0x11, 0x61, 0x00, 0x20, 0x31, 0x11, 0x16, 0x19, 0x15, 0x37, 0x62, 0x59, 0x20, 0x01, 0x01};
+static const uint32_t new_table[] = {1, 0, 0, 0, 3, 8, 0, 3, 1, 3, 5, 1, 6, 9, 3};
 
 static const uint8_t designated_date[10] = {0x31, 0x11, 0x13, 0x3A, 0x15, 0x37, 0x62, 0x59, 0x20, 0x5A}; /* 29 February 2000 */
 static const struct gamulisyan_date plain_date = {2000, 2, 29, 4, 26, 51, 481, 'Z'};
@@ -38,6 +43,31 @@ static struct gamulisyan_answer no_read(uint32_t e, const uint8_t *i, size_t l, 
 static struct gamulisyan_answer no_write(uint32_t e, const uint32_t *r, size_t n, const uint8_t *p, size_t m, uint8_t *o, size_t l)
 {
     (void)e, (void)r, (void)n, (void)p, (void)m, (void)o, (void)l;
+    return (struct gamulisyan_answer){0, 0, 0};
+}
+
+static struct gamulisyan_sorted no_which(const uint8_t *i, size_t l, uint32_t *r, size_t n, uint32_t *w, size_t c)
+{
+    (void)i, (void)l, (void)r, (void)n, (void)w, (void)c;
+    return (struct gamulisyan_sorted){0, 0, 0, 0};
+}
+
+static struct gamulisyan_answer no_relay(uint32_t e, const uint8_t *i, size_t l, const uint32_t *t, size_t m, const uint8_t *p, size_t q, uint32_t *r, size_t n,
+                                         uint32_t *w, size_t c, uint8_t *o, size_t k)
+{
+    (void)e, (void)i, (void)l, (void)t, (void)m, (void)p, (void)q, (void)r, (void)n, (void)w, (void)c, (void)o, (void)k;
+    return (struct gamulisyan_answer){0, 0, 0};
+}
+
+static struct gamulisyan_answer no_present(uint32_t e, const uint32_t *r, size_t n, const uint8_t *p, size_t m, uint32_t c)
+{
+    (void)e, (void)r, (void)n, (void)p, (void)m, (void)c;
+    return (struct gamulisyan_answer){0, 0, 0};
+}
+
+static struct gamulisyan_answer no_lookup(const uint32_t *r, size_t n, const uint32_t *w, size_t c, uint32_t k)
+{
+    (void)r, (void)n, (void)w, (void)c, (void)k;
     return (struct gamulisyan_answer){0, 0, 0};
 }
 
@@ -74,6 +104,11 @@ static struct gamulisyan_coded no_date_encode(uint32_t k, struct gamulisyan_date
 /* What is called next; volatile, so that the compiler sees through none of them. */
 static struct gamulisyan_answer (*volatile read_entry)(uint32_t, const uint8_t *, size_t, uint32_t *, size_t, uint32_t *, size_t);
 static struct gamulisyan_answer (*volatile write_entry)(uint32_t, const uint32_t *, size_t, const uint8_t *, size_t, uint8_t *, size_t);
+static struct gamulisyan_sorted (*volatile which_entry)(const uint8_t *, size_t, uint32_t *, size_t, uint32_t *, size_t);
+static struct gamulisyan_answer (*volatile relay_entry)(uint32_t, const uint8_t *, size_t, const uint32_t *, size_t, const uint8_t *, size_t, uint32_t *, size_t, uint32_t *,
+                                                        size_t, uint8_t *, size_t);
+static struct gamulisyan_answer (*volatile present_entry)(uint32_t, const uint32_t *, size_t, const uint8_t *, size_t, uint32_t);
+static struct gamulisyan_answer (*volatile lookup_entry)(const uint32_t *, size_t, const uint32_t *, size_t, uint32_t);
 static struct gamulisyan_part (*volatile payload_entry)(uint32_t, const uint8_t *, size_t);
 static struct gamulisyan_number (*volatile number_decode_entry)(const uint8_t *, size_t);
 static struct gamulisyan_coded (*volatile number_encode_entry)(uint64_t, uint8_t *, size_t);
@@ -82,6 +117,7 @@ static struct gamulisyan_coded (*volatile date_encode_entry)(uint32_t, struct ga
 
 /* Answers go to memory of their own and not to the painted stack. */
 static struct gamulisyan_answer answer;
+static struct gamulisyan_sorted sorted;
 static struct gamulisyan_part part;
 static struct gamulisyan_number number;
 static struct gamulisyan_coded coded;
@@ -89,6 +125,14 @@ static struct gamulisyan_dated dated;
 
 static void read_call(void) { answer = read_entry(EDITION, headers.bytes, headers.places[1], rows, MOST_NUMBERS, words, GAMULISYAN_WORDS); }
 static void write_call(void) { answer = write_entry(EDITION, rows, numbers, headers.bytes, headers.places[1], output, sizeof output); }
+static void which_call(void) { sorted = which_entry(headers.bytes, headers.places[1], other_rows, MOST_NUMBERS, words, GAMULISYAN_WORDS); }
+static void relay_call(void)
+{
+    answer = relay_entry(EDITION, headers.bytes, headers.places[1], new_table, sizeof new_table / sizeof *new_table, new_envelope, sizeof new_envelope, other_rows,
+                         MOST_NUMBERS, words, GAMULISYAN_WORDS, output, sizeof output);
+}
+static void present_call(void) { answer = present_entry(EDITION, rows, numbers, headers.bytes, headers.places[1], GAMULISYAN_PARAMETER_PAYLOAD_LENGTH); }
+static void lookup_call(void) { answer = lookup_entry(rows, numbers, words, GAMULISYAN_WORDS, GAMULISYAN_PARAMETER_PAYLOAD_LENGTH); }
 static void payload_call(void) { part = payload_entry(EDITION, headers.bytes, headers.places[1]); }
 static void number_decode_call(void) { number = number_decode_entry(most_number, sizeof most_number); }
 static void number_encode_call(void) { coded = number_encode_entry(UINT32_MAX, output, sizeof output); }
@@ -144,6 +188,14 @@ int main(void)
     must(part.end == headers.places[1], "payload");
     MEASURE(write, deep);
     must(answer.answer == GAMULISYAN_ACCEPTED, "write");
+    MEASURE(which, deep);
+    must(sorted.answer == GAMULISYAN_ACCEPTED, "which");
+    MEASURE(present, deep);
+    must(answer.answer == GAMULISYAN_ACCEPTED, "present");
+    MEASURE(lookup, deep);
+    must(answer.answer == GAMULISYAN_ACCEPTED, "lookup");
+    MEASURE(relay, deep);
+    must(answer.answer == GAMULISYAN_ACCEPTED, "relay");
     MEASURE(number_decode, "4,294,967,295");
     must(number.answer == GAMULISYAN_ACCEPTED, "number_decode");
     MEASURE(number_encode, "4,294,967,295");

@@ -48,6 +48,14 @@ struct second_sorted archive_which(const uint8_t *input, size_t length, uint32_t
     return (struct second_sorted){{sorted.answer, sorted.place, sorted.rows}, sorted.editions};
 }
 
+struct second_reply archive_relay(uint32_t edition, const uint8_t *input, size_t length, const uint32_t *table, size_t table_length, const uint8_t *pool,
+                                  size_t pool_length, uint32_t *rows, size_t rows_length, uint32_t *words, size_t word_count, uint8_t *output,
+                                  size_t output_length)
+{
+    return reply_of(gamulisyan_relay(edition, input, length, table, table_length, pool, pool_length, rows, rows_length, words, word_count, output,
+                                     output_length));
+}
+
 struct second_part archive_payload(uint32_t edition, const uint8_t *input, size_t length)
 {
     struct gamulisyan_part part = gamulisyan_payload(edition, input, length);

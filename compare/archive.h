@@ -12,3 +12,4 @@
 #define second_date_encode archive_date_encode
 #define second_lookup archive_lookup
 #define second_which archive_which
+#define second_relay archive_relay

@@ -5,6 +5,7 @@
 #include "generate.h"
 #include "lookup.h"
 #include "present.h"
+#include "relay.h"
 #include "tables.h"
 #include "which.h"
 #include "words.h"
@@ -182,6 +183,8 @@ static void check_header(struct source *source, struct tally *tally, uint32_t ed
     check_tables(source, tally, edition, header, read);
     check_crowd(source, tally, edition, header, read.rows);
     check_lookups(source, tally, table, read.rows);
+    if (random_once_in(source, 3))
+        check_relays(source, tally, edition, header, table, read.rows);
     both_read(tally, edition, header->bytes, header->length, read.rows * ROW_NUMBERS - random_below(source, 5) % (read.rows * ROW_NUMBERS), NULL);
 }
 
@@ -252,6 +255,7 @@ int main(int count, char **arguments)
     struct source source = {strtoull(arguments[1], NULL, 10)};
     unsigned long wanted = strtoul(arguments[2], NULL, 10);
     check_limits(&tally);
+    check_relay_limits(&tally);
     check_bounds(&source, &tally);
     while (tally.passed + tally.failed < wanted) {
         uint32_t edition = EDITION_B + (uint32_t)random_below(&source, 2);

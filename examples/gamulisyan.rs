@@ -122,6 +122,21 @@ extern "C" {
         output: *mut u8,
         length: usize,
     ) -> Answer;
+    pub fn gamulisyan_relay(
+        edition: u32,
+        input: *const u8,
+        length: usize,
+        table: *const u32,
+        table_numbers: usize,
+        pool: *const u8,
+        pool_length: usize,
+        rows: *mut u32,
+        numbers: usize,
+        words: *mut u32,
+        word_count: usize,
+        output: *mut u8,
+        output_length: usize,
+    ) -> Answer;
     pub fn gamulisyan_present(
         edition: u32,
         rows: *const u32,
@@ -274,6 +289,32 @@ fn which_into(input: &[u8], rows: &mut [Row], words: &mut [u32; WORDS]) -> Sorte
     unsafe { gamulisyan_which(input.as_ptr(), input.len(), rows.as_mut_ptr().cast(), numbers, words.as_mut_ptr(), words.len()) }
 }
 
+/// The new envelope of `table`, which views `pool`, in front of the header at the front of `input`: the joined header's bytes, and what reading them gives; or
+/// the refusal.
+pub fn relay(edition: u32, input: &[u8], table: &[Row], pool: &[u8]) -> Result<(Vec<u8>, Header), Answer> {
+    let needs = relay_into(edition, input, table, pool, &mut [], &mut [], &mut []);
+    if needs.answer != ROWS_SHORT {
+        return Err(needs);
+    }
+    let mut rows = vec![[0; ROW_NUMBERS]; needs.rows];
+    let mut words = [0; WORDS];
+    let mut output = vec![0; needs.place];
+    let answer = relay_into(edition, input, table, pool, &mut rows, &mut words, &mut output);
+    match answer.answer {
+        ACCEPTED => Ok((output, Header { rows, words, length: answer.place })),
+        _ => Err(answer),
+    }
+}
+
+fn relay_into(edition: u32, input: &[u8], table: &[Row], pool: &[u8], rows: &mut [Row], words: &mut [u32], output: &mut [u8]) -> Answer {
+    let numbers = rows.len() * ROW_NUMBERS;
+    let table_numbers = table.len() * ROW_NUMBERS;
+    unsafe {
+        gamulisyan_relay(edition, input.as_ptr(), input.len(), table.as_ptr().cast(), table_numbers, pool.as_ptr(), pool.len(), rows.as_mut_ptr().cast(), numbers,
+                         words.as_mut_ptr(), words.len(), output.as_mut_ptr(), output.len())
+    }
+}
+
 #[cfg(test)]
 mod tests {
     use super::*;
@@ -345,6 +386,17 @@ mod tests {
         backward[4] = 0x22;
         assert_eq!(which(&backward).unwrap().1, EDITION_D);
         assert_eq!(which(&M[..14]), Err(Answer { answer: 2, place: 14, rows: 0 }));
+    }
+
+    #[test]
+    fn relays() {
+        let pool = b"a\x31\x11\x16\x19\x15\x37\x62\x59\x20";
+        let table = [[1, 0, 0, 0, 3], [8, 0, 0, 1, 3], [5, 1, 1, 9, 3]];
+        let (joined, header) = relay(EDITION_D, &M, &table, pool).unwrap();
+        assert_eq!((joined.len(), &joined[17..]), (32, &M[..15]));
+        assert_eq!(header, read(EDITION_D, &joined).unwrap());
+        assert_eq!(relay(EDITION_D, &M[..14], &table, pool), Err(Answer { answer: 2, place: 14, rows: 0 }));
+        assert_eq!(relay(EDITION_D, &M, &table[1..], pool), Err(Answer { answer: 15, place: 0, rows: 0 }));
     }
 
     #[test]

@@ -100,7 +100,7 @@ enum {
 struct gamulisyan_answer {
     uint32_t answer;
     size_t place; /* the header's length if accepted, of gamulisyan_present and gamulisyan_lookup the row; else as document 01's table says */
-    size_t rows;  /* rows read, written, asked about or looked at; rows needed for 14 of a reader; else 0 */
+    size_t rows;  /* rows read, written, joined, asked about or looked at; rows needed for 14 of a reader or relay; else 0 */
 };
 
 /* The same, and the editions that allow the bytes: GAMULISYAN_EDITION_B, GAMULISYAN_EDITION_D, or GAMULISYAN_EDITION_BOTH; 0 if refused. */
@@ -212,6 +212,18 @@ struct gamulisyan_answer gamulisyan_present(uint32_t edition, const uint32_t *ro
    and at most sixteen rows more are looked at than stand at level 0. An envelope past the sixteenth has no word and lacks no code but
    20, if it is an extension. Changes no memory. */
 struct gamulisyan_answer gamulisyan_lookup(const uint32_t *rows, size_t numbers, const uint32_t *words, size_t word_count, uint32_t code);
+
+/* The relay: "The gateway may not alter an envelope it received; it puts a new one in front." Takes an old input with a header at its front, a new table of
+   one extension envelope and nothing else (`table_numbers` counts uint32_t) with the pool that it views, and lent: rows, words, at least sixteen, and
+   output. Leaves the new envelope and behind it the old header, byte for byte, at the front of `output`; and rows and words as gamulisyan_read leaves
+   them for that joined header. The old payload is not copied: the caller puts it behind. Answers 0, the joined header's length and the joined row
+   count; or a refusal, in this order: 1; what gamulisyan_read refuses of the old input, but 14; 15 at the row of the new table that is wrong (0 if its
+   first row is not of kind 1, a second envelope's row, the row count if rows end early; skip numbers last, that of row 0 being the new table's row
+   count); 5 at 0 for a seventeenth envelope or a new one over the limit; 14 at the joined header's length with the rows needed, for too few rows
+   or words; 16 at the bytes needed. After a refusal nothing has changed. */
+struct gamulisyan_answer gamulisyan_relay(uint32_t edition, const uint8_t *input, size_t length, const uint32_t *table, size_t table_numbers,
+                                          const uint8_t *pool, size_t pool_length, uint32_t *rows, size_t numbers, uint32_t *words, size_t word_count,
+                                          uint8_t *output, size_t output_length);
 
 /* Takes an input. Answers where its payload lies: from behind the header up to the input's end, or from 0 to 0 if the header is
    refused. Changes no memory; 14 cannot arise. */

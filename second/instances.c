@@ -33,6 +33,7 @@ int main(void)
     run_present(&bench);
     run_lookup(&bench);
     run_which(&bench);
+    run_relay(&bench);
     printf("%u passed, %u failed\n", bench.passed, bench.failed);
     return bench.failed == 0 ? 0 : 1;
 }

@@ -32,5 +32,6 @@ void run_words(struct bench *bench);
 void run_present(struct bench *bench);
 void run_lookup(struct bench *bench);
 void run_which(struct bench *bench);
+void run_relay(struct bench *bench);
 
 #endif

@@ -7,7 +7,7 @@
 #include <stdint.h>
 #include <stdio.h>
 
-enum { MOST_FIELDS = 11, MOST_LINE = 65536 };
+enum { MOST_FIELDS = 13, MOST_LINE = 65536 };
 
 /* They lie in the file's current line. */
 struct fields {

@@ -68,6 +68,12 @@ struct second_sorted {
 
 struct second_sorted second_which(const uint8_t *input, size_t length, uint32_t *rows, size_t rows_length, uint32_t *words, size_t words_length);
 
+/* Order 2: a new table of one extension in front of the header at the front of `input`. Fills rows, words and output; the reply as a reading of the joined
+   header gives it, or the refusal. */
+struct second_reply second_relay(uint32_t edition, const uint8_t *input, size_t length, const uint32_t *table, size_t table_length, const uint8_t *pool,
+                                 size_t pool_length, uint32_t *rows, size_t rows_length, uint32_t *words, size_t word_count, uint8_t *output,
+                                 size_t output_length);
+
 /* The empty part at the front if the header is refused. */
 struct second_part second_payload(uint32_t edition, const uint8_t *input, size_t length);
 

@@ -1,103 +1,13 @@
-/* Runs the recorded cases of one folder: read.tsv, write.tsv, number.tsv, date.tsv, days.tsv, breaks.tsv, tolerant.tsv, skips.tsv, words.tsv,
-   present.tsv, lookup.tsv and which.tsv. Each case is given its own lent
-   memory between guards, and the whole of it is compared afterwards. */
+/* Runs the recorded cases of one folder, each file by its checker. Each case is given its own lent memory between guards, and the whole of it is compared
+   afterwards. */
+#include "vectors.h"
+
+#include "rules.h"
 #include "second.h"
 
-#include "recorded.h"
-#include "rules.h"
-
 #include <inttypes.h>
-#include <stdbool.h>
 #include <stdlib.h>
 #include <string.h>
-
-enum { GUARD = 64, MOST_LENT = 1048576 + 4096, PATTERN = 0xA5 };
-
-/* Words, so that rows may be lent from it too. */
-struct lent {
-    uint32_t words[(GUARD + MOST_LENT + GUARD) / sizeof(uint32_t)];
-    size_t length;
-};
-
-/* What one case is run with; large, and used again for every case. */
-struct bench {
-    struct lent source; /* input, rows to write, or bytes to decode */
-    struct lent pool;
-    struct lent target; /* rows to fill, or output */
-    struct lent words;
-    uint8_t expected[MOST_LENT];
-    uint8_t given[MOST_LENT];
-};
-
-/* A checker prints what it got if that differs from the case. */
-typedef bool checker(const struct fields *fields, struct bench *bench);
-
-static uint8_t *inside(struct lent *lent)
-{
-    return (uint8_t *)lent->words + GUARD;
-}
-
-static uint8_t *lend(struct lent *lent, size_t length)
-{
-    if (length > MOST_LENT) {
-        fputs("a case lends more than this program holds\n", stderr);
-        exit(2);
-    }
-    lent->length = length;
-    memset(lent->words, PATTERN, GUARD + length + GUARD);
-    return inside(lent);
-}
-
-static uint8_t *lend_copy(struct lent *lent, const uint8_t *bytes, size_t length)
-{
-    uint8_t *copy = lend(lent, length);
-    memcpy(copy, bytes, length);
-    return copy;
-}
-
-static uint32_t *as_rows(uint8_t *lent)
-{
-    return (uint32_t *)(void *)lent;
-}
-
-/* The memory starts with these bytes, and all the rest of it, guards too, is as it was lent. */
-static bool holds_only(struct lent *lent, const uint8_t *bytes, size_t length)
-{
-    const uint8_t *all = (const uint8_t *)lent->words;
-    if (length > lent->length || memcmp(all + GUARD, bytes, length) != 0)
-        return false;
-    for (size_t place = 0; place < GUARD + lent->length + GUARD; place++) {
-        bool guard = place < GUARD || place >= GUARD + length;
-        if (guard && all[place] != PATTERN)
-            return false;
-    }
-    return true;
-}
-
-static void print_hex(const uint8_t *bytes, size_t length)
-{
-    for (size_t place = 0; place < length; place++)
-        printf("%02x", bytes[place]);
-}
-
-static void print_list(const uint8_t *bytes, size_t length)
-{
-    for (size_t place = 0; place < length; place += sizeof(uint32_t)) {
-        uint32_t value;
-        memcpy(&value, bytes + place, sizeof value);
-        printf("%s%" PRIu32, place == 0 ? "" : ",", value);
-    }
-}
-
-static void print_lent(struct lent *lent)
-{
-    printf("\n  lent ");
-    print_hex(inside(lent) - GUARD, GUARD);
-    printf(" | ");
-    print_hex(inside(lent), lent->length);
-    printf(" | ");
-    print_hex(inside(lent) + lent->length, GUARD);
-}
 
 /* Sixteen words, as every reading needs. */
 static uint32_t *lend_words(struct bench *bench)
@@ -330,93 +240,6 @@ static bool check_tolerant(const struct fields *fields, struct bench *bench)
     return false;
 }
 
-/* ones, word, how many; or read or read_tolerant, edition, numbers lent, input, all words before, answer, place, rows, rows themselves, all
-   words after */
-static bool check_words(const struct fields *fields, struct bench *bench)
-{
-    const char *const *text = fields->text;
-    if (strcmp(text[0], "ones") == 0)
-        return second_ones((uint32_t)number(text[1])) == number(text[2]);
-    uint32_t edition = (uint32_t)number(text[1]);
-    size_t room = number(text[2]);
-    size_t length = hex_bytes(text[3], bench->given);
-    uint8_t *input = lend_copy(&bench->source, bench->given, length);
-    size_t words_bytes = list_bytes(text[4], bench->expected);
-    uint32_t *words = as_rows(lend_copy(&bench->words, bench->expected, words_bytes));
-    uint32_t *rows = as_rows(lend(&bench->target, room * sizeof *rows));
-    struct second_reply got = (strcmp(text[0], "read") == 0 ? second_read : second_read_tolerant)(edition, input, length, rows, room, words,
-                                                                                                  words_bytes / sizeof *words);
-    size_t expected = list_bytes(text[8], bench->expected);
-    bool kept = holds_only(&bench->source, bench->given, length) && holds_only(&bench->target, bench->expected, expected);
-    list_bytes(text[9], bench->expected);
-    if (got.answer == number(text[5]) && got.place == number(text[6]) && got.rows == number(text[7]) && kept
-        && holds_only(&bench->words, bench->expected, words_bytes))
-        return true;
-    printf("  got %" PRIu32 "\t%" PRIu64 "\t%" PRIu64 "\t", got.answer, got.place, got.rows);
-    print_list(inside(&bench->words), words_bytes);
-    print_lent(&bench->words);
-    return false;
-}
-
-/* edition, rows themselves, pool, code, answer, place; accepted, the row count is that of the rows */
-static bool check_present(const struct fields *fields, struct bench *bench)
-{
-    size_t rows_bytes = list_bytes(fields->text[1], bench->given);
-    const uint32_t *rows = as_rows(lend_copy(&bench->source, bench->given, rows_bytes));
-    size_t pool_length = hex_bytes(fields->text[2], bench->given);
-    const uint8_t *pool = lend_copy(&bench->pool, bench->given, pool_length);
-    size_t numbers = rows_bytes / sizeof *rows;
-
-    struct second_reply got = second_present((uint32_t)number(fields->text[0]), rows, numbers, pool, pool_length, (uint32_t)number(fields->text[3]));
-    bool sources = holds_only(&bench->pool, bench->given, pool_length);
-    list_bytes(fields->text[1], bench->given);
-    sources = sources && holds_only(&bench->source, bench->given, rows_bytes);
-    if (got.answer == number(fields->text[4]) && got.place == number(fields->text[5])
-        && got.rows == (got.answer == ACCEPTED ? numbers / ROW_NUMBERS : 0) && sources)
-        return true;
-    printf("  got %" PRIu32 "\t%" PRIu64 "\t%" PRIu64, got.answer, got.place, got.rows);
-    return false;
-}
-
-/* rows, words, code; answer, row or place, rows looked at */
-static bool check_lookup(const struct fields *fields, struct bench *bench)
-{
-    size_t rows_bytes = list_bytes(fields->text[0], bench->given);
-    const uint32_t *rows = as_rows(lend_copy(&bench->source, bench->given, rows_bytes));
-    size_t words_bytes = list_bytes(fields->text[1], bench->expected);
-    const uint32_t *words = as_rows(lend_copy(&bench->pool, bench->expected, words_bytes));
-    uint32_t code = (uint32_t)number(fields->text[2]);
-    struct second_reply got = second_lookup(rows, rows_bytes / sizeof *rows, words, words_bytes / sizeof *words, code);
-    if (got.answer == number(fields->text[3]) && got.place == number(fields->text[4]) && got.rows == number(fields->text[5])
-        && holds_only(&bench->source, bench->given, rows_bytes) && holds_only(&bench->pool, bench->expected, words_bytes))
-        return true;
-    printf("  got %" PRIu32 "\t%" PRIu64 "\t%" PRIu64, got.answer, got.place, got.rows);
-    print_lent(&bench->source);
-    print_lent(&bench->pool);
-    return false;
-}
-
-/* input, numbers lent, words lent; answer, place, rows, editions, rows themselves, the words of the envelopes */
-static bool check_which(const struct fields *fields, struct bench *bench)
-{
-    size_t length = hex_bytes(fields->text[0], bench->given);
-    uint8_t *input = lend_copy(&bench->source, bench->given, length);
-    size_t room = number(fields->text[1]);
-    size_t word_count = number(fields->text[2]);
-    uint32_t *rows = as_rows(lend(&bench->target, room * sizeof *rows));
-    uint32_t *words = as_rows(lend(&bench->words, word_count * sizeof *words));
-    struct second_sorted got = second_which(input, length, rows, room, words, word_count);
-    size_t expected = list_bytes(fields->text[7], bench->expected);
-    bool filled = holds_only(&bench->target, bench->expected, expected);
-    expected = list_bytes(fields->text[8], bench->expected);
-    if (got.reply.answer == number(fields->text[3]) && got.reply.place == number(fields->text[4]) && got.reply.rows == number(fields->text[5])
-        && got.editions == number(fields->text[6]) && filled && holds_only(&bench->words, bench->expected, expected)
-        && holds_only(&bench->source, bench->given, length))
-        return true;
-    printf("  got %" PRIu32 "\t%" PRIu64 "\t%" PRIu64 "\t%" PRIu32, got.reply.answer, got.reply.place, got.reply.rows, got.editions);
-    return false;
-}
-
 struct tally {
     unsigned passed;
     unsigned failed;
@@ -457,6 +280,7 @@ int main(int count, char **arguments)
     check_file(arguments[1], "present.tsv", check_present, &bench, &tally);
     check_file(arguments[1], "lookup.tsv", check_lookup, &bench, &tally);
     check_file(arguments[1], "which.tsv", check_which, &bench, &tally);
+    check_file(arguments[1], "relay.tsv", check_relay, &bench, &tally);
     printf("%u passed, %u failed\n", tally.passed, tally.failed);
     return tally.failed == 0 ? 0 : 1;
 }

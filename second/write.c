@@ -6,6 +6,7 @@
 #include "rules.h"
 #include "skips.h"
 #include "values.h"
+#include "write.h"
 
 #include <string.h>
 
@@ -361,17 +362,23 @@ static struct second_reply refused(uint32_t answer, uint64_t place)
     return (struct second_reply){.answer = answer, .place = place, .rows = 0};
 }
 
-struct second_reply second_write(uint32_t edition, const uint32_t *rows, size_t rows_length,
-                                 const uint8_t *pool, size_t pool_length,
-                                 uint8_t *output, size_t output_length)
+static struct writer over_rows(uint32_t edition, const uint32_t *rows, size_t rows_length, const uint8_t *pool, size_t pool_length)
 {
     static const uint8_t nothing; /* an empty pool may come without an address to add a start to */
     struct writer writer = {.edition = edition, .rows = rows, .row_count = rows_length / ROW_NUMBERS,
                             .pool = pool_length == 0 ? &nothing : pool, .pool_length = pool_length};
+    look_ahead(&writer);
+    return writer;
+}
+
+struct second_reply second_write(uint32_t edition, const uint32_t *rows, size_t rows_length,
+                                 const uint8_t *pool, size_t pool_length,
+                                 uint8_t *output, size_t output_length)
+{
+    struct writer writer = over_rows(edition, rows, rows_length, pool, pool_length);
     struct measure measure = {0};
     if (!edition_known(edition))
         return refused(NO_SUCH_EDITION, 0);
-    look_ahead(&writer);
     if (!measure_envelopes(&writer, &measure) || rows_length % ROW_NUMBERS != 0)
         return refused(NO_TABLE, writer.place);
     uint64_t wrong_skip = second_wrong_skip(rows, writer.row_count);
@@ -383,4 +390,27 @@ struct second_reply second_write(uint32_t edition, const uint32_t *rows, size_t 
         return refused(OUTPUT_TOO_SHORT, measure.total);
     put_envelopes(&writer, &measure, output);
     return (struct second_reply){.answer = ACCEPTED, .place = measure.total, .rows = writer.row_count};
+}
+
+struct second_reply measure_extension(uint32_t edition, const uint32_t *rows, size_t rows_length, const uint8_t *pool, size_t pool_length)
+{
+    struct writer writer = over_rows(edition, rows, rows_length, pool, pool_length);
+    bool base = false;
+    if (writer.ahead.kind != KIND_EXTENSION || !write_envelope(&writer, 0, &base) || writer.place * ROW_NUMBERS != rows_length)
+        return refused(NO_TABLE, writer.place);
+    uint64_t wrong_skip = second_wrong_skip(rows, writer.row_count);
+    if (wrong_skip < writer.row_count)
+        return refused(NO_TABLE, wrong_skip);
+    uint64_t length = length_with_front(writer.counted);
+    if (length > ENVELOPE_LIMIT)
+        return refused(OVER_LIMIT, 0);
+    return (struct second_reply){.answer = ACCEPTED, .place = length, .rows = writer.row_count};
+}
+
+void put_extension(uint32_t edition, const uint32_t *rows, size_t rows_length, const uint8_t *pool, size_t pool_length, uint64_t length, uint8_t *output)
+{
+    struct writer writer = over_rows(edition, rows, rows_length, pool, pool_length);
+    bool base = false;
+    writer.output = output;
+    write_envelope(&writer, length, &base);
 }

@@ -11,3 +11,5 @@ pub mod Lookup
 pub mod Which
 pub mod Coders
 pub mod Premises
+pub mod Relay
+pub mod RelayDemands

@@ -6,6 +6,7 @@ ghost use Rattle.writer.specs.Promise.{WritePromise};
 ghost use Rattle.present.specs.Promise.{PresentPromise};
 ghost use Rattle.lookup.specs.Promise.{LookupPromise};
 ghost use Rattle.which.specs.Promise.{WhichPromise};
+ghost use Rattle.relay.specs.Promise.{RelayPromise};
 ghost use Rattle.coders.specs.Plain.{NumberDecodes, NumberEncodes, DateDecodes, DateEncodes, plainOf};
 ghost use Rattle.gamulisyan.specs.Version.{version};
 ghost use mathlib.Core.Path.{_≡_};
@@ -86,6 +87,21 @@ pub extern "C" fn gamulisyan_lookup(rows: &[u32], words: &[u32], code: u32) -> R
     ensures { λ r. ⌜ LookupPromise (now (rows .entry)) (now (words .entry)) code r ⌝ }
 {
     lookup::lookup(rows, words, code)
+}
+
+#[no_mangle]
+pub extern "C" fn gamulisyan_relay(
+    edition: u32,
+    input: &[u8],
+    table: &[u32],
+    pool: &[u8],
+    rows: &mut [u32],
+    words: &mut [u32],
+    output: &mut [u8],
+) -> Reply
+    ensures { λ r. ⌜ RelayPromise edition (now (input .entry)) (now (table .entry)) (now (pool .entry)) (now (rows .entry)) (now (words .entry)) (now (output .entry)) r (now (rows .exit)) (now (words .exit)) (now (output .exit)) ⌝ }
+{
+    relay::relay(edition, input, table, pool, rows, words, output)
 }
 
 #[no_mangle]

@@ -6,7 +6,7 @@ use mathlib.Core.Path.{_≡_, refl, ap, sym, _∙_, subst}
 use native.Mathlib.Omega.{arith}
 use lib.Dec.{eqb, ltb}
 use lib.ListN.{length, take, drop}
-use Rattle.meaning.specs.Basics.{pick, every}
+use Rattle.meaning.specs.Basics.{pick}
 use Rattle.meaning.specs.Bytes.{Count, counted, short, highFirst}
 use Rattle.meaning.specs.Told.{Label, known, unknown, labelOf, Strictness, Told, toldBy}
 use Rattle.meaning.specs.Reading.{Seen, Out, dry, fault, done, inside}
@@ -27,11 +27,11 @@ abbrev AnswerIs : ℕ → Answer → Type 0
 AnswerIs most (refused refusal place) = Unit {0}
 AnswerIs most (accepted place rs) = AtMost most (ranksRead rs)
 
-placed-ranks : (end : ℕ) (rs : List Seen) → ranksRead (map (placed end) rs) ≡ map rankSeen rs
+pub placed-ranks : (end : ℕ) (rs : List Seen) → ranksRead (map (placed end) rs) ≡ map rankSeen rs
 placed-ranks end [] = refl
 placed-ranks end (r ∷ rs) = ap (λ (x : List Rank). rankSeen r ∷ x) (placed-ranks end rs)
 
-ranks-append : (rs ts : List Placed) → ranksRead (rs ++ ts) ≡ ranksRead rs ++ ranksRead ts
+pub ranks-append : (rs ts : List Placed) → ranksRead (rs ++ ts) ≡ ranksRead rs ++ ranksRead ts
 ranks-append [] ts = refl
 ranks-append (r ∷ rs) ts = ap (λ (x : List Rank). rankOf (numbersOf r) ∷ x) (ranks-append rs ts)
 

@@ -50,6 +50,7 @@ pub mod PlainNumbers
 pub mod PlainDates
 pub mod Standing
 pub mod Ties
+pub mod EnvelopeCounts
 pub mod BothEditions
 pub mod Walks
 pub mod Levels
@@ -76,7 +77,14 @@ pub mod Stopping
 pub mod WriteRefused
 pub mod Demands
 pub mod Sorting
+pub mod Moving
+pub mod Joining
+pub mod Joined
+pub mod JoinedRead
+pub mod JoinedDemands
 pub mod PresentValues
+pub mod Dateless
+pub mod JoinedValues
 pub mod Tolerant
 pub mod Notes
 pub mod Days

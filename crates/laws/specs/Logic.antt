@@ -1,11 +1,13 @@
 -- Tests taken apart and put together, and bytes as numbers below 256: what every law below uses.
-use Prim.Native.Nat.{ℕ, _<_}
+use Prim.Native.Nat.{ℕ, suc, _<_}
 use mathlib.Core.List.{List, [], _∷_, _++_}
 use mathlib.Core.Bool.{Bool, true, false, _&&_, _||_, not}
 use mathlib.Core.Logic.{_⊎_, inl, inr}
 use mathlib.Core.Path.{_≡_, refl}
 use native.Mathlib.Omega.{arith}
 use lib.Dec.{T, ltb, ltb→lt}
+use lib.ListN.{getD}
+use borrow.Author.Tests.{lt-ltb}
 use Rattle.meaning.specs.Basics.{every}
 
 abbrev pub left-of : (a b : Bool) → T (a && b) → T a
@@ -54,6 +56,11 @@ isByte b = ltb b 256
 
 abbrev pub areBytes : List ℕ → Bool
 areBytes s = every isByte s
+
+-- a slice's bytes are bytes
+pub slice-of-bytes : (s : List ℕ) → ((i : ℕ) → getD s i 0 < 256) → T (areBytes s)
+slice-of-bytes [] h = tt
+slice-of-bytes (b ∷ s) h = both (isByte b) (areBytes s) (rw (lt-ltb b 256 (h 0)) tt) (slice-of-bytes s (λ i. h (suc i)))
 
 pub first-byte : (b : ℕ) (s : List ℕ) → T (areBytes (b ∷ s)) → b < 256
 first-byte b s t = ltb→lt b 256 (left-of (isByte b) (areBytes s) t)

@@ -168,6 +168,12 @@ parse e [] i b st = parse-last e b st i
 parse e (broken ∷ cs) i b st = tt
 parse e (cell row ∷ cs) i b st = parse-next e b st i row cs (planOf e cs (suc i)) (opensOf row) (opens-is row) (parse e cs (suc i))
 
+-- rows behind which nothing opens are those of the envelope that is open, up to its end
+pub last-parsed : (e : Edition) (cs : List Cell) (i : ℕ) (st : State) (bs : List ℕ) (vs : List Envelope) → planOf e cs i true st ≡ plan bs vs → (rows : List Row) × (to : State) × (cs ≡ map cell rows) × (fitAll e rows st ≡ fits to bs)
+last-parsed e cs i st bs vs q =
+    let p : Parsed e true st cs bs vs = subst (Parse e true st cs) q (parse e cs i true st) in
+    (p .rows, p .to, p .cells ∙ ap (map cell) (ap (λ (x : List Row). p .rows ++ x) (p .rest .0) ∙ append-nil (p .rows)), p .fit-all)
+
 -- before the first envelope nothing is open, and nothing fits
 closed-close : (e : Edition) → close e (state closed 0 false) ≡ fits (state closed 0 false) []
 closed-close e = close-once e (state closed 0 false)

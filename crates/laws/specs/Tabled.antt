@@ -36,7 +36,7 @@ pub data Tabled : ℕ → List Rank → Type 0 where
 
 -- Rooms that stand deeper than an envelope's level
 
-abbrev isDeep : Room → Bool
+abbrev pub isDeep : Room → Bool
 isDeep receivedBegins = false
 isDeep headRepresentation = false
 isDeep headDate = false
@@ -60,7 +60,7 @@ isDeep afterResolvers = true
 isDeep agentExtra = true
 isDeep closed = false
 
-abbrev leadsWell : Bool → Next → Bool
+abbrev pub leadsWell : Bool → Next → Bool
 leadsWell deep (outer r) = not (isDeep r)
 leadsWell deep (inner r) = true
 leadsWell deep (innerOne r) = true
@@ -69,21 +69,21 @@ leadsWell deep (deeper r) = true
 leadsWell deep listEnds = true
 leadsWell deep agentEnds = deep
 
-abbrev rowWell : Room → Move → Bool
+abbrev pub rowWell : Room → Move → Bool
 rowWell r m = isQuiet (m .form) || leb 3 (m .kind) && (not (eqb (m .kind) agentName) || isDeep r)
 
-abbrev moveWell : Room → Move → Bool
+abbrev pub moveWell : Room → Move → Bool
 moveWell r m = leadsWell (isDeep r) (m .next) && rowWell r m
 
-abbrev movesWell : Edition → Room → Bool
+abbrev pub movesWell : Edition → Room → Bool
 movesWell e r = every (moveWell r) (moves e r)
 
-well-test : T (allRooms movesWell)
+pub well-test : T (allRooms movesWell)
 unfolding moves shared own
 well-test = tt
 
 -- a state whose room stands deeper has such a level
-abbrev Deep : State → Type 0
+abbrev pub Deep : State → Type 0
 Deep st = isDeep (st .room) ≡ true → 1 ≤ st .level
 
 false-is : {A : Type 0} → false ≡ true → A
@@ -98,7 +98,7 @@ agent-deep : (st : State) (z : Bool) → 1 ≤ st .level → Deep (pick z (state
 agent-deep st true h q = false-is q
 agent-deep st false h q = h
 
-go-deep : (st : State) (n : Next) → T (leadsWell (isDeep (st .room)) n) → Deep st → Deep (go n st)
+pub go-deep : (st : State) (n : Next) → T (leadsWell (isDeep (st .room)) n) → Deep st → Deep (go n st)
 go-deep st (outer r) t g q = absurd (not-both (isDeep r) (subst T (sym q) tt) t)
 go-deep st (inner r) t g q = omega arith
 go-deep st (innerOne r) t g q = omega arith

@@ -62,14 +62,20 @@ unfolding wordsOf
 words-top true inner rest q = rw (q, take-append-seam inner rest) refl
 words-top false inner rest q = rw (q, take-append-seam inner rest) refl
 
-words-pass : (inner rest : List Rank) → T (every isInner inner) → wordsOf (inner ++ rest) ≡ wordsOf rest
+-- an envelope's own row has a word, the rows inside it none
+pub opens-word : (b : Bool) (ranks : List Rank) → length (wordsOf (top b ∷ ranks)) ≡ suc (length (wordsOf ranks))
+unfolding wordsOf
+opens-word true ranks = refl
+opens-word false ranks = refl
+
+pub words-pass : (inner rest : List Rank) → T (every isInner inner) → wordsOf (inner ++ rest) ≡ wordsOf rest
 unfolding wordsOf
 words-pass [] rest t = refl
 words-pass (r ∷ inner) rest t =
     let h = inner-three r (left-of (isInner r) (every isInner inner) t) in
     rw (ne-eqb (r .kind) 1 (λ q. omega arith), ne-eqb (r .kind) 2 (λ q. omega arith)) (words-pass inner rest (right-of (isInner r) (every isInner inner) t))
 
-no-words : wordsOf [] ≡ []
+pub no-words : wordsOf [] ≡ []
 unfolding wordsOf
 no-words = refl
 

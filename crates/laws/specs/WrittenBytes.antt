@@ -14,7 +14,7 @@ use Rattle.meaning.specs.Editions.{Room, State, Form, text, date, number, block
 use Rattle.meaning.specs.Reading.{Row, hasCode}
 use Rattle.meaning.specs.Headers.{envelopeMost}
 use Rattle.meaning.specs.Writing.{valid, writeValue, fits, lead, fitRow, close, Cell, cell, broken, isShort, withinLimit, envelopeLength, wrap}
-use Rattle.meaning.specs.Memory.{cellOf, cellsOf}
+use Rattle.meaning.specs.Memory.{cellsOf}
 use Rattle.laws.specs.Logic.{left-of, right-of, both, isByte, areBytes}
 use Rattle.laws.specs.Rows.{every-cell}
 use Rattle.laws.specs.Tables.{In, every-in, allRooms, each-room}
@@ -84,7 +84,7 @@ close-bytes e = close-holds e (λ st st′ bs. T (areBytes bs)) (λ st h. tt) (�
 abbrev pub viewsBytes : Row → Bool
 viewsBytes row = areBytes (row .view)
 
-all-bytes : (e : Edition) (rows : List Row) (st st′ : State) (bs : List ℕ) → T (every viewsBytes rows) → fitAll e rows st ≡ fits st′ bs → T (areBytes bs)
+pub all-bytes : (e : Edition) (rows : List Row) (st st′ : State) (bs : List ℕ) → T (every viewsBytes rows) → fitAll e rows st ≡ fits st′ bs → T (areBytes bs)
 unfolding fitAll
 all-bytes e [] st st′ bs t q = close-bytes e st st′ bs q
 all-bytes e (row ∷ rows) st st′ bs t q =
@@ -98,7 +98,7 @@ head-bytes n false q l =
     let k : 7 + n ≤ envelopeMost = rw q at h in
     bytes-cons 0 (0 ∷ lengthBytes fourBytes (7 + n)) (omega arith) (bytes-cons 0 (lengthBytes fourBytes (7 + n)) (omega arith) (length-are-bytes fourBytes (7 + n) (omega arith)))
 
-wrap-bytes : (b : Bool) (bs : List ℕ) → withinLimit (length bs) ≡ true → T (areBytes bs) → T (areBytes (wrap b bs))
+pub wrap-bytes : (b : Bool) (bs : List ℕ) → withinLimit (length bs) ≡ true → T (areBytes bs) → T (areBytes (wrap b bs))
 wrap-bytes true bs l t = bytes-append (envelopeLength (length bs)) bs (head-bytes (length bs) (isShort (length bs)) refl l) t
 wrap-bytes false bs l t = bytes-append (envelopeLength (length bs)) bs (head-bytes (length bs) (isShort (length bs)) refl l) t
 
@@ -126,7 +126,7 @@ drop-bytes zero s t = t
 drop-bytes (suc n) [] t = tt
 drop-bytes (suc n) (b ∷ s) t = drop-bytes n s (right-of (isByte b) (areBytes s) t)
 
-abbrev cellBytes : Cell → Bool
+abbrev pub cellBytes : Cell → Bool
 cellBytes (cell row) = viewsBytes row
 cellBytes broken = true
 
@@ -134,10 +134,10 @@ cell-bytes : (pool : List ℕ) (kind level start len : ℕ) (b : Bool) → T (ar
 cell-bytes pool kind level start len true t = take-bytes len (drop start pool) (drop-bytes start pool t)
 cell-bytes pool kind level start len false t = tt
 
-cells-bytes : (pool rows : List ℕ) → T (areBytes pool) → T (every cellBytes (cellsOf pool rows))
+pub cells-bytes : (pool rows : List ℕ) → T (areBytes pool) → T (every cellBytes (cellsOf pool rows))
 cells-bytes pool rows t = every-cell cellBytes pool (λ kind level start len. cell-bytes pool kind level start len (leb (start + len) (length pool)) t) tt rows
 
-table-bytes : (table : List Row) → T (every cellBytes (map cell table)) → T (every viewsBytes table)
+pub table-bytes : (table : List Row) → T (every cellBytes (map cell table)) → T (every viewsBytes table)
 table-bytes [] t = tt
 table-bytes (row ∷ table) t = both (viewsBytes row) (every viewsBytes table) (left-of (viewsBytes row) (every cellBytes (map cell table)) t) (table-bytes table (right-of (viewsBytes row) (every cellBytes (map cell table)) t))
 

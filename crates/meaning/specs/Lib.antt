@@ -14,6 +14,7 @@ pub mod Memory
 pub mod Present
 pub mod Lookup
 pub mod Which
+pub mod Relay
 pub mod Payload
 pub mod Plain
 pub mod Listing
@@ -30,4 +31,5 @@ pub mod Presence
 pub mod Asking
 pub mod Lookings
 pub mod Sortings
+pub mod Relaying
 pub mod Bounds

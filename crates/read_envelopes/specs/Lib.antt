@@ -2,3 +2,4 @@
 pub mod Frames
 pub mod Envelopes
 pub mod Headers
+pub mod Counts

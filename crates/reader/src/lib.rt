@@ -123,7 +123,7 @@ pub fn fill(
 
 // Takes how many numbers and how many words are lent. Answers how many rows have room: "14 also when reader .. is lent fewer than sixteen, which
 // count as room".
-fn room_with(numbers: usize, words: usize) -> usize
+pub fn room_with(numbers: usize, words: usize) -> usize
     ensures { λ r. ⌜ r ≡ pick (leb wordsBorrowed words) (numbers / rowWidth) 0 ⌝ }
 {
     if words < WORDS_BORROWED {

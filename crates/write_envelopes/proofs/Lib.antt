@@ -5,3 +5,4 @@ pub mod Checking
 pub mod Passing
 pub mod Noting
 pub mod Writing
+pub mod Extensions

@@ -70,7 +70,7 @@ cell-same e true st i row cs (envelopeRow c) q ih = base-same e i row cs (close 
 cell-same e false st i row cs (envelopeRow c) q ih = turn-same e st i row cs c (close e st) q
 
 -- THE tie: the definition's plan is that of the bodies
-plan-body : (e : Edition) (cs : List Cell) (i : ℕ) (b : Bool) (st : State) → planOf e cs i b st ≡ fromBody e b (bodyOf e cs i st)
+pub plan-body : (e : Edition) (cs : List Cell) (i : ℕ) (b : Bool) (st : State) → planOf e cs i b st ≡ fromBody e b (bodyOf e cs i st)
 unfolding planOf bodyOf
 plan-body e [] i b st = end-same e b st i (close e st) refl
 plan-body e (broken ∷ cs) i b st = refl

@@ -51,7 +51,7 @@ fn identifier(opened: u32) -> u8
 
 // Lays one envelope at `at`, by the kind that opens it, the row after its own, and how many bytes it has inside.
 // Answers where its rows end; bytes before and behind it are as they were.
-fn put_envelope(
+pub(crate) fn put_envelope(
     edition: Edition,
     rows: &[u32],
     pool: &[u8],

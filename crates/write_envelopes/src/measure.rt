@@ -104,7 +104,13 @@ fn passed(left: usize, total: usize, first: usize) -> Sizes
 
 // Takes the row after an envelope's own, and whether it is the base. Answers the row behind its inside, and how many bytes that has;
 // or the row that fits nowhere. Nothing is laid: its part of the output is empty.
-fn measure(edition: Edition, rows: &[u32], pool: &[u8], from: usize, base: bool) -> Bodied
+pub(crate) fn measure(
+    edition: Edition,
+    rows: &[u32],
+    pool: &[u8],
+    from: usize,
+    base: bool,
+) -> Bodied
     requires { ⌜ from ≤ roomOf (now rows) ⌝ }
     ensures { λ r. ⌜ Measured (bodyOf (editionOf edition) (cellsAt (now (pool .entry)) (now (rows .entry)) from) from (start base)) (now (pool .entry)) (now (rows .entry)) r ⌝ }
 {
@@ -125,7 +131,7 @@ fn note(lengths: &mut [usize], left: usize, many: usize)
 
 // Takes the row behind the base, and all envelopes. Answers the bytes that they need.
 // Refuses a row or a number left over there (15), then an envelope past a limit (5).
-fn ended(rows: &[u32], row: usize, t: Sizes) -> Checked
+pub(crate) fn ended(rows: &[u32], row: usize, t: Sizes) -> Checked
     ensures { λ r. ⌜ ((pool : List ℕ) → r ≡ checkedOf (endVerdict (cellsAt pool (now (rows .entry)) row) row (t .total) (limitOf (t .over) (t .first)))) ⌝ }
 {
     if row < room(rows.len()) {
@@ -144,7 +150,7 @@ fn ended(rows: &[u32], row: usize, t: Sizes) -> Checked
 }
 
 // "15: rows up to here begin no table of this edition, .. or rows or slice end early": the refusal at a row.
-fn no_table(row: usize) -> Checked
+pub(crate) fn no_table(row: usize) -> Checked
     ensures { λ r. ⌜ r ≡ checkedOf (bad 15 row) ⌝ }
 {
     Checked::Bad {

@@ -88,7 +88,7 @@ fn check_all(edition: Edition, rows: &[u32], pool: &[u8], lengths: &mut [usize])
 }
 
 // Takes what the rows answer where their skip numbers are right. Answers that, or refuses a wrong one (15, at the lowest such row).
-fn skips_before(rows: &[u32], c: Checked) -> Checked
+pub fn skips_before(rows: &[u32], c: Checked) -> Checked
     ensures { λ r. ⌜ r ≡ unlessWrong (skipsHeld (now (rows .entry))) c ⌝ }
 {
     let wrong = first_wrong(rows);

@@ -1,6 +1,7 @@
 -- `read_table`: the reader's promise, and that its text is the listing, since the input is a slice of bytes.
 use native.Mathlib.Omega.{arith}
-use Rattle.lister.proofs.Tables.{slice-of-bytes, table-listed}
+use Rattle.laws.specs.Logic.{slice-of-bytes}
+use Rattle.lister.proofs.Tables.{table-listed}
 use borrow.Author.Needs.{needs}
 use Rattle.lister.proofs.read_table.Statement.{statement}
 use Rattle.lister.proofs.read_table.Tie as tie
