@@ -130,6 +130,11 @@ label-never-lies e {rows} {pool} {output} {out} {before} {words} {after} {words�
         let (answer, _, count, leaves, carries) = refuses q (ap (read (numberOf (other e))) front ∙ is) in
         inr (plain, record { answers = as-answered answer k; count = count; leaves = leaves; carries = carries })
 
+-- the first half where there is room
+pub with-room : {A B C R : Type 0} → R → (A × (R → B)) ⊎ C → (A × B) ⊎ C
+with-room room (inl (a, f)) = inl (a, f room)
+with-room room (inr c) = inr c
+
 -- What a gateway wants: whatever rows and words are lent, an answer 0 under the other edition is that same table.
 
 pub zero-is-same-table : (e : Edition) {rows pool output out before words after words′ : List ℕ} {a : declared.Reply} {b : declared.Reply} → T (areBytes pool)

@@ -18,7 +18,7 @@ use Rattle.laws.specs.Tables.{allRooms, each-room}
 use Rattle.laws.specs.Faults.{BadValue, text-ends, date-ends, number-ends, length-ends, block-ends, text-byte, date-byte, number-byte, length-wide, BadStep, code-needed, strange-code, agent-deep, bad-value, closed-early}
 use Rattle.laws.specs.FaultyValues.{worth-length}
 
--- how many bytes from its place on decide a refusal: 6 and 13 are decided by those before the place, a wrong length by its up to six bytes,
+-- how many bytes from its place on decide a refusal, at most: 6 and 13 are decided by those before the place, a wrong length by its up to six bytes,
 -- a length form that is too wide by its code and up to four bytes, and any other refusal by the byte at its place
 abbrev pub decidedBy : ℕ → ℕ
 decidedBy refusal = pick (eqb refusal 6 || eqb refusal 13) 0 (pick (eqb refusal 4 || eqb refusal 5) 6 (pick (eqb refusal 11) 5 1))

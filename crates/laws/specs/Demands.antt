@@ -214,7 +214,7 @@ pub refuses-exactly : (edition : ℕ) (input : List ℕ) (room refusal place cou
 refuses-exactly edition input room refusal place count t some = refuses-as-said edition input room refusal place count t some
 
 -- 10. "Reading goes byte by byte; the first fault decides."
--- The bytes up to the fault decide (`Decided`: how many from its place on, `decidedBy` says); with any others behind them the answer is the same, but that an input which then ends before the
+-- The bytes up to the fault decide (`Decided`: how many from its place on at most, `decidedBy` says); with any others behind them the answer is the same, but that an input which then ends before the
 -- declared end is 2 at its own end. 2 itself speaks of the input's end.
 
 pub first-fault-decides : (edition : ℕ) (input : List ℕ) (refusal place : ℕ) → T (areBytes input) → read edition input ≡ refused refusal place → (refusal ≡ 2 → ⊥) → Decided edition input refusal place

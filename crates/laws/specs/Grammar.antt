@@ -1,5 +1,5 @@
--- What a header of an edition is, said by document 01's grammar alone: bytes and their rows, with no reader and no writer.
--- To be read like `meaning`: the demands are stated over it. What the editions allow stands in their tables (`Editions`).
+-- What a header of an edition is, said by document 01's grammar: bytes and their rows, with neither the reading machine nor the writer's plan. To be read like `meaning`: the demands are
+-- stated over it. What the editions allow stands in their tables (`Editions`); which values are valid, and how a value and an envelope's head stand as bytes, in `Writing`.
 use Prim.Native.Nat.{ℕ, suc, _+_, _≤_, _<_}
 use mathlib.Core.List.{List, [], _∷_, _++_}
 use mathlib.Core.Bool.{Bool, true, false}
