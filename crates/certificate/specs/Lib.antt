@@ -10,6 +10,7 @@ pub mod Present
 pub mod Lookup
 pub mod Which
 pub mod Coders
+pub mod Printing
 pub mod Premises
 pub mod Relay
 pub mod RelayDemands
