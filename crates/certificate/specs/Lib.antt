@@ -9,6 +9,7 @@ pub mod Presence
 pub mod Present
 pub mod Lookup
 pub mod Which
+pub mod PayloadPart
 pub mod Coders
 pub mod Printing
 pub mod Premises
