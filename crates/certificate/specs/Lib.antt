@@ -12,6 +12,7 @@ pub mod Which
 pub mod PayloadPart
 pub mod Coders
 pub mod Printing
+pub mod Printed
 pub mod Premises
 pub mod Relay
 pub mod RelayDemands

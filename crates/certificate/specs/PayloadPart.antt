@@ -10,7 +10,7 @@ use lib.ListN.{length, take, drop, length-drop, length-take, take-append-drop}
 use lib.Seq.{drop-drop}
 use Rattle.meaning.specs.Basics.{pick}
 use Rattle.meaning.specs.Told.{Edition, Label, known, unknown, labelOf, strict, toldBy}
-use Rattle.meaning.specs.Headers.{Placed, Answer, refused, accepted, envelopesMost, labelled, readBy, read}
+use Rattle.meaning.specs.Headers.{Answer, refused, accepted, envelopesMost, labelled, readBy, read}
 use Rattle.meaning.specs.Memory.{Reply, reply, readReply, roomWith, answerBy}
 use Rattle.meaning.specs.Payload.{partStart, partEnd, partBytes, payloadStart, payloadEnd, payloadBytes}
 use Rattle.laws.specs.Refusals.{mayRefuse, refused-shape as header-refused}
