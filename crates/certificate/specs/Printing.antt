@@ -1,4 +1,4 @@
--- "The listing": its pieces from the first on, put together, whatever memory each call is lent.
+-- The listing program's text, of calls: the pieces from the first on, put together, whatever memory each call is lent.
 -- By what a piece promises: the text from its cursor on is the piece, then the text from the next cursor on.
 use Prim.Native.Nat.{ℕ, suc, _*_, _≤_}
 use mathlib.Core.List.{List, [], _++_}
@@ -47,7 +47,7 @@ module _ {edition : ℕ} {input before words after words′ : List ℕ} {a : Rep
   pub pieces-are-listing : {joined : List ℕ} → Calls (a .answer) (a .place) (a .rows) after input 0 0 joined → joined ≡ listing edition input
   pieces-are-listing c = pieces-joined c ∙ p .lists few room enough
 
-  -- and an empty one comes, at the latest after as many calls as the listing has bytes
+  -- and calls that each write something are no more than the listing has bytes: then an empty one comes
   pub listing-ends : {n : ℕ} → Going (a .answer) (a .place) (a .rows) after input n 0 0 → n ≤ length (listing edition input)
   listing-ends {n} g = subst (λ (text : List ℕ). n ≤ length text) (p .lists few room enough) (calls-few g)
 
