@@ -10,5 +10,6 @@ pub mod Lookup
 pub mod Which
 pub mod Coders
 pub mod Premises
+pub mod SomeAnswer
 pub mod Relay
 pub mod RelayDemands
