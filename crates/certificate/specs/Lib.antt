@@ -14,5 +14,6 @@ pub mod Coders
 pub mod Printing
 pub mod Printed
 pub mod Premises
+pub mod SomeAnswer
 pub mod Relay
 pub mod RelayDemands

@@ -56,7 +56,7 @@ pub one-date-decoded : {kind : ℕ} {bytes : List ℕ} {r s : DecodedDate} → D
 one-date-decoded p q = λ i. record { answer = same (p .is) (q .is) i .answer; place = same (p .is) (q .is) i .place; date = same-date (same (p .worth) (q .worth)) i }
 
 -- an encoder's answer and place
-abbrev encodedAs : Outcome → Encoded
+abbrev pub encodedAs : Outcome → Encoded
 encodedAs o = record { answer = o .answer; place = o .place }
 
 -- encoding a number: answer and place, and the lent output

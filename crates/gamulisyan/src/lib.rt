@@ -1,5 +1,7 @@
 // The entries under the names that C and Rust programs link, each with its whole promise; nothing else. `include/gamulisyan.h` declares them
 // and says what each takes, answers, refuses and leaves.
+mod callers;
+
 ghost use Rattle.meaning.specs.Words.{onesOf};
 ghost use Rattle.reader.specs.Promises.{ReadPromise, TolerantPromise, PartPromise};
 ghost use Rattle.writer.specs.Promise.{WritePromise};
