@@ -1,5 +1,8 @@
 // "Text: bytes 20 to FF (hex), possibly none, then 00", and in notes line breaks.
 use crate::Value;
+use crate::eights::eight_bytes;
+use crate::eights::first_mark;
+use crate::eights::marks;
 use table::refusals::ENVELOPE_ENDS;
 use table::refusals::TEXT_WRONG;
 ghost use mathlib.Core.Path.{_≡_};
@@ -159,25 +162,14 @@ fn line_run(s: &[u8], end: usize, at: usize) -> usize
 {
     let mut i = at;
     while 8 <= end - i {
-        if eight(s, i) {
+        let below = marks(eight_bytes(s, i));
+        if below == 0 {
             i += 8;
         } else {
-            return first_stop(s, i);
+            return i + first_mark(below);
         }
     }
     last_run(s, end, i)
-}
-
-// The first byte below 20 of eight that have one: it is there, so nothing else is tested.
-fn first_stop(s: &[u8], at: usize) -> usize
-    requires { ⌜ (at + 8 ≤ length (now s)) × (textRun line (now s) at 7 ≡ false) ⌝ }
-    ensures { λ r. ⌜ ((end : ℕ) → at + 8 ≤ end → end ≤ length (now (s .entry)) → LineRun (now (s .entry)) end at r) ⌝ }
-{
-    let mut i = at;
-    while s[i] >= FIRST_TEXT {
-        i += 1;
-    }
-    i
 }
 
 // The same as `line_run`, byte by byte: of the few that are left before the end.
