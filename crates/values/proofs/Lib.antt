@@ -7,3 +7,4 @@ pub mod Days
 pub mod Dates
 pub mod Blocks
 pub mod Marks
+pub mod Whole

@@ -9,7 +9,7 @@ ghost use mathlib.Core.Path.{_≡_};
 ghost use mathlib.Core.Bool.{true, false};
 ghost use Prim.Native.Nat.{ℕ, _+_, _-_, _≤_, _<_};
 ghost use lib.ListN.{length, getD};
-ghost use Rattle.meaning.specs.Bytes.{line, note, isBreak, textByte, takeText};
+ghost use Rattle.meaning.specs.Bytes.{line, note, isBreak, textByte, takeText, textOk};
 ghost use Rattle.laws.specs.From.{from};
 ghost use Rattle.values.specs.Stages.{Inside, Valued, ruleOf, Skipped, Run, LineRun, textRun};
 
@@ -153,6 +153,23 @@ fn long_line(s: &[u8], end: usize, at: usize) -> usize
 {
     let i = sixteens(s, end, at);
     line_run(s, end, i)
+}
+
+// Takes eight bytes or more. Answers whether all are of a line: eight at a time, and the last eight, some of them a second time.
+pub fn whole_line(s: &[u8]) -> bool
+    requires { ⌜ 8 ≤ length (now s) ⌝ }
+    ensures { λ r. ⌜ r ≡ textOk line (now (s .entry)) ⌝ }
+{
+    let last = s.len() - 8;
+    let mut i: usize = 0;
+    while i < last {
+        if eight(s, i) {
+            i += 8;
+        } else {
+            return false;
+        }
+    }
+    eight(s, last)
 }
 
 // The first place whose byte is below 20, or the end: eight bytes at a time.

@@ -4,17 +4,31 @@ use values::text::Rule;
 ghost use mathlib.Core.Path.{_≡_};
 ghost use mathlib.Core.Bool.{true};
 ghost use mathlib.Core.List.{[]};
-ghost use Rattle.meaning.specs.Bytes.{textOk, numberOk, dateOk, dateChecks};
+ghost use Prim.Native.Nat.{_≤_};
+ghost use Rattle.meaning.specs.Bytes.{line, textOk, numberOk, dateOk, dateChecks};
 ghost use Rattle.values.specs.Stages.{ruleOf};
 ghost use Rattle.values.specs.Dates.{reaching};
 
-// "Text: bytes 20 to FF", and in notes line breaks. Answers whether the rule allows all bytes: whether the reader's own run over them
-// comes to their end.
+// "Text: bytes 20 to FF", and in notes line breaks. Answers whether the rule allows all bytes. No place is wanted: of a line of eight bytes or more nothing is
+// looked at byte by byte; for others, whether the reader's own run over them comes to their end.
 pub fn text_ok(bytes: &[u8], rule: Rule) -> bool
     ensures { λ r. ⌜ r ≡ textOk (ruleOf rule) (now (bytes .entry)) ⌝ }
 {
     let end = bytes.len();
+    if is_long_line(rule, end) {
+        return values::text::whole_line(bytes);
+    }
     end <= values::text::run(bytes, end, 0, rule)
+}
+
+// Whether a text of so many bytes is a line of eight or more.
+fn is_long_line(rule: Rule, length: usize) -> bool
+    ensures { λ r. ⌜ (r ≡ true → (ruleOf rule ≡ line) × (8 ≤ length)) ⌝ }
+{
+    match rule {
+        Rule::Line => 8 <= length,
+        Rule::Note => false,
+    }
 }
 
 // Answers whether the bytes are a number: whether the reader's own stage takes all of them.
