@@ -178,7 +178,7 @@ fn line_run(s: &[u8], end: usize, at: usize) -> usize
     ensures { λ r. ⌜ LineRun (now (s .entry)) end at r ⌝ }
 {
     let mut i = at;
-    while 8 <= end - i {
+    while i + 8 <= end {
         let below = marks(eight_bytes(s, i));
         if below == 0 {
             i += 8;

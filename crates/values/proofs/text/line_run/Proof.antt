@@ -18,8 +18,8 @@ abbrev μ-loop : tie.MeasureT-loop
 loop-holds : tie.Need-loop-holds Inv-loop μ-loop
 loop-holds c = skipped-none (c .before .args .s .now) (c .before .args .end) (c .before .args .at) (c .before .pre .before)
 
-sub-loop : tie.Need-sub-loop Inv-loop μ-loop
-sub-loop c = c .loop .inv line .before
+add-loop : tie.Need-add-loop Inv-loop μ-loop
+add-loop c = omega (arith, c .loop .inv line .before, c .before .before .pre .whole, c .before .before .good .0 .1)
 
 eight-bytes-requires : tie.Need-eight-bytes-requires Inv-loop μ-loop
 eight-bytes-requires c κs = omega (arith, c .before .before .before .pre .whole)
@@ -72,7 +72,7 @@ line-run-spec =
     Inv-loop
     μ-loop
     loop-holds
-    sub-loop
+    add-loop
     eight-bytes-requires
     marks-requires
     add-i
