@@ -9,11 +9,8 @@ use lib.ListN.{length, getD}
 use borrow.Author.Tests.{ltb-true, ltb-false}
 use Rattle.meaning.specs.Bytes.{line, textByte, textOk}
 use Rattle.laws.specs.Logic.{both-hold}
-use Rattle.values.specs.Stages.{textRun}
-
--- the first n bytes are each of a line
-abbrev pub Each : List ℕ → ℕ → Type 0
-Each s n = (j : ℕ) → j < n → textByte line (getD s j 0) ≡ true
+use Rattle.values.specs.Stages.{textRun, Each}
+use Rattle.values.proofs.Texts.{is-text, no-text}
 
 pub each-none : (s : List ℕ) → Each s 0
 each-none s j h = absurd (omega arith)
@@ -62,10 +59,21 @@ some-not s at h q = by (textOk line s) refl
     by false r = refl
     by true r = let x : true ≡ false = sym (ok-run s at h r) ∙ q in sym x
 
--- the last eight decide, where all before them are of a line
-pub last-decides : (s : List ℕ) (i : ℕ) {last : ℕ} {z : Bool} → last + 8 ≡ length s → last ≤ i → Each s i → z ≡ textRun line s last 7 → z ≡ textOk line s
-last-decides s i {last} {z} l h e q = by (textRun line s last 7) refl
+-- one more
+pub each-next : (s : List ℕ) (i : ℕ) → Each s i → 32 ≤ getD s i 0 → Each s (i + 1)
+each-next s i e h j k = by (ltb j i) refl
   where
-    by : (r : Bool) → textRun line s last 7 ≡ r → z ≡ textOk line s
-    by true r = q ∙ r ∙ sym (each-ok s (subst (Each s) l (each-on s last (λ j k. e j (omega arith)) r)))
-    by false r = q ∙ r ∙ some-not s last (omega arith) r
+    by : (z : Bool) → ltb j i ≡ z → textByte line (getD s j 0) ≡ true
+    by true r = e j (ltb-true j i r)
+    by false r = let m = ltb-false j i r in let q : i ≡ j = omega arith in subst (λ (x : ℕ). textByte line (getD s x 0) ≡ true) q (is-text (getD s i 0) h)
+
+-- one that is not
+pub one-not : (s : List ℕ) (i : ℕ) → i < length s → getD s i 0 < 32 → false ≡ textOk line s
+one-not s i h b = by (textOk line s) refl
+  where
+    by : (z : Bool) → textOk line s ≡ z → false ≡ z
+    by false r = refl
+    by true r = sym (no-text (getD s i 0) b) ∙ ok-each s r i h
+
+pub all-ok : (s : List ℕ) (i : ℕ) → length s ≤ i → Each s i → true ≡ textOk line s
+all-ok s i h e = sym (each-ok s (λ j k. e j (omega arith)))

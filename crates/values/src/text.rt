@@ -11,7 +11,7 @@ ghost use Prim.Native.Nat.{ℕ, _+_, _-_, _≤_, _<_};
 ghost use lib.ListN.{length, getD};
 ghost use Rattle.meaning.specs.Bytes.{line, note, isBreak, textByte, takeText, textOk};
 ghost use Rattle.laws.specs.From.{from};
-ghost use Rattle.values.specs.Stages.{Inside, Valued, ruleOf, Skipped, Run, LineRun, textRun};
+ghost use Rattle.values.specs.Stages.{Inside, Valued, ruleOf, Skipped, Run, LineRun, textRun, Each};
 
 // What a text is for: a line, or a note, which may have line breaks.
 pub enum Rule {
@@ -155,21 +155,36 @@ fn long_line(s: &[u8], end: usize, at: usize) -> usize
     line_run(s, end, i)
 }
 
-// Takes eight bytes or more. Answers whether all are of a line: eight at a time, and the last eight, some of them a second time.
-pub fn whole_line(s: &[u8]) -> bool
-    requires { ⌜ 8 ≤ length (now s) ⌝ }
+// Whether all bytes are of a line: eight at a time, and what is left byte by byte. No place is wanted, so none is looked for.
+pub fn all_line(s: &[u8]) -> bool
     ensures { λ r. ⌜ r ≡ textOk line (now (s .entry)) ⌝ }
 {
-    let last = s.len() - 8;
+    let end = s.len();
     let mut i: usize = 0;
-    while i < last {
+    while 8 <= end - i {
         if eight(s, i) {
             i += 8;
         } else {
             return false;
         }
     }
-    eight(s, last)
+    rest_of_line(s, i)
+}
+
+// Takes bytes of which those before `at` are of a line. Answers whether the others are too.
+fn rest_of_line(s: &[u8], at: usize) -> bool
+    requires { ⌜ (at ≤ length (now s)) × Each (now s) at ⌝ }
+    ensures { λ r. ⌜ r ≡ textOk line (now (s .entry)) ⌝ }
+{
+    let end = s.len();
+    let mut i = at;
+    while i < end {
+        if s[i] < FIRST_TEXT {
+            return false;
+        }
+        i += 1;
+    }
+    true
 }
 
 // The first place whose byte is below 20, or the end: eight bytes at a time.

@@ -4,30 +4,21 @@ use values::text::Rule;
 ghost use mathlib.Core.Path.{_≡_};
 ghost use mathlib.Core.Bool.{true};
 ghost use mathlib.Core.List.{[]};
-ghost use Prim.Native.Nat.{_≤_};
-ghost use Rattle.meaning.specs.Bytes.{line, textOk, numberOk, dateOk, dateChecks};
+ghost use Rattle.meaning.specs.Bytes.{textOk, numberOk, dateOk, dateChecks};
 ghost use Rattle.values.specs.Stages.{ruleOf};
 ghost use Rattle.values.specs.Dates.{reaching};
 
-// "Text: bytes 20 to FF", and in notes line breaks. Answers whether the rule allows all bytes. No place is wanted: of a line of eight bytes or more nothing is
-// looked at byte by byte; for others, whether the reader's own run over them comes to their end.
+// "Text: bytes 20 to FF", and in notes line breaks. Answers whether the rule allows all bytes; of a note, whether the reader's own run over them comes to
+// their end.
 pub fn text_ok(bytes: &[u8], rule: Rule) -> bool
     ensures { λ r. ⌜ r ≡ textOk (ruleOf rule) (now (bytes .entry)) ⌝ }
 {
-    let end = bytes.len();
-    if is_long_line(rule, end) {
-        return values::text::whole_line(bytes);
-    }
-    end <= values::text::run(bytes, end, 0, rule)
-}
-
-// Whether a text of so many bytes is a line of eight or more.
-fn is_long_line(rule: Rule, length: usize) -> bool
-    ensures { λ r. ⌜ (r ≡ true → (ruleOf rule ≡ line) × (8 ≤ length)) ⌝ }
-{
     match rule {
-        Rule::Line => 8 <= length,
-        Rule::Note => false,
+        Rule::Line => values::text::all_line(bytes),
+        Rule::Note => {
+            let end = bytes.len();
+            end <= values::text::run(bytes, end, 0, rule)
+        }
     }
 }
 
