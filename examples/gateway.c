@@ -12,7 +12,7 @@
    encoding, if it has one, and how many rows were looked at for it. Then the bytes of the header and of the payload. Fields are
    parted by tabs, which no name and no address holds.
    Status: 0 if all went well; 1 for a header that is refused; 2 for wrong use, a file that cannot be read, no memory. */
-#include "gamulisyan.h"
+#include "gamulisyan_names.h"
 
 #include <stdio.h>
 #include <stdlib.h>
@@ -158,23 +158,10 @@ static void print_receivers(uint32_t edition, struct bytes input, const uint32_t
 /* From the envelope's word alone: no row is looked at. */
 static void print_word(uint32_t word)
 {
-    static const char *const names[] = {
-        [GAMULISYAN_PARAMETER_OWN] = "own",
-        [GAMULISYAN_PARAMETER_TO] = "to",
-        [GAMULISYAN_PARAMETER_FROM] = "from",
-        [GAMULISYAN_PARAMETER_REPRESENTATION] = "representation",
-        [GAMULISYAN_PARAMETER_COMMENTS] = "comments",
-        [GAMULISYAN_PARAMETER_PAYLOAD_LENGTH] = "payload length",
-        [GAMULISYAN_PARAMETER_PAYLOAD_ENCODING] = "payload encoding",
-        [GAMULISYAN_PARAMETER_ENCRYPTED] = "encrypted",
-        [GAMULISYAN_PARAMETER_RECEIVER] = "intended receiver",
-        [GAMULISYAN_PARAMETER_RECEIVED] = "received",
-        [GAMULISYAN_PARAMETER_BEHAVIOUR] = "transport behaviour",
-    };
     printf("has %u", (unsigned)gamulisyan_ones(word));
-    for (unsigned code = 0; code < sizeof names / sizeof *names; code++)
+    for (uint32_t code = GAMULISYAN_PARAMETER_OWN; code <= GAMULISYAN_PARAMETER_BEHAVIOUR; code++)
         if (word >> code & 1)
-            printf("\t%s", names[code]);
+            printf("\t%s", gamulisyan_parameter_name(code));
     putchar('\n');
 }
 

@@ -2,6 +2,32 @@
    Documents 01 and 02 rule every answer. The caller lends all memory; a pointer with length 0 may be null.
    A refused call changes nothing lent; an accepted one only the bytes or rows that it reports, and the words of its envelopes. What a call may change must not
    overlap what it reads. */
+
+/* Example: whom a message is for. gamulisyan_names.h has the texts.
+
+       enum { ROOM = 64, WIDE = GAMULISYAN_ROW_NUMBERS };
+       uint32_t rows[ROOM * WIDE], words[GAMULISYAN_WORDS];
+       struct gamulisyan_answer read = gamulisyan_read(GAMULISYAN_EDITION_D, input, length, rows, ROOM * WIDE, words, GAMULISYAN_WORDS);
+       if (read.answer != GAMULISYAN_ACCEPTED)
+           return printf("%s, at %zu\n", gamulisyan_answer_text(read.answer), read.place);
+       size_t to = gamulisyan_lookup(rows, read.rows * WIDE, words, GAMULISYAN_WORDS, GAMULISYAN_PARAMETER_TO).place;
+       size_t end = to < read.rows ? rows[to * WIDE + 4] : 0;
+       for (size_t agent = to + 1; agent < end; agent = rows[agent * WIDE + 4])
+           printf("%.*s\n", (int)rows[agent * WIDE + 3], (const char *)input + rows[agent * WIDE + 2]);
+       return 0;
+
+   Threads: there is no state, and no memory but what is lent; any number of calls may run at once.
+   Stack: at most 1,888 bytes were measured, in gamulisyan_relay at eight levels of resolvers; lend 4,096. docs/BENCHMARK.md has more.
+   Needs: an x86-64 processor with SSE2, which all have, and memcpy. No other function, no file, no allocation, no thread-local memory.
+   Size: 39 KB of code and constants; linked with -Wl,--gc-sections, 13 KB for gamulisyan_read alone and 32 KB with gamulisyan_write.
+   Memory: a header made to hurt has a row for nearly each of its bytes, so 20 bytes of rows for a byte of input: for the longest
+   header, 16 envelopes of 1,048,576 bytes, 320 MiB. Nothing is written behind the rows lent. Lend what honest messages need, say 256
+   rows; after 14 `rows` says how many are needed, and a gateway that will not lend so many refuses the message.
+   Padding: in the structs below a uint32_t in front of a size_t has four bytes behind it, and gamulisyan_sorted ends with four; what
+   they hold is not said. Compare fields, and not structs with memcmp.
+   Releases: rows and calls change between versions. Nothing in a linker sees that header and archive are of different ones, and
+   such a program reads wrong numbers. With GAMULISYAN_CHECK_AT_START defined before this file is included, in one file of a
+   program, it stops before main instead (below, at gamulisyan_version); `install` and gamulisyan.pc of a release keep the two together. */
 #ifndef GAMULISYAN_H
 #define GAMULISYAN_H
 
@@ -168,14 +194,16 @@ enum { GAMULISYAN_WORDS = 16 };
    header at the front of the input. Answers 0, the place of the payload's first byte and the rows read; or a refusal and its place, and only
    for 14, which is also given where fewer words are lent, the rows needed, to be lent by a second call. Leaves the rows read at the front of
    `rows`, their starts being places in the input, and the word of each envelope at the front of `words`, in the order of the envelopes, with
-   all words behind them as they were; and after a refusal nothing. */
+   all words behind them as they were; and after a refusal nothing.
+   Place: for 0 and 14 the payload's first byte, so the header's length; for 1 it is 0; for 2 the input's length; for any other refusal the byte
+   of the input at fault, for 6 and 13 the one at the declared end and the one behind the closing 01. */
 struct gamulisyan_answer gamulisyan_read(uint32_t edition, const uint8_t *input, size_t length, uint32_t *rows, size_t numbers, uint32_t *words,
                                          size_t word_count);
 
 /* The same, for headers whose sender writes the length of a byte block in more bytes than it needs: such a length is taken, and 11 is never
    the answer. Where gamulisyan_read does not answer 11, this gives the same answer, rows and words; where it does, this accepts the header or
    refuses it for a fault behind that place. Written from its rows, a header has the shortest lengths, which gamulisyan_read takes. An
-   envelope's own length is held as strictly as there. */
+   envelope's own length is held as strictly as there. Place: as there. */
 struct gamulisyan_answer gamulisyan_read_tolerant(uint32_t edition, const uint8_t *input, size_t length, uint32_t *rows, size_t numbers,
                                                   uint32_t *words, size_t word_count);
 
@@ -186,13 +214,14 @@ uint32_t gamulisyan_ones(uint32_t word);
 /* Takes an input without a label, and rows and words lent as gamulisyan_read does. Answers as gamulisyan_read does under an edition that
    allows the bytes, and beside it which do; where both do, both give the same answer, rows and words. Refuses what neither allows with
    edition 2's answer and place, and with 14 as gamulisyan_read does. Leaves rows and words as gamulisyan_read does, and after a refusal
-   nothing. */
+   nothing. Place: as there. */
 struct gamulisyan_sorted gamulisyan_which(const uint8_t *input, size_t length, uint32_t *rows, size_t numbers, uint32_t *words, size_t word_count);
 
 /* Takes rows, `numbers` again counting uint32_t, the pool whose bytes they view (for rows just read: their input) and an output
    lent. Answers 0, the bytes written and the rows; or a refusal, checked in this order: 1; 15 at the row that is wrong, and only where no row is wrong otherwise at the lowest with
    a wrong skip number; 5 at the row of the envelope; 16 at the bytes needed, to be lent by a second call. Leaves the header at the front of `output`, and
-   after a refusal nothing. */
+   after a refusal nothing.
+   Place: for 0 the bytes written; for 1 it is 0; for 15 and 5 the number of a row, from 0; for 16 the bytes needed. */
 struct gamulisyan_answer gamulisyan_write(uint32_t edition, const uint32_t *rows, size_t numbers, const uint8_t *pool, size_t pool_length,
                                           uint8_t *output, size_t length);
 
@@ -251,8 +280,29 @@ struct gamulisyan_coded gamulisyan_date_encode(uint32_t kind, struct gamulisyan_
    and archive are of different releases. Changes no memory. */
 uint32_t gamulisyan_version(void);
 
+/* Answers whether this header and the archive that is linked are of one release. Asks gamulisyan_version, which every release has. */
+static inline int gamulisyan_same_release(void)
+{
+    return gamulisyan_version() == GAMULISYAN_VERSION;
+}
+
 #ifdef __cplusplus
 }
 #endif
 
+#endif
+
+/* Before main: a program whose header and archive are of different releases says so and stops. For GCC and Clang. */
+#if defined GAMULISYAN_CHECK_AT_START && !defined GAMULISYAN_CHECKED_AT_START
+#define GAMULISYAN_CHECKED_AT_START
+#include <stdio.h>
+#include <stdlib.h>
+__attribute__((constructor)) static void gamulisyan_check_at_start(void)
+{
+    if (gamulisyan_same_release())
+        return;
+    fprintf(stderr, "gamulisyan: the header is of version %lu, the archive of %lu\n", (unsigned long)GAMULISYAN_VERSION,
+            (unsigned long)gamulisyan_version());
+    abort();
+}
 #endif

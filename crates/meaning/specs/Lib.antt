@@ -32,4 +32,6 @@ pub mod Asking
 pub mod Lookings
 pub mod Sortings
 pub mod Relaying
+pub mod Strange
+pub mod Further
 pub mod Bounds

@@ -1,0 +1,115 @@
+-- What a wrong definition could hide between the bounds: bytes inside a range, faults in later envelopes and in the long form, numbers left over, lent memory and the payload's
+-- part after each refusal, the coders' kinds and order of refusals, levels far from the one expected.
+use Prim.Native.Nat.{ℕ, zero, suc, _+_}
+use mathlib.Core.List.{List, [], _∷_, _++_}
+use mathlib.Core.Bool.{Bool, _&&_, _||_}
+use lib.Dec.{eqb, leb}
+use lib.ListN.{length, take, drop, replicate}
+use Rattle.meaning.specs.Basics.{pick, every}
+use Rattle.meaning.specs.Memory.{row, readAnswer, readRows, readWords}
+use Rattle.meaning.specs.Payload.{payloadStart, payloadEnd, payloadBytes}
+use Rattle.meaning.specs.Plain.{Date, numberEncoded, dateDecoded, dateEncoded}
+use Rattle.meaning.specs.Cases.{same, joined, hex, aDate, baseWith, baseRows, replyIs, Reading, refuses, reads, Writing, unwriting, unwritingPart, writes, outcomeIs, Number, number, decodes, encodes, DateRead, datesRead}
+use Rattle.meaning.specs.Accepting.{anExtension}
+
+abbrev aBase : List ℕ
+aBase = baseWith 0x0f 0x20 (hex 0x1_01)
+
+-- Values
+
+-- each digit in each half of a byte, in numbers of ten digits; and ten and eleven that are too large
+abbrev numbers : List Number
+numbers =
+    number (hex 0x1_23_45_67_89_a1_00) 0 6 1234567890 ∷ number (hex 0x1_43_21_a9_87_65_00) 0 6 3210987654 ∷ number (hex 0x1_a9_87_65_43_20) 0 5 987654321 ∷
+    number (hex 0x1_aa_aa_aa_aa_aa_00) 10 4 0 ∷ number (hex 0x1_21_11_11_11_11_10) 10 5 0 ∷ []
+
+-- the designator is a letter and nothing else: every byte
+abbrev isLetter : ℕ → Bool
+isLetter b = leb 65 b && leb b 90 || leb 97 b && leb b 122
+
+abbrev bytesFrom : ℕ → ℕ → List ℕ
+bytesFrom b zero = []
+bytesFrom b (suc n) = b ∷ bytesFrom (suc b) n
+
+abbrev designates : ℕ → Bool
+designates b = outcomeIs (pick (isLetter b) 0 9) (pick (isLetter b) 10 9) (dateDecoded 5 (aDate ++ (b ∷ [])))
+
+abbrev decoding : ℕ → List ℕ → ℕ → ℕ → List ℕ → DateRead
+decoding kind s answer place xs = record { kind = kind; bytes = s; answer = answer; place = place; components = xs }
+
+-- digits in each half of a date's bytes; kinds that are no date's, with a date's bytes and with none
+abbrev dates : List DateRead
+dates =
+    decoding 6 (hex 0x1_12_34_56_78_9a_21_43_65_80) 0 9 (123 ∷ 45 ∷ 67 ∷ 89 ∷ 10 ∷ 32 ∷ 547 ∷ 0 ∷ []) ∷ decoding 7 (hex 0x1_a9_87_65_43_21_aa_19_28_70) 0 9 (9876 ∷ 54 ∷ 32 ∷ 10 ∷ 99 ∷ 8 ∷ 176 ∷ 0 ∷ []) ∷
+    decoding 0 aDate 9 0 (replicate 8 0) ∷ decoding 4 [] 9 0 (replicate 8 0) ∷ decoding 8 (aDate ++ hex 0x1_5a) 9 0 (replicate 8 0) ∷ decoding 0 [] 9 0 (replicate 8 0) ∷ []
+
+abbrev aPlainDate : ℕ → Date
+aPlainDate month = record { year = 2000; month = month; day = 8; hour = 4; minute = 26; second = 51; millisecond = 481; designator = 0 }
+
+-- range before room, a kind before both
+abbrev encoders : Bool
+encoders =
+    encodes 1234567890 (hex 0x1_23_45_67_89_a1_00) && encodes 3210987654 (hex 0x1_43_21_a9_87_65_00) && outcomeIs 10 0 (numberEncoded 4294967296 0) && outcomeIs 10 0 (numberEncoded 18446744073709551615 6) &&
+    outcomeIs 9 0 (dateEncoded 5 (aPlainDate 13) 0) && outcomeIs 9 0 (dateEncoded 6 (aPlainDate 100) 0) && outcomeIs 16 9 (dateEncoded 5 (aPlainDate 12) 0) &&
+    outcomeIs 9 0 (dateEncoded 0 (aPlainDate 5) 9) && outcomeIs 9 0 (dateEncoded 4 (aPlainDate 5) 0) && outcomeIs 9 0 (dateEncoded 8 (aPlainDate 5) 99)
+
+-- Faults in an extension, and in the second and third envelope: the same number, so many bytes later
+
+abbrev later : List ℕ → ℕ → ℕ → List Reading
+later s refusal at =
+    refuses 1 s refusal at ∷ refuses 2 (anExtension ++ s) refusal (17 + at) ∷ refuses 1 (anExtension ++ (anExtension ++ s)) refusal (34 + at) ∷ []
+
+-- 65,540 bytes, the least that the long form has
+abbrev longForm : ℕ → ℕ → List ℕ
+longForm identifier first = identifier ∷ 0 ∷ 0 ∷ 0 ∷ 1 ∷ 0 ∷ 4 ∷ first ∷ replicate 65532 0x77
+
+abbrev faults : List Reading
+faults =
+    joined (
+    -- identifier and length; a date's byte, a parameter's code, a text's byte; closed early, needed at the end; the input's end
+    later (hex 0x1_fb) 3 0 ∷ later (hex 0x1_fd_00_02) 4 1 ∷ later (hex 0x1_fe_00_00_00_01_00_03) 4 1 ∷ later (hex 0x1_fd_00_00_00_10_00_01) 5 1 ∷
+    later (take 8 anExtension ++ (0x06 ∷ drop 9 anExtension)) 9 8 ∷ later (hex 0x1_fd_00_12_61_00_20 ++ (aDate ++ hex 0x1_01_0c_01)) 7 16 ∷ later (hex 0x1_fd_00_05_61_1f) 8 4 ∷
+    later (hex 0x1_fd_00_12_61_00_20 ++ (aDate ++ hex 0x1_01_01_77)) 13 17 ∷ later (hex 0x1_fd_00_10_61_00_20 ++ (aDate ++ hex 0x1_01)) 6 16 ∷ later (hex 0x1_fe_00_10_12) 2 4 ∷
+    (refuses 1 (longForm 0xfe 0x13) 7 7 ∷ refuses 2 (longForm 0xfd 0x1f) 8 7 ∷ refuses 2 (anExtension ++ longForm 0xfe 0x13) 7 24 ∷ []) ∷ [])
+
+-- Lent memory and the payload's part after each refusal: nothing changes, and the part is the empty one at the front
+
+abbrev nested : ℕ → List ℕ
+nested zero = 2 ∷ []
+nested (suc n) = hex 0x1_02_61_00_03 ++ nested n
+
+abbrev refusals : List Reading
+refusals =
+    refuses 3 aBase 1 0 ∷ refuses 1 [] 2 0 ∷ refuses 1 (hex 0x1_fc) 3 0 ∷ refuses 2 (hex 0x1_fe_00_02) 4 1 ∷ refuses 1 (hex 0x1_fe_00_00_00_10_00_01) 5 1 ∷ refuses 2 (hex 0x1_fe_00_03) 6 3 ∷
+    refuses 1 (baseWith 0x10 0x20 (hex 0x1_0c_01)) 7 14 ∷ refuses 2 (baseWith 0x11 0x20 (hex 0x1_05_1f_01)) 8 15 ∷ refuses 1 (baseWith 0x0f 0x1f (hex 0x1_01)) 9 4 ∷
+    refuses 2 (baseWith 0x11 0x20 (hex 0x1_06_12_01)) 10 15 ∷ refuses 1 (baseWith 0x13 0x20 (hex 0x1_0b_17_00_00_01)) 11 15 ∷ refuses 2 (baseWith 0x31 0x20 (2 ∷ (nested 8 ++ hex 0x1_01))) 12 47 ∷
+    refuses 2 (baseWith 0x10 0x20 (hex 0x1_01_77)) 13 15 ∷ []
+
+abbrev lent : ℕ → List ℕ
+lent n = replicate n 99
+
+abbrev keeps : Reading → Bool
+keeps c =
+    replyIs (c .answer) (c .place) 0 (readAnswer (c .edition) (c .input) (lent 40) (lent 17)) && same (readRows (c .edition) (c .input) (lent 40) (lent 17)) (lent 40) &&
+    same (readWords (c .edition) (c .input) (lent 40) (lent 17)) (lent 17) && eqb (payloadStart (c .edition) (c .input)) 0 && eqb (payloadEnd (c .edition) (c .input)) 0 && same (payloadBytes (c .edition) (c .input)) []
+
+-- Tables: every count of numbers left over; levels far from the one expected
+
+abbrev leftOver : ℕ → Writing
+leftOver n = unwritingPart 1 (baseRows 5 9 []) (replicate n 0) aBase 99 15 3
+
+abbrev nothingButOver : ℕ → Writing
+nothingButOver n = unwritingPart 2 [] (replicate n 2) aBase 99 15 0
+
+abbrev farLevel : ℕ → List Writing
+farLevel n =
+    unwriting 1 (row 2 n 0 0 ∷ []) aBase 99 15 0 ∷ unwriting 2 (baseRows 5 9 (row 22 n 3 1 ∷ [])) aBase 99 15 3 ∷ unwriting 1 (baseRows 5 9 (row 12 0 0 0 ∷ row 15 (suc n) 3 1 ∷ [])) aBase 99 15 4 ∷
+    unwriting 2 (baseRows 5 9 (row 13 n 0 0 ∷ [])) aBase 99 15 3 ∷ []
+
+abbrev tables : List Writing
+tables =
+    joined ((leftOver 1 ∷ leftOver 2 ∷ leftOver 3 ∷ leftOver 4 ∷ nothingButOver 1 ∷ nothingButOver 2 ∷ nothingButOver 3 ∷ nothingButOver 4 ∷ []) ∷ farLevel 1 ∷ farLevel 7 ∷ farLevel 100 ∷ farLevel 4294967294 ∷ [])
+
+abbrev pub further : Bool
+further =
+    every decodes numbers && every designates (bytesFrom 0 256) && every datesRead dates && encoders && every reads faults && every reads refusals && every keeps refusals && every writes tables
