@@ -7,4 +7,3 @@ pub mod Days
 pub mod Dates
 pub mod Blocks
 pub mod Marks
-pub mod Whole

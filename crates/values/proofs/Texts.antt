@@ -4,7 +4,7 @@ use mathlib.Core.List.{List}
 use mathlib.Core.Bool.{Bool, true, false, _&&_, and-assoc}
 use mathlib.Core.Path.{_≡_, refl, ap, sym, _∙_, subst}
 use native.Mathlib.Omega.{arith}
-use borrow.Author.Tests.{ne-eqb, le-leb, lt-leb}
+use borrow.Author.Tests.{ne-eqb, eqb-true, eqb-false, le-leb, lt-leb}
 use lib.Dec.{T, eqb}
 use lib.ListN.{length, getD}
 use Rattle.meaning.specs.Bytes.{Taken, took, failed, Rule, line, note, isBreak, textByte, takeText}
@@ -161,6 +161,10 @@ pub record Passed (s : List ℕ) (at i : ℕ) : Type 0 where
   pub few : many ≤ 7
   pub all : LineBefore s at many
 
+pub passed-none : (s : List ℕ) (at : ℕ) → Passed s at at
+unfolding LineBefore
+passed-none s at = record { many = 0; is = omega arith; few = omega arith; all = tt }
+
 module _ (s : List ℕ) (at : ℕ) where
   line-more : (n : ℕ) → LineBefore s at n → 32 ≤ getD s (at + n) 0 → textRun line s at n ≡ true
   unfolding LineBefore textRun
@@ -173,7 +177,19 @@ module _ (s : List ℕ) (at : ℕ) where
   line-before zero h = tt
   line-before (suc n) h = line-more n (line-before n (λ j k. h j (omega arith))) (h n (omega arith))
 
--- where the next byte is of none, the line's run stops
+  -- of eight bytes that are not all of a line, another is passed: it was not the last
+  pub passed-on : (i : ℕ) → textRun line s at 7 ≡ false → Passed s at i → 32 ≤ getD s i 0 → Passed s at (i + 1)
+  unfolding LineBefore
+  passed-on i stopped p b = by (eqb (p .many) 7) refl
+    where
+      more : textRun line s at (p .many) ≡ true
+      more = line-more (p .many) (p .all) (subst (λ (x : ℕ). 32 ≤ getD s x 0) (p .is) b)
+
+      by : (z : Bool) → eqb (p .many) 7 ≡ z → Passed s at (i + 1)
+      by true h = let z = subst (λ (n : ℕ). textRun line s at n ≡ true) (eqb-true (p .many) 7 h) more in let q : true ≡ false = sym z ∙ stopped in let y : _≡_ {A = ℕ} 0 1 = cc q in absurd (omega arith)
+      by false h = record { many = suc (p .many); is = omega (arith, p .is); few = omega (arith, p .few, eqb-false (p .many) 7 h); all = more }
+
+-- .. and where none is, the line's run stops
 pub passed-stops : (s : List ℕ) (at i end : ℕ) → Passed s at i → getD s i 0 < 32 → at + 8 ≤ end → end ≤ length s → LineRun s end at i
 unfolding LineBefore
 passed-stops s at i end p b h l = record { skipped = λ rule. subst (λ (x : ℕ). Skipped rule s end at x) (sym (p .is)) (behind (p .many) (p .few) (p .all) rule); stops = λ k. no-text (getD s i 0) b }

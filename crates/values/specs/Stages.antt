@@ -2,7 +2,7 @@
 -- A stage speaks of places in a slice, `meaning` of the bytes that are left; `from s at end` ties the two.
 use Prim.Native.Nat.{ℕ, zero, suc, _+_, _-_, _≤_, _<_}
 use mathlib.Core.List.{List}
-use mathlib.Core.Bool.{Bool, true, false, _&&_}
+use mathlib.Core.Bool.{Bool, false, _&&_}
 use lib.Dec.{eqb}
 use mathlib.Core.Path.{_≡_}
 use lib.ListN.{length, getD}
@@ -87,7 +87,3 @@ pub record LineRun (s : List ℕ) (end at place : ℕ) : Type 0 where
 unfoldable pub textRun : Rule → List ℕ → ℕ → ℕ → Bool
 textRun rule s at zero = textByte rule (getD s at 0)
 textRun rule s at (suc n) = textRun rule s at n && textByte rule (getD s (at + suc n) 0)
-
--- the first n bytes are each of a line
-abbrev pub Each : List ℕ → ℕ → Type 0
-Each s n = (j : ℕ) → j < n → textByte line (getD s j 0) ≡ true

@@ -9,9 +9,9 @@ ghost use mathlib.Core.Path.{_≡_};
 ghost use mathlib.Core.Bool.{true, false};
 ghost use Prim.Native.Nat.{ℕ, _+_, _-_, _≤_, _<_};
 ghost use lib.ListN.{length, getD};
-ghost use Rattle.meaning.specs.Bytes.{line, note, isBreak, textByte, takeText, textOk};
+ghost use Rattle.meaning.specs.Bytes.{line, note, isBreak, textByte, takeText};
 ghost use Rattle.laws.specs.From.{from};
-ghost use Rattle.values.specs.Stages.{Inside, Valued, ruleOf, Skipped, Run, LineRun, textRun, Each};
+ghost use Rattle.values.specs.Stages.{Inside, Valued, ruleOf, Skipped, Run, LineRun, textRun};
 
 // What a text is for: a line, or a note, which may have line breaks.
 pub enum Rule {
@@ -67,7 +67,7 @@ fn ended(s: &[u8], end: usize, at: usize, i: usize, kind: u32) -> Value
     }
 }
 
-// As `run`, but an empty note is found without a call.
+// As `run`, for a reading, in which most texts stop before the end: an empty note is found without a call, and a line's stop by marks.
 fn stop(s: &[u8], end: usize, at: usize, rule: Rule) -> usize
     requires { ⌜ Inside (now s) end at ⌝ }
     ensures { λ r. ⌜ Run (ruleOf rule) (now (s .entry)) end at r ⌝ }
@@ -75,7 +75,10 @@ fn stop(s: &[u8], end: usize, at: usize, rule: Rule) -> usize
     if empty_note(s, end, at, rule) {
         return at;
     }
-    run(s, end, at, rule)
+    match rule {
+        Rule::Line => line_stop(s, end, at),
+        Rule::Note => note_run(s, end, at),
+    }
 }
 
 // Whether the text is a note of no byte. An empty line is not looked for: its run is short.
@@ -155,40 +158,8 @@ fn long_line(s: &[u8], end: usize, at: usize) -> usize
     line_run(s, end, i)
 }
 
-// Whether all bytes are of a line: eight at a time, and what is left byte by byte. No place is wanted, so none is looked for.
-pub fn all_line(s: &[u8]) -> bool
-    ensures { λ r. ⌜ r ≡ textOk line (now (s .entry)) ⌝ }
-{
-    let end = s.len();
-    let mut i: usize = 0;
-    while 8 <= end - i {
-        if eight(s, i) {
-            i += 8;
-        } else {
-            return false;
-        }
-    }
-    rest_of_line(s, i)
-}
-
-// Takes bytes of which those before `at` are of a line. Answers whether the others are too.
-fn rest_of_line(s: &[u8], at: usize) -> bool
-    requires { ⌜ (at ≤ length (now s)) × Each (now s) at ⌝ }
-    ensures { λ r. ⌜ r ≡ textOk line (now (s .entry)) ⌝ }
-{
-    let end = s.len();
-    let mut i = at;
-    while i < end {
-        if s[i] < FIRST_TEXT {
-            return false;
-        }
-        i += 1;
-    }
-    true
-}
-
-// The first place whose byte is below 20, or the end: eight bytes at a time.
-fn line_run(s: &[u8], end: usize, at: usize) -> usize
+// The first place whose byte is below 20, or the end, where it is likely to stop before that: eight bytes at a time, each with a mark if it is below 20.
+fn line_stop(s: &[u8], end: usize, at: usize) -> usize
     requires { ⌜ Inside (now s) end at ⌝ }
     ensures { λ r. ⌜ LineRun (now (s .entry)) end at r ⌝ }
 {
@@ -202,6 +173,34 @@ fn line_run(s: &[u8], end: usize, at: usize) -> usize
         }
     }
     last_run(s, end, i)
+}
+
+// The same where it is likely to come to the end, as with bytes to be written: eight at a time by one comparison of vectors.
+fn line_run(s: &[u8], end: usize, at: usize) -> usize
+    requires { ⌜ Inside (now s) end at ⌝ }
+    ensures { λ r. ⌜ LineRun (now (s .entry)) end at r ⌝ }
+{
+    let mut i = at;
+    while 8 <= end - i {
+        if eight(s, i) {
+            i += 8;
+        } else {
+            return first_stop(s, i);
+        }
+    }
+    last_run(s, end, i)
+}
+
+// The first byte below 20 of eight that have one: it is there, so nothing else is tested.
+fn first_stop(s: &[u8], at: usize) -> usize
+    requires { ⌜ (at + 8 ≤ length (now s)) × (textRun line (now s) at 7 ≡ false) ⌝ }
+    ensures { λ r. ⌜ ((end : ℕ) → at + 8 ≤ end → end ≤ length (now (s .entry)) → LineRun (now (s .entry)) end at r) ⌝ }
+{
+    let mut i = at;
+    while s[i] >= FIRST_TEXT {
+        i += 1;
+    }
+    i
 }
 
 // The same as `line_run`, byte by byte: of the few that are left before the end.

@@ -8,18 +8,13 @@ ghost use Rattle.meaning.specs.Bytes.{textOk, numberOk, dateOk, dateChecks};
 ghost use Rattle.values.specs.Stages.{ruleOf};
 ghost use Rattle.values.specs.Dates.{reaching};
 
-// "Text: bytes 20 to FF", and in notes line breaks. Answers whether the rule allows all bytes; of a note, whether the reader's own run over them comes to
-// their end.
+// "Text: bytes 20 to FF", and in notes line breaks. Answers whether the rule allows all bytes: whether the reader's own run over them
+// comes to their end.
 pub fn text_ok(bytes: &[u8], rule: Rule) -> bool
     ensures { λ r. ⌜ r ≡ textOk (ruleOf rule) (now (bytes .entry)) ⌝ }
 {
-    match rule {
-        Rule::Line => values::text::all_line(bytes),
-        Rule::Note => {
-            let end = bytes.len();
-            end <= values::text::run(bytes, end, 0, rule)
-        }
-    }
+    let end = bytes.len();
+    end <= values::text::run(bytes, end, 0, rule)
 }
 
 // Answers whether the bytes are a number: whether the reader's own stage takes all of them.

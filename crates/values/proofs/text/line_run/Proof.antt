@@ -1,11 +1,10 @@
 -- `text::line_run`: eight by eight; the invariant is that all before is of a line.
 use Prim.Native.Nat.{_-_}
+use mathlib.Core.Path.{sym, _∙_}
 use native.Mathlib.Omega.{arith}
-use borrow.Author.Needs.{needs}
 use Rattle.meaning.specs.Bytes.{Rule, line}
 use Rattle.values.specs.Stages.{Skipped}
 use Rattle.values.proofs.Texts.{line-skipped, skipped-none, skipped-on, line-run-on}
-use Rattle.values.proofs.Marks.{all-text, run-stops}
 use Rattle.values.proofs.text.line_run.Statement.{statement}
 use Rattle.values.proofs.text.line_run.Tie as tie
 
@@ -18,14 +17,11 @@ abbrev μ-loop : tie.MeasureT-loop
 loop-holds : tie.Need-loop-holds Inv-loop μ-loop
 loop-holds c = skipped-none (c .before .args .s .now) (c .before .args .end) (c .before .args .at) (c .before .pre .before)
 
-add-loop : tie.Need-add-loop Inv-loop μ-loop
-add-loop c = omega (arith, c .loop .inv line .before, c .before .before .pre .whole, c .before .before .good .0 .1)
+sub-loop : tie.Need-sub-loop Inv-loop μ-loop
+sub-loop c = c .loop .inv line .before
 
-eight-bytes-requires : tie.Need-eight-bytes-requires Inv-loop μ-loop
-eight-bytes-requires c κs = omega (arith, c .before .before .before .pre .whole)
-
-marks-requires : tie.Need-marks-requires Inv-loop μ-loop
-marks-requires c κs = search needs
+eight-requires : tie.Need-eight-requires Inv-loop μ-loop
+eight-requires c κs = omega (arith, c .before .before .before .pre .whole)
 
 add-i : tie.Need-add-i Inv-loop μ-loop
 add-i c = omega arith
@@ -35,29 +31,19 @@ loop-less c = omega arith
 
 loop-again : tie.Need-loop-again Inv-loop μ-loop
 loop-again c =
-    let a = c .before .before .before .before .before .before .args in
-    let l = (c .before .before .before .before .loop) in
-    let marked = c .before .marks .ensures (a .s .now) (l .i) (λ i. omega (arith, c .before .before .before .before .before .shared-slice-known .given i)) (c .before .before .eight-bytes .ensures) in
-    λ rule. skipped-on (l .inv rule) (line-skipped (a .s .now) (a .end) (c .before .before .before .before .before .before .pre .whole) (l .i) 7 (omega (arith, c .before .before .before .loop-test .taken, l .inv line .before)) (all-text (a .s .now) (l .i) marked (c .if1 .taken)) rule)
+    let entry = c .before .before .before .before .before in
+    let a = entry .args in
+    let l = c .before .before .before .loop in
+    λ rule. skipped-on (l .inv rule) (line-skipped (a .s .now) (a .end) (entry .pre .whole) (l .i) 7 (omega (arith, c .before .before .loop-test .taken, l .inv line .before)) (sym (c .before .eight .ensures) ∙ c .if1 .taken) rule)
 
-first-mark-requires : tie.Need-first-mark-requires Inv-loop μ-loop
-first-mark-requires c κs = search needs
-
-add-result : tie.Need-add-result Inv-loop μ-loop
-add-result c =
-    let a = c .before .before .before .before .before .before .before .args in
-    let l = (c .before .before .before .before .before .loop) in
-    let marked = c .before .before .marks .ensures (a .s .now) (l .i) (λ i. omega (arith, c .before .before .before .before .before .before .shared-slice-known .given i)) (c .before .before .before .eight-bytes .ensures) in
-    let stops = run-stops (a .s .now) (l .i) (a .end) marked (c .before .if1 .left) (c .first-mark .ensures (a .s .now) (l .i) marked (c .before .if1 .left)) (omega (arith, c .before .before .before .before .loop-test .taken, l .inv line .before)) (c .before .before .before .before .before .before .before .pre .whole) in
-    omega (arith, stops .0, c .before .before .before .before .loop-test .taken, l .inv line .before, c .before .before .before .before .before .before .before .pre .whole)
+first-stop-requires : tie.Need-first-stop-requires Inv-loop μ-loop
+first-stop-requires c κs = (omega (arith, c .before .before .before .before .before .pre .whole, c .before .before .loop-test .taken, c .before .before .before .loop .inv line .before), sym (c .before .eight .ensures) ∙ c .if1 .left)
 
 returns : tie.Need-returns Inv-loop μ-loop
 returns c =
-    let a = c .before .before .before .before .before .before .before .args in
-    let l = (c .before .before .before .before .before .loop) in
-    let marked = c .before .before .marks .ensures (a .s .now) (l .i) (λ i. omega (arith, c .before .before .before .before .before .before .shared-slice-known .given i)) (c .before .before .before .eight-bytes .ensures) in
-    let stops = run-stops (a .s .now) (l .i) (a .end) marked (c .before .if1 .left) (c .first-mark .ensures (a .s .now) (l .i) marked (c .before .if1 .left)) (omega (arith, c .before .before .before .before .loop-test .taken, l .inv line .before)) (c .before .before .before .before .before .before .before .pre .whole) in
-    line-run-on (l .inv) (stops .1)
+    let entry = c .before .before .before .before .before .before in
+    let l = c .before .before .before .before .loop in
+    line-run-on (l .inv) (c .first-stop .ensures (entry .args .end) (omega (arith, c .before .before .before .loop-test .taken, l .inv line .before)) (entry .pre .whole))
 
 last-run-requires : tie.Need-last-run-requires Inv-loop μ-loop
 last-run-requires c κs = record { whole = c .before .before .before .pre .whole; before = c .before .loop .inv line .before }
@@ -72,14 +58,12 @@ line-run-spec =
     Inv-loop
     μ-loop
     loop-holds
-    add-loop
-    eight-bytes-requires
-    marks-requires
+    sub-loop
+    eight-requires
     add-i
     loop-less
     loop-again
-    first-mark-requires
-    add-result
+    first-stop-requires
     returns
     last-run-requires
     returns-2)
