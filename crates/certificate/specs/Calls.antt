@@ -5,8 +5,9 @@ use Prim.Native.Nat.{ℕ, _≤_}
 use mathlib.Core.List.{List, _++_}
 use mathlib.Core.Bool.{Bool, true, false}
 use mathlib.Core.Logic.{_⊎_, inl, inr}
-use mathlib.Core.Path.{_≡_, ap, sym, _∙_}
+use mathlib.Core.Path.{_≡_, refl, ap, sym, _∙_}
 use native.Mathlib.Omega.{arith}
+use borrow.Author.Tests.{leb-true}
 use lib.Dec.{T, leb}
 use lib.ListN.{length, take, drop, take-append-drop}
 use lib.Seq.{length-take-le}
@@ -27,6 +28,15 @@ use Rattle.reader.specs.Promises.{ReadsBy, ReadPromise, PartPromise, PayloadPro
 use Rattle.writer.specs.Promise.{WritePromise}
 use Rattle.certificate.specs.OneAnswer.{one-read}
 use Rattle.certificate.specs.Lent.{firstRows, behindRows, rows-read, rows-behind, bytes-written, accepted-call, fills, refuses, lays, written-call, same-count}
+
+-- a call that answers 0 had room for the rows that it read
+pub had-room : {edition : ℕ} {input before words after words′ : List ℕ} {a : declared.Reply} → ReadPromise edition input before words a after words′ → a .answer ≡ 0 → {place : ℕ} {rows : List Placed} → read edition input ≡ accepted place rows → length rows ≤ roomWith before words
+unfolding answerBy
+had-room {before = before} {words = words} {a = a} p z {place} {rows} is = at (leb (length rows) (roomWith before words)) refl (ap (λ (x : Reply). x .answer) (p .answers ∙ ap (readReply (roomWith before words)) is))
+  where
+    at : (b : Bool) → leb (length rows) (roomWith before words) ≡ b → a .answer ≡ pick b 0 14 → length rows ≤ roomWith before words
+    at true q r = leb-true (length rows) (roomWith before words) q
+    at false q r = absurd (omega arith)
 
 -- 1. "Read then written: the same bytes."
 -- An accepted header's rows, written under the same edition with the input as pool, where the output has room: its bytes up to the payload
@@ -93,7 +103,7 @@ write-read-same-table {edition} {rows} {pool} {output} t p z payload q room =
     same-table p w payload q room (written-then-read edition rows pool (length output) bytes t w payload)
 
 -- 3. "The label can't lie": "A table written under one edition and read under the other is the same table, or is refused with 7 or 9: never a different table."
--- The same if the table is plain; refused if it is not, and then no row and no word that was lent is changed.
+-- The same if the table is plain, where its rows have room; refused if it is not, whatever is lent, and then no row and no word that was lent is changed.
 
 pub record RefusesLabel (before words : List ℕ) (answer : declared.Reply) (after words′ : List ℕ) : Type 0 where
   pub answers : (answer .answer ≡ 7) ⊎ (answer .answer ≡ 9)
@@ -102,9 +112,9 @@ pub record RefusesLabel (before words : List ℕ) (answer : declared.Reply) (aft
   pub carries : words′ ≡ words
 
 pub label-never-lies : (e : Edition) {rows pool output out before words after words′ : List ℕ} {a : declared.Reply} {b : declared.Reply} → T (areBytes pool)
-    → WritePromise (numberOf e) rows pool output a out → a .answer ≡ 0 → (payload : List ℕ) → ReadPromise (numberOf (other e)) (sent a out payload) before words b after words′ → a .rows ≤ roomWith before words
-    → ((plainTable rows pool ≡ true) × SameTable rows pool a (sent a out payload) before b after) ⊎ ((plainTable rows pool ≡ false) × RefusesLabel before words b after words′)
-label-never-lies e {rows} {pool} {output} {out} {before} {words} {after} {words′} {a} {b} t p z payload q room =
+    → WritePromise (numberOf e) rows pool output a out → a .answer ≡ 0 → (payload : List ℕ) → ReadPromise (numberOf (other e)) (sent a out payload) before words b after words′
+    → ((plainTable rows pool ≡ true) × (a .rows ≤ roomWith before words → SameTable rows pool a (sent a out payload) before b after)) ⊎ ((plainTable rows pool ≡ false) × RefusesLabel before words b after words′)
+label-never-lies e {rows} {pool} {output} {out} {before} {words} {after} {words′} {a} {b} t p z payload q =
     let (bytes, w, l) = written-call p z in
     at bytes w (ap (λ (x : List ℕ). x ++ payload) (bytes-written l)) (label-cannot-lie e rows pool (length output) bytes t w payload)
   where
@@ -114,11 +124,38 @@ label-never-lies e {rows} {pool} {output} {out} {before} {words} {after} {words�
 
     at : (bytes : List ℕ) → write (numberOf e) rows pool (length output) ≡ written bytes → sent a out payload ≡ bytes ++ payload
         → ((plainTable rows pool ≡ true) × ReadsSame (numberOf (other e)) bytes payload rows pool) ⊎ ((plainTable rows pool ≡ false) × RefusedSevenOrNine (numberOf (other e)) (bytes ++ payload))
-        → ((plainTable rows pool ≡ true) × SameTable rows pool a (sent a out payload) before b after) ⊎ ((plainTable rows pool ≡ false) × RefusesLabel before words b after words′)
-    at bytes w front (inl (plain, same)) = inl (plain, same-table p w payload q room same)
+        → ((plainTable rows pool ≡ true) × (a .rows ≤ roomWith before words → SameTable rows pool a (sent a out payload) before b after)) ⊎ ((plainTable rows pool ≡ false) × RefusesLabel before words b after words′)
+    at bytes w front (inl (plain, same)) = inl (plain, λ room. same-table p w payload q room same)
     at bytes w front (inr (plain, (refusal, place, is, k))) =
         let (answer, _, count, leaves, carries) = refuses q (ap (read (numberOf (other e))) front ∙ is) in
         inr (plain, record { answers = as-answered answer k; count = count; leaves = leaves; carries = carries })
+
+-- the first half where there is room
+pub with-room : {A B C R : Type 0} → R → (A × (R → B)) ⊎ C → (A × B) ⊎ C
+with-room room (inl (a, f)) = inl (a, f room)
+with-room room (inr c) = inr c
+
+-- What a gateway wants: whatever rows and words are lent, an answer 0 under the other edition is that same table.
+
+pub zero-is-same-table : (e : Edition) {rows pool output out before words after words′ : List ℕ} {a : declared.Reply} {b : declared.Reply} → T (areBytes pool)
+    → WritePromise (numberOf e) rows pool output a out → a .answer ≡ 0 → (payload : List ℕ) → ReadPromise (numberOf (other e)) (sent a out payload) before words b after words′ → b .answer ≡ 0
+    → (plainTable rows pool ≡ true) × SameTable rows pool a (sent a out payload) before b after
+zero-is-same-table e {rows} {pool} {output} {out} {before} {words} {after} {words′} {a} {b} t p z payload q accepts =
+    let (bytes, w, l) = written-call p z in
+    at bytes w (ap (λ (x : List ℕ). x ++ payload) (bytes-written l)) (label-cannot-lie e rows pool (length output) bytes t w payload)
+  where
+    at : (bytes : List ℕ) → write (numberOf e) rows pool (length output) ≡ written bytes → sent a out payload ≡ bytes ++ payload
+        → ((plainTable rows pool ≡ true) × ReadsSame (numberOf (other e)) bytes payload rows pool) ⊎ ((plainTable rows pool ≡ false) × RefusedSevenOrNine (numberOf (other e)) (bytes ++ payload))
+        → (plainTable rows pool ≡ true) × SameTable rows pool a (sent a out payload) before b after
+    at bytes w front (inl (plain, (found, is, means))) =
+        let n : length found ≡ a .rows = same-count p w found (bytes ++ payload) means in
+        let room = had-room q accepts (ap (read (numberOf (other e))) front ∙ is) in
+        (plain, same-table p w payload q (omega arith) (found, is, means))
+    at bytes w front (inr (plain, (refusal, place, is, k))) = absurd (not-zero-refusal k (refuses q (ap (read (numberOf (other e))) front ∙ is) .0))
+      where
+        not-zero-refusal : (refusal ≡ 7) ⊎ (refusal ≡ 9) → b .answer ≡ refusal → ⊥
+        not-zero-refusal (inl seven) is = omega arith
+        not-zero-refusal (inr nine) is = omega arith
 
 -- 4. "Payload bytes and their number never alter an accepted answer."
 -- With another payload behind the header: the same answer, the same rows and the same words.

@@ -35,7 +35,7 @@ use Rattle.writer.specs.Promise.{WritePromise}
 use Rattle.present.specs.Promise.{PresentPromise}
 use Rattle.relay.specs.Promise.{RelayPromise}
 use Rattle.certificate.specs.Lent.{firstRows, bytes-written, rows-read, accepted-call, lays}
-use Rattle.certificate.specs.Calls.{sent, SameTable, RefusesLabel, label-never-lies}
+use Rattle.certificate.specs.Calls.{sent, SameTable, RefusesLabel, label-never-lies, with-room}
 use Rattle.certificate.specs.Premises.{some-write}
 use Rattle.certificate.specs.Relay.{declaredOf, Joined, joined-call, joins-of, header-joined, table-long, table-joined}
 
@@ -109,7 +109,8 @@ relay-never-lies e {rows′ = rows′} {out = out} {before = before} {words₀ =
     = ap (λ (x : ℕ). reply x (w .place) (w .rows)) (l .answers ∙ sym z) ∙ ap (λ (x : ℕ). reply (a .answer) x (w .rows)) place ∙ ap (reply (a .answer) (a .place)) count in
     let front : sent w out′ payload ≡ sent a out payload = ap (λ (x : List ℕ). x ++ payload) (bytes-written l) in
     let bytes : T (areBytes (take (a .place) out)) = subst (λ (x : List ℕ). T (areBytes x)) (sym (header-joined p z)) (joined-bytes (joins-of p z) t u) in
-    as-joined w out′ same front (label-never-lies e bytes written-so (l .answers) payload (subst (λ (x : List ℕ). ReadPromise (numberOf (other e)) x before words₀ b after words₁) (sym front) q) (omega arith))
+    let room′ : w .rows ≤ roomWith before words₀ = omega arith in
+    as-joined w out′ same front (with-room room′ (label-never-lies e bytes written-so (l .answers) payload (subst (λ (x : List ℕ). ReadPromise (numberOf (other e)) x before words₀ b after words₁) (sym front) q)))
   where
     as-joined : (w : declared.Reply) (out′ : List ℕ) → reply (w .answer) (w .place) (w .rows) ≡ reply (a .answer) (a .place) (a .rows) → sent w out′ payload ≡ sent a out payload
         → ((plainTable (firstRows (a .rows) rows′) (take (a .place) out) ≡ true) × SameTable (firstRows (a .rows) rows′) (take (a .place) out) w (sent w out′ payload) before b after) ⊎ ((plainTable (firstRows (a .rows) rows′) (take (a .place) out) ≡ false) × RefusesLabel before words₀ b after words₁)

@@ -1,8 +1,8 @@
 -- What the customer buys, over the definitions of `meaning`: each theorem stands under the sentence that it meets.
-use Prim.Native.Nat.{ℕ, _+_, _≤_}
+use Prim.Native.Nat.{ℕ, _+_, _≤_, _<_}
 use mathlib.Core.List.{List, [], _∷_, _++_, map}
 use mathlib.Core.Bool.{Bool, true, false, _&&_, not}
-use mathlib.Core.Logic.{_⊎_, inl, inr}
+use mathlib.Core.Logic.{_⊎_, inl, inr, _↔_}
 use mathlib.Core.Path.{_≡_, refl, ap, sym, _∙_, subst}
 use native.Mathlib.Omega.{arith}
 use lib.Dec.{T}
@@ -11,9 +11,9 @@ use Rattle.meaning.specs.Basics.{every}
 use Rattle.meaning.specs.Told.{Edition, Label, known, unknown, labelOf, Strictness, strict, toldBy, told}
 use Rattle.meaning.specs.Reading.{Row}
 use Rattle.meaning.specs.Headers.{Placed, meant, refused, accepted, header, envelopesMost, labelled, readBy, read}
-use Rattle.meaning.specs.Writing.{Cell, cell, Envelope, stuck, plan, wholePlan, written, unwritten, writeRows}
-use Rattle.meaning.specs.Skips.{right, wrongAt, belongs, belonging, heldAgainst}
-use Rattle.meaning.specs.Memory.{row, tableOf, cellsOf, ranksOf, skipsOf, skipsHeld, roomOf, write}
+use Rattle.meaning.specs.Writing.{Cell, cell, written, unwritten, writeRows, Envelope, stuck, plan, wholePlan}
+use Rattle.meaning.specs.Skips.{right, belongs, belonging, heldAgainst, wrongAt}
+use Rattle.meaning.specs.Memory.{row, tableOf, reply, readReply, cellsOf, ranksOf, skipsOf, skipsHeld, write, roomOf}
 use Rattle.laws.specs.Logic.{areBytes}
 use Rattle.laws.specs.Views.{AllIn, view-part}
 use Rattle.laws.specs.Envelopes.{header-read, header-crosses, CrossHeader}
@@ -29,12 +29,18 @@ use Rattle.meaning.specs.Writing.{Written, valid, writeValue, wayOf, fit, fitRo
 use Rattle.meaning.specs.Plain.{decoded, decodeNumber, numberValue, numberBytes, Date, dateOf, dateBytes, decodeDate, dateInRange}
 use Rattle.meaning.specs.Cases.{hex, baseWith, inMemory, baseRows}
 use Rattle.laws.specs.Refusals.{not-zero, refused-shape as header-refused}
-use Rattle.laws.specs.RowCounts.{table-few, length-meant}
 use Rattle.laws.specs.WriterRefusals.{WriterRefusal, writer-refusal}
+use Rattle.laws.specs.RowCounts.{table-few, length-meant}
 use Rattle.laws.specs.PlainNumbers.{number-coded-decoded, number-decoded-coded}
 use Rattle.laws.specs.PlainDates.{date-coded-decoded, date-decoded-coded}
-use Rattle.laws.specs.Ties.{only-stuck, written-right, whole-front, numberOf, SameMeaning, plainCell, plainTable, read-known, write-known, accepted-known, written-known, read-as, write-as, cells-placed, whole-of, whole-written, same-meaning, plain-cells, seven-or-nine}
+use Rattle.laws.specs.Ties.{written-right, whole-front, numberOf, SameMeaning, plainCell, plainTable, read-known, write-known, accepted-known, written-known, read-as, write-as, cells-placed, whole-of, whole-written, same-meaning, plain-cells, seven-or-nine, only-stuck}
 use Rattle.laws.specs.Fifteen.{IsTable, plan-table, BeginsTable, NoneWith, stuck-means}
+use Rattle.laws.specs.Grammar.{HeaderOf}
+use Rattle.laws.specs.Exactly.{header-accepted, accepted-header, one-header}
+use Rattle.laws.specs.Faults.{ReaderRefusal}
+use Rattle.laws.specs.ReadRefused.{refuses-as-said, Decided, fault-decides, placeOf, cut-is-two}
+use Rattle.laws.specs.WriterFaults.{WriterFault, WritesAs}
+use Rattle.laws.specs.WriteRefused.{unwritten-as-said, written-as-said}
 
 -- 1. "Read then written: the same bytes."
 -- Every accepted input's rows, written under the same edition with the input as pool and room for the bytes, give the bytes up to the payload.
@@ -189,6 +195,46 @@ date-again kind d q = date-coded-decoded kind d q
 
 pub date-bytes-again : (kind : ℕ) (s v : List ℕ) → decodeDate kind s ≡ decoded v → (s ≡ v) × (dateInRange kind (dateOf v) ≡ true) × (dateBytes (dateOf v) ≡ s)
 date-bytes-again kind s v q = date-decoded-coded kind s v q
+
+-- 8. "The reader accepts exactly the edition's headers and gives exactly the rows."
+-- An input is accepted under an edition's number if and only if it is the bytes of a table of that edition, as document 01's grammar and limits have it (`Grammar`),
+-- with any payload behind them; the place is where they end, and the rows are that table's, starts included. No input is two such headers.
+
+pub accepts-exactly : (edition : ℕ) (input : List ℕ) (place : ℕ) (rows : List Placed) → T (areBytes input) → (read edition input ≡ accepted place rows) ↔ HeaderOf edition input place rows
+accepts-exactly edition input place rows t = (accepted-header edition input place rows t, header-accepted edition input place rows)
+
+pub one-header-only : (edition : ℕ) (input : List ℕ) (p q : ℕ) (rs ts : List Placed) → HeaderOf edition input p rs → HeaderOf edition input q ts → (p ≡ q) × (rs ≡ ts)
+one-header-only edition input p q rs ts h k = one-header edition input p q rs ts h k
+
+-- 9. "Each refusal has its number and place, is given exactly when the documents say": of the reader.
+-- An answer other than 0, with its place and the rows it reports, is given if and only if what document 01 says of that number holds (`ReaderRefusal`, in `Faults`); room: the rows that the
+-- lent memory has room for. 2 is given only at the input's end (`two-at-end`, in `FirstFault`), 12 only at the 02 of an agent of level 9 (`twelve-at-nine`, in `Deepest`).
+
+pub refuses-exactly : (edition : ℕ) (input : List ℕ) (room refusal place count : ℕ) → T (areBytes input) → 1 ≤ refusal → (readReply room (read edition input) ≡ reply refusal place count) ↔ ReaderRefusal edition input room refusal place count
+refuses-exactly edition input room refusal place count t some = refuses-as-said edition input room refusal place count t some
+
+-- 10. "Reading goes byte by byte; the first fault decides."
+-- The bytes up to the fault decide (`Decided`: how many from its place on at most, `decidedBy` says); with any others behind them the answer is the same, but that an input which then ends before the
+-- declared end is 2 at its own end. 2 itself speaks of the input's end.
+
+pub first-fault-decides : (edition : ℕ) (input : List ℕ) (refusal place : ℕ) → T (areBytes input) → read edition input ≡ refused refusal place → (refusal ≡ 2 → ⊥) → Decided edition input refusal place
+first-fault-decides edition input refusal place t q two = fault-decides edition input refusal place t q two
+
+-- An input that is cut before the place of its answer, a fault's or the payload's, is 2 at its own end; so it is never accepted.
+
+pub cut-before-place : (edition : ℕ) (front back : List ℕ) → T (areBytes (front ++ back)) → length front < placeOf (read edition (front ++ back)) → read edition front ≡ refused 2 (length front)
+cut-before-place edition front back t short = cut-is-two edition front back t short
+
+-- 11. "Each refusal has its number and place, is given exactly when the documents say": of the writer; and when it writes, and which bytes.
+-- 15: the rows before the one that it names begin a table of the edition, limits aside, and with that row none do; where it names the row count, they are no table. Or (order 7) they are one, the
+-- skip numbers before that row are right, and its is wrong. 5: they are one with right skip numbers, and that row opens the lowest envelope that is past a limit. 16: they are one within the limits,
+-- and its bytes, as many as it names, exceed the room. All over document 01's grammar (`WriterFaults`, over `Grammar`).
+
+pub writer-refuses-exactly : (edition : ℕ) (rows pool : List ℕ) (room refusal place : ℕ) → (write edition rows pool room ≡ unwritten refusal place) ↔ WriterFault edition rows pool room refusal place
+writer-refuses-exactly edition rows pool room refusal place = unwritten-as-said edition rows pool room refusal place
+
+pub writes-exactly : (edition : ℕ) (rows pool : List ℕ) (room : ℕ) (bytes : List ℕ) → (write edition rows pool room ≡ written bytes) ↔ WritesAs edition rows pool room bytes
+writes-exactly edition rows pool room bytes = written-as-said edition rows pool room bytes
 
 -- No premise above is empty: for each edition, a header that is read; a table that is written; and one that is plain, and one that is not.
 
