@@ -77,7 +77,7 @@ fn stop(s: &[u8], end: usize, at: usize, rule: Rule) -> usize
     }
     match rule {
         Rule::Line => line_stop(s, end, at),
-        Rule::Note => note_run(s, end, at),
+        Rule::Note => run(s, end, at, rule),
     }
 }
 

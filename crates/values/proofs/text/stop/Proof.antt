@@ -25,14 +25,14 @@ line-stop-requires c κs = search needs
 enum-told-2 : tie.Need-enum-told-2
 enum-told-2 c = search needs
 
-note-run-requires : tie.Need-note-run-requires
-note-run-requires c κs = search needs
+run-requires : tie.Need-run-requires
+run-requires c κs = search needs
 
 returns-2 : tie.Need-returns-2
 returns-2 c = rw (c .before .enum-told .given .1) (line-runs (c .line-stop .ensures))
 
 returns-3 : tie.Need-returns-3
-returns-3 c = rw (c .before .enum-told2 .given .1) (c .note-run .ensures)
+returns-3 c = c .run .ensures
 
 pub stop-spec : {M : Type 1} → statement M
-stop-spec = tie.close (tie.spec empty-note-requires returns enum-told line-stop-requires enum-told-2 note-run-requires returns-2 returns-3)
+stop-spec = tie.close (tie.spec empty-note-requires returns enum-told line-stop-requires enum-told-2 run-requires returns-2 returns-3)
