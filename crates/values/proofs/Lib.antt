@@ -6,3 +6,4 @@ pub mod Numbers
 pub mod Days
 pub mod Dates
 pub mod Blocks
+pub mod Marks

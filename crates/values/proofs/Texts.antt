@@ -171,6 +171,12 @@ module _ (s : List ℕ) (at : ℕ) where
   line-more zero h b = let q : at + 0 ≡ at = omega arith in is-text (getD s at 0) (rw q at b)
   line-more (suc n) h b = rw (h, is-text (getD s (at + suc n) 0) b) refl
 
+  -- bytes that are each of a line
+  pub line-before : (n : ℕ) → ((j : ℕ) → j < n → 32 ≤ getD s (at + j) 0) → LineBefore s at n
+  unfolding LineBefore
+  line-before zero h = tt
+  line-before (suc n) h = line-more n (line-before n (λ j k. h j (omega arith))) (h n (omega arith))
+
   -- of eight bytes that are not all of a line, another is passed: it was not the last
   pub passed-on : (i : ℕ) → textRun line s at 7 ≡ false → Passed s at i → 32 ≤ getD s i 0 → Passed s at (i + 1)
   unfolding LineBefore

@@ -6,3 +6,4 @@ pub mod Counting
 pub mod Dates
 pub mod DateSteps
 pub mod Blocks
+pub mod Eights

@@ -3,6 +3,7 @@ pub mod any;
 pub mod bytes;
 pub mod date;
 pub mod digits;
+mod eights;
 pub mod number;
 pub mod representation;
 pub mod text;

@@ -1,5 +1,8 @@
 // "Text: bytes 20 to FF (hex), possibly none, then 00", and in notes line breaks.
 use crate::Value;
+use crate::eights::eight_bytes;
+use crate::eights::first_mark;
+use crate::eights::marks;
 use table::refusals::ENVELOPE_ENDS;
 use table::refusals::TEXT_WRONG;
 ghost use mathlib.Core.Path.{_≡_};
@@ -64,7 +67,7 @@ fn ended(s: &[u8], end: usize, at: usize, i: usize, kind: u32) -> Value
     }
 }
 
-// As `run`, but an empty note is found without a call.
+// As `run`, for a reading, in which most texts stop before the end: an empty note is found without a call, and a line's stop by marks.
 fn stop(s: &[u8], end: usize, at: usize, rule: Rule) -> usize
     requires { ⌜ Inside (now s) end at ⌝ }
     ensures { λ r. ⌜ Run (ruleOf rule) (now (s .entry)) end at r ⌝ }
@@ -72,7 +75,10 @@ fn stop(s: &[u8], end: usize, at: usize, rule: Rule) -> usize
     if empty_note(s, end, at, rule) {
         return at;
     }
-    run(s, end, at, rule)
+    match rule {
+        Rule::Line => line_stop(s, end, at),
+        Rule::Note => run(s, end, at, rule),
+    }
 }
 
 // Whether the text is a note of no byte. An empty line is not looked for: its run is short.
@@ -152,7 +158,24 @@ fn long_line(s: &[u8], end: usize, at: usize) -> usize
     line_run(s, end, i)
 }
 
-// The first place whose byte is below 20, or the end: eight bytes at a time.
+// The first place whose byte is below 20, or the end, where it is likely to stop before that: eight bytes at a time, each with a mark if it is below 20.
+fn line_stop(s: &[u8], end: usize, at: usize) -> usize
+    requires { ⌜ Inside (now s) end at ⌝ }
+    ensures { λ r. ⌜ LineRun (now (s .entry)) end at r ⌝ }
+{
+    let mut i = at;
+    while i + 8 <= end {
+        let below = marks(eight_bytes(s, i));
+        if below == 0 {
+            i += 8;
+        } else {
+            return i + first_mark(below);
+        }
+    }
+    last_run(s, end, i)
+}
+
+// The same where it is likely to come to the end, as with bytes to be written: eight at a time by one comparison of vectors.
 fn line_run(s: &[u8], end: usize, at: usize) -> usize
     requires { ⌜ Inside (now s) end at ⌝ }
     ensures { λ r. ⌜ LineRun (now (s .entry)) end at r ⌝ }

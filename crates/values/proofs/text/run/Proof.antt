@@ -1,6 +1,5 @@
 -- `text::run`: by the rule's own run.
 use borrow.Author.Needs.{needs}
-use Rattle.meaning.specs.Bytes.{line}
 use Rattle.values.proofs.Texts.{line-runs}
 use Rattle.values.proofs.text.run.Statement.{statement}
 use Rattle.values.proofs.text.run.Tie as tie
