@@ -70,6 +70,11 @@ upper (suc (suc n)) single h = let q : suc n ≡ suc (suc n) - 1 = omega arith i
 first : (level : ℕ) (single : Bool) → level ≡ 1 → go listEnds (state agentList level single) ≡ state parameters 0 false
 first level single q = ap (λ (n : ℕ). go listEnds (state agentList n single)) q
 
+-- resolvers are never the one agent of `from`
+not-one : (level : ℕ) (single : Bool) → 2 ≤ level → (single && eqb level 1) ≡ false
+not-one level true h = ne-eqb level 1 (λ z. omega arith)
+not-one level false h = refl
+
 -- A name, and where none stands
 
 module _ (edition : Edition) (pool rows : List ℕ) {i : ℕ} (level : ℕ) (single : Bool) where
@@ -82,17 +87,20 @@ module _ (edition : Edition) (pool rows : List ℕ) {i : ℕ} (level : ℕ) (sin
       (ap (λ (m : Move). tooDeep m (agentsAt level single)) (sym (sole-move _ level (t .row) (t .stands))) ∙ lt-ltb levelMost level h)
 
   module _ (x : NotAmong agentNames level (cellsAt pool rows i)) where
-    pub one-missing : (single && eqb level 1) ≡ true → bodyAt edition pool rows i (agentsAt level single) ≡ halt i
-    one-missing q = lost-on edition pool rows (agentsAt level single) (agent-names edition (single && eqb level 1)) x (subst (λ (b : Bool). Closes edition (pick b oneAgent agentList) none) (sym q) (one-agent edition))
+    one-lost : (single && eqb level 1) ≡ true → bodyAt edition pool rows i (agentsAt level single) ≡ halt i
+    one-lost q = lost-on edition pool rows (agentsAt level single) (agent-names edition (single && eqb level 1)) x (subst (λ (b : Bool). Closes edition (pick b oneAgent agentList) none) (sym q) (one-agent edition))
+
+    pub one-missing : single ≡ true → level ≡ 1 → bodyAt edition pool rows i (agentsAt level single) ≡ halt i
+    one-missing s e = one-lost (ap (λ (b : Bool). b && eqb level 1) s ∙ ap (λ (n : ℕ). eqb n 1) e)
 
     list-on : {before : List ℕ} {at : ℕ} {after : List ℕ} {p : ℕ} → (single && eqb level 1) ≡ false → i ≤ roomOf rows → Laid before at (1 ∷ []) after p → Onward edition pool rows i (agentsAt level single) i (go listEnds (state agentList level single)) before at after p
     list-on q h l = close-on edition pool rows (agentsAt level single) (agent-names edition (single && eqb level 1)) x (subst (λ (b : Bool). Closes edition (pick b oneAgent agentList) (hit (pass closing ▸ listEnds))) (sym q) (list-closes edition)) h l
 
-    pub list-done : {before : List ℕ} {at : ℕ} {after : List ℕ} {p : ℕ} → (single && eqb level 1) ≡ false → level ≡ 1 → i ≤ roomOf rows → Laid before at (1 ∷ []) after p → Onward edition pool rows i (agentsAt level single) i (state parameters 0 false) before at after p
-    list-done q e h l = leading (first level single e) (list-on q h l)
+    pub list-done : {before : List ℕ} {at : ℕ} {after : List ℕ} {p : ℕ} → single ≡ false → level ≡ 1 → i ≤ roomOf rows → Laid before at (1 ∷ []) after p → Onward edition pool rows i (agentsAt level single) i (state parameters 0 false) before at after p
+    list-done s e h l = leading (first level single e) (list-on (ap (λ (b : Bool). b && eqb level 1) s) h l)
 
-    pub list-up : {before : List ℕ} {at : ℕ} {after : List ℕ} {p : ℕ} → (single && eqb level 1) ≡ false → 2 ≤ level → i ≤ roomOf rows → Laid before at (1 ∷ []) after p → Onward edition pool rows i (agentsAt level single) i (state afterResolvers (level - 1) single) before at after p
-    list-up q e h l = leading (upper level single e) (list-on q h l)
+    pub list-up : {before : List ℕ} {at : ℕ} {after : List ℕ} {p : ℕ} → 2 ≤ level → i ≤ roomOf rows → Laid before at (1 ∷ []) after p → Onward edition pool rows i (agentsAt level single) i (state afterResolvers (level - 1) single) before at after p
+    list-up e h l = leading (upper level single e) (list-on (not-one level single e) h l)
 
 -- Turns
 

@@ -93,13 +93,14 @@ fn list_ends(
     requires { ⌜ (ListTurnRequires (now rows) i level (now output) at) × NotAmong agentNames level (cellsAt (now pool) (now rows) i) ⌝ }
     ensures { λ r. ⌜ ListTurnIs (editionOf edition) single (now (pool .entry)) (now (rows .entry)) i (agentsAt level single) (rowsAndLevels (now (rows .entry)) i level - 1) (now (output .entry)) at r (now (output .exit)) ⌝ }
 {
-    if single & (level == 1) {
-        return ListTurn::Stuck(i);
+    if level == 1 {
+        if single {
+            return ListTurn::Stuck(i);
+        }
+        let end = put(output, at, CLOSING);
+        return ListTurn::Done { row: i, at: end };
     }
     let p = put(output, at, CLOSING);
-    if level == 1 {
-        return ListTurn::Done { row: i, at: p };
-    }
     agent_ends(rows, pool, i, level - 1, single, edition, output, p)
 }
 
