@@ -79,6 +79,7 @@ module _ {input : List ℕ} {n many : ℕ} (c : EnvelopesCounted input n) where
 -- Refusals
 
 module _ (edition : ℕ) (input table pool rows words output : List ℕ) where
+  -- the old input and the pool hold bytes
   abbrev pub LentBytes : Type 0
   LentBytes = T (areBytes input) × T (areBytes pool)
 
