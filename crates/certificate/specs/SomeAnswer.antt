@@ -1,4 +1,4 @@
--- Every call has an answer that its promise allows, for whatever is given and lent: of the payload view, the coders and the listing programs' body.
+-- Every call has an answer that its promise allows, for whatever is given and lent, bytes where it lends bytes: of the payload view, the coders and the listing programs' body.
 -- (`some-read` and `some-write` are in Premises; each order's entry has its own beside its `one-..`.)
 use Prim.Native.Nat.{ℕ, _-_, _*_, _≤_}
 use mathlib.Core.List.{List}
@@ -67,7 +67,7 @@ some-date-encoded kind date before = (encodedAs (dateEncoded kind date (length b
 -- the table of a listing
 pub some-table : (edition : ℕ) (input before words : List ℕ) → T (areBytes input) → (a : declared.Reply) × (after : List ℕ) × (words′ : List ℕ) × TablePromise edition input before words a after words′
 some-table edition input before words t =
-    let (a, after, words′, p) = some-read strict edition input before words in
+    let (a, after, words′, p) = some-read strict edition input before words t in
     (a, after, words′, record { reads = p; lists = λ few room enough. text-whole edition input before words t (p .answers) (p .rows) enough few room })
 
 -- what is printed from
