@@ -1,5 +1,5 @@
 -- Every call has an answer that its promise allows, for whatever is given and lent, bytes where it lends bytes: of the payload view, the coders and the listing programs' body.
--- (`some-read` and `some-write` are in Premises; each order's entry has its own beside its `one-..`.)
+-- (`some-read` and `some-write` are in Premises, `some-piece` in SomePiece; each order's entry has its own beside its `one-..`.)
 use Prim.Native.Nat.{ℕ, _-_, _*_, _≤_}
 use mathlib.Core.List.{List}
 use mathlib.Core.Path.{_≡_, refl, sym}
