@@ -1,6 +1,6 @@
 -- What the customer buys, of calls of `read` and `write`: any results that the promises allow, with the memory lent before and after.
 -- The demands over the meaning (`laws`) carry over, since a call's answer and memory are the meaning's.
--- That input and pool hold bytes is a premise here; in the code each of their numbers is a u8.
+-- That input and pool hold bytes, the promise of a call says: in the code each of their numbers is a u8.
 use Prim.Native.Nat.{ℕ, _≤_}
 use mathlib.Core.List.{List, _++_}
 use mathlib.Core.Bool.{Bool, true, false}
@@ -8,7 +8,7 @@ use mathlib.Core.Logic.{_⊎_, inl, inr}
 use mathlib.Core.Path.{_≡_, refl, ap, sym, _∙_}
 use native.Mathlib.Omega.{arith}
 use borrow.Author.Tests.{leb-true}
-use lib.Dec.{T, leb}
+use lib.Dec.{leb}
 use lib.ListN.{length, take, drop, take-append-drop}
 use lib.Seq.{length-take-le}
 use Rattle.meaning.specs.Basics.{pick}
@@ -17,7 +17,6 @@ use Rattle.meaning.specs.Headers.{Placed, Answer, refused, accepted, readBy, re
 use Rattle.meaning.specs.Writing.{Written, written, unwritten}
 use Rattle.meaning.specs.Memory.{tableOf, cellsOf, skipsOf, roomOf, laidOver, Reply, readReply, readMemory, wordsRead, roomWith, answerBy, rowsBy, wordsBy, writeReply, writeMemory, write, writeAnswer, writeOutput}
 use Rattle.meaning.specs.Payload.{partStart, partEnd, partBytes, payloadStart, payloadEnd, payloadBytes}
-use Rattle.laws.specs.Logic.{areBytes}
 use Rattle.laws.specs.PlainRows.{other}
 use Rattle.laws.specs.Ties.{numberOf, SameMeaning, plainTable}
 use Rattle.laws.specs.Demands.{read-then-written, ReadsSame, written-then-read, RefusedSevenOrNine, label-cannot-lie, payload-alters-nothing, accepted-shape}
@@ -48,15 +47,15 @@ pub record SameBytes (input : List ℕ) (was : declared.Reply) (output : List �
   pub count : answer .rows ≡ was .rows
   pub leaves : after ≡ laidOver output (take (was .place) input)
 
-pub read-write-same-bytes : {edition : ℕ} {input before words rows words′ output after : List ℕ} {a : declared.Reply} {b : declared.Reply} → T (areBytes input)
+pub read-write-same-bytes : {edition : ℕ} {input before words rows words′ output after : List ℕ} {a : declared.Reply} {b : declared.Reply}
     → ReadPromise edition input before words a rows words′ → a .answer ≡ 0 → WritePromise edition (firstRows (a .rows) rows) input output b after → a .place ≤ length output
     → SameBytes input a output b after
-read-write-same-bytes {edition} {input} {rows = rows} {output = output} {a = a} t p z q room =
+read-write-same-bytes {edition} {input} {rows = rows} {output = output} {a = a} p z q room =
     let (place, found, is, f) = accepted-call p z in
     let table : firstRows (a .rows) rows ≡ tableOf found = rows-read f in
-    let again = read-then-written edition input place found t is (length output) (omega (arith, f .ends)) in
+    let again = read-then-written edition input place found (p .bytes) is (length output) (omega (arith, f .ends)) in
     let l = lays q (ap (λ (x : List ℕ). write edition x input (length output)) table ∙ again) in
-    let shape = accepted-shape strict edition input place found t is in
+    let shape = accepted-shape strict edition input place found (p .bytes) is in
     record {
       answers = l .answers;
       ends = l .ends ∙ length-take-le place input (shape .0) ∙ sym (f .ends);
@@ -95,12 +94,12 @@ same-table {reading = reading} {out = out} {after = after} {bytes = bytes} {a = 
       leaves = rows-behind f;
     }
 
-pub write-read-same-table : {edition : ℕ} {rows pool output out before words after words′ : List ℕ} {a : declared.Reply} {b : declared.Reply} → T (areBytes pool)
+pub write-read-same-table : {edition : ℕ} {rows pool output out before words after words′ : List ℕ} {a : declared.Reply} {b : declared.Reply}
     → WritePromise edition rows pool output a out → a .answer ≡ 0 → (payload : List ℕ) → ReadPromise edition (sent a out payload) before words b after words′ → a .rows ≤ roomWith before words
     → SameTable rows pool a (sent a out payload) before b after
-write-read-same-table {edition} {rows} {pool} {output} t p z payload q room =
+write-read-same-table {edition} {rows} {pool} {output} p z payload q room =
     let (bytes, w, l) = written-call p z in
-    same-table p w payload q room (written-then-read edition rows pool (length output) bytes t w payload)
+    same-table p w payload q room (written-then-read edition rows pool (length output) bytes (p .bytes) w payload)
 
 -- 3. "The label can't lie": "A table written under one edition and read under the other is the same table, or is refused with 7 or 9: never a different table."
 -- The same if the table is plain, where its rows have room; refused if it is not, whatever is lent, and then no row and no word that was lent is changed.
@@ -111,12 +110,12 @@ pub record RefusesLabel (before words : List ℕ) (answer : declared.Reply) (aft
   pub leaves : after ≡ before
   pub carries : words′ ≡ words
 
-pub label-never-lies : (e : Edition) {rows pool output out before words after words′ : List ℕ} {a : declared.Reply} {b : declared.Reply} → T (areBytes pool)
+pub label-never-lies : (e : Edition) {rows pool output out before words after words′ : List ℕ} {a : declared.Reply} {b : declared.Reply}
     → WritePromise (numberOf e) rows pool output a out → a .answer ≡ 0 → (payload : List ℕ) → ReadPromise (numberOf (other e)) (sent a out payload) before words b after words′
     → ((plainTable rows pool ≡ true) × (a .rows ≤ roomWith before words → SameTable rows pool a (sent a out payload) before b after)) ⊎ ((plainTable rows pool ≡ false) × RefusesLabel before words b after words′)
-label-never-lies e {rows} {pool} {output} {out} {before} {words} {after} {words′} {a} {b} t p z payload q =
+label-never-lies e {rows} {pool} {output} {out} {before} {words} {after} {words′} {a} {b} p z payload q =
     let (bytes, w, l) = written-call p z in
-    at bytes w (ap (λ (x : List ℕ). x ++ payload) (bytes-written l)) (label-cannot-lie e rows pool (length output) bytes t w payload)
+    at bytes w (ap (λ (x : List ℕ). x ++ payload) (bytes-written l)) (label-cannot-lie e rows pool (length output) bytes (p .bytes) w payload)
   where
     as-answered : {refusal : ℕ} → b .answer ≡ refusal → (refusal ≡ 7) ⊎ (refusal ≡ 9) → (b .answer ≡ 7) ⊎ (b .answer ≡ 9)
     as-answered is (inl seven) = inl (is ∙ seven)
@@ -137,12 +136,12 @@ with-room room (inr c) = inr c
 
 -- What a gateway wants: whatever rows and words are lent, an answer 0 under the other edition is that same table.
 
-pub zero-is-same-table : (e : Edition) {rows pool output out before words after words′ : List ℕ} {a : declared.Reply} {b : declared.Reply} → T (areBytes pool)
+pub zero-is-same-table : (e : Edition) {rows pool output out before words after words′ : List ℕ} {a : declared.Reply} {b : declared.Reply}
     → WritePromise (numberOf e) rows pool output a out → a .answer ≡ 0 → (payload : List ℕ) → ReadPromise (numberOf (other e)) (sent a out payload) before words b after words′ → b .answer ≡ 0
     → (plainTable rows pool ≡ true) × SameTable rows pool a (sent a out payload) before b after
-zero-is-same-table e {rows} {pool} {output} {out} {before} {words} {after} {words′} {a} {b} t p z payload q accepts =
+zero-is-same-table e {rows} {pool} {output} {out} {before} {words} {after} {words′} {a} {b} p z payload q accepts =
     let (bytes, w, l) = written-call p z in
-    at bytes w (ap (λ (x : List ℕ). x ++ payload) (bytes-written l)) (label-cannot-lie e rows pool (length output) bytes t w payload)
+    at bytes w (ap (λ (x : List ℕ). x ++ payload) (bytes-written l)) (label-cannot-lie e rows pool (length output) bytes (p .bytes) w payload)
   where
     at : (bytes : List ℕ) → write (numberOf e) rows pool (length output) ≡ written bytes → sent a out payload ≡ bytes ++ payload
         → ((plainTable rows pool ≡ true) × ReadsSame (numberOf (other e)) bytes payload rows pool) ⊎ ((plainTable rows pool ≡ false) × RefusedSevenOrNine (numberOf (other e)) (bytes ++ payload))
@@ -160,14 +159,14 @@ zero-is-same-table e {rows} {pool} {output} {out} {before} {words} {after} {word
 -- 4. "Payload bytes and their number never alter an accepted answer."
 -- With another payload behind the header: the same answer, the same rows and the same words.
 
-pub payload-changes-nothing : {edition : ℕ} {input before words after words₁ later words₂ : List ℕ} {a b : declared.Reply} → T (areBytes input)
+pub payload-changes-nothing : {edition : ℕ} {input before words after words₁ later words₂ : List ℕ} {a b : declared.Reply}
     → ReadPromise edition input before words a after words₁ → a .answer ≡ 0 → (payload : List ℕ) → ReadPromise edition (take (a .place) input ++ payload) before words b later words₂ → (a ≡ b) × (after ≡ later) × (words₁ ≡ words₂)
 unfolding answerBy rowsBy wordsBy
-payload-changes-nothing {edition} {input} {before} {words} {a = a} t p z payload q =
+payload-changes-nothing {edition} {input} {before} {words} {a = a} p z payload q =
     let (place, rows, is, f) = accepted-call p z in
     let ends : take (a .place) input ++ payload ≡ take place input ++ payload = ap (λ (n : ℕ). take n input ++ payload) (f .ends) in
-    let alike : read edition (take (a .place) input ++ payload) ≡ read edition input = ap (read edition) ends ∙ payload-alters-nothing edition input place rows t is payload ∙ sym is in
-    one-read p (record { answers = q .answers ∙ ap (readReply (roomWith before words)) alike; rows = q .rows ∙ ap (readMemory (roomWith before words) tableOf before) alike; carries = q .carries ∙ ap (readMemory (roomWith before words) wordsRead words) alike })
+    let alike : read edition (take (a .place) input ++ payload) ≡ read edition input = ap (read edition) ends ∙ payload-alters-nothing edition input place rows (p .bytes) is payload ∙ sym is in
+    one-read p (record { bytes = p .bytes; answers = q .answers ∙ ap (readReply (roomWith before words)) alike; rows = q .rows ∙ ap (readMemory (roomWith before words) tableOf before) alike; carries = q .carries ∙ ap (readMemory (roomWith before words) wordsRead words) alike })
 
 -- 5. "The payload is handed back as a part of the caller's own input."
 -- Behind an accepted header stands the payload: its bytes, and as two numbers, from the answer's place to the input's end.

@@ -1,18 +1,17 @@
 -- Of calls of `read` and `write`: each answer is given exactly when document 01 says, over its grammar (`Grammar`, `Faults` and `WriterFaults` of `laws`); and the first fault decides.
--- That the input holds bytes is a premise here, as in `Calls`; in the code each of its numbers is a u8.
+-- That the input holds bytes, the promise of a call says, as in `Calls`.
 use Prim.Native.Nat.{ℕ, _+_, _≤_, _<_}
 use mathlib.Core.List.{List, _++_}
 use mathlib.Core.Bool.{Bool, true, false}
 use mathlib.Core.Logic.{_⊎_, inl, inr, _↔_}
 use mathlib.Core.Path.{_≡_, refl, ap, sym, _∙_, subst}
 use native.Mathlib.Omega.{arith}
-use lib.Dec.{T, leb}
+use lib.Dec.{leb}
 use lib.ListN.{length}
 use Rattle.meaning.specs.Basics.{pick}
 use Rattle.meaning.specs.Headers.{Placed, Answer, refused, accepted, read}
 use Rattle.meaning.specs.Writing.{Written, written, unwritten}
 use Rattle.meaning.specs.Memory.{roomOf, Reply, reply, readReply, roomWith, answerBy, writeReply, write, writeAnswer}
-use Rattle.laws.specs.Logic.{areBytes}
 use Rattle.laws.specs.Grammar.{HeaderOf}
 use Rattle.laws.specs.Faults.{ReaderRefusal}
 use Rattle.laws.specs.WriterFaults.{WriterFault, WritesAs}
@@ -41,24 +40,24 @@ module _ {edition : ℕ} {input before words after words′ : List ℕ} {a : dec
   unfolding answerBy
   as-read = p .answers
 
-  pub call-accepts-exactly : T (areBytes input) → (a .answer ≡ 0) ↔ HeaderFilled edition input before words a after words′
-  call-accepts-exactly t = (
+  pub call-accepts-exactly : (a .answer ≡ 0) ↔ HeaderFilled edition input before words a after words′
+  call-accepts-exactly = (
     (λ z.
         let (place, rows, is, f) = accepted-call p z in
-        record { place = place; rows = rows; header = accepts-exactly edition input place rows t .0 is; room = had-room p z is; filled = f }),
+        record { place = place; rows = rows; header = accepts-exactly edition input place rows (p .bytes) .0 is; room = had-room p z is; filled = f }),
     λ h. h .filled .answers,
   )
 
   -- and every such header is accepted, where its rows have room
-  pub call-accepts-header : T (areBytes input) → (place : ℕ) (rows : List Placed) → HeaderOf edition input place rows → length rows ≤ roomWith before words → Filled place rows before words a after words′
-  call-accepts-header t place rows h room = fills p (accepts-exactly edition input place rows t .1 h) room
+  pub call-accepts-header : (place : ℕ) (rows : List Placed) → HeaderOf edition input place rows → length rows ≤ roomWith before words → Filled place rows before words a after words′
+  call-accepts-header place rows h room = fills p (accepts-exactly edition input place rows (p .bytes) .1 h) room
 
   -- 2. "Each refusal has its number and place, is given exactly when the documents say."
   -- A call answers this number, other than 0, with this place and these rows, if and only if what document 01 says of the number holds.
 
-  pub call-refuses-exactly : T (areBytes input) → (refusal place count : ℕ) → 1 ≤ refusal → (reply (a .answer) (a .place) (a .rows) ≡ reply refusal place count) ↔ ReaderRefusal edition input (roomWith before words) refusal place count
-  call-refuses-exactly t refusal place count some =
-      let both = refuses-exactly edition input (roomWith before words) refusal place count t some in
+  pub call-refuses-exactly : (refusal place count : ℕ) → 1 ≤ refusal → (reply (a .answer) (a .place) (a .rows) ≡ reply refusal place count) ↔ ReaderRefusal edition input (roomWith before words) refusal place count
+  call-refuses-exactly refusal place count some =
+      let both = refuses-exactly edition input (roomWith before words) refusal place count (p .bytes) some in
       ((λ q. both .0 (sym as-read ∙ q)), λ r. as-read ∙ both .1 r)
 
   place-is : a .place ≡ placeOf (read edition input)
@@ -97,9 +96,9 @@ module _ {edition : ℕ} {input before words after words′ : List ℕ} {a : dec
       at (refused refusal place) q r = q ∙ ap (λ (x : ℕ). refused x place) (sym (ap (λ (x : Reply). x .answer) r)) ∙ ap (refused (a .answer)) (sym (ap (λ (x : Reply). x .place) r))
       at (accepted place rows) q r = absurd (by-room place rows (leb (length rows) (roomWith before words)) (ap (λ (x : Reply). x .answer) r))
 
-  pub call-first-fault : T (areBytes input) → (a .answer ≡ 0 → ⊥) → (a .answer ≡ 2 → ⊥) → (a .answer ≡ 14 → ⊥) → CallDecided edition input (a .answer) (a .place)
-  call-first-fault t some two full =
-      let d = first-fault-decides edition input (a .answer) (a .place) t (was-refused some full) two in
+  pub call-first-fault : (a .answer ≡ 0 → ⊥) → (a .answer ≡ 2 → ⊥) → (a .answer ≡ 14 → ⊥) → CallDecided edition input (a .answer) (a .place)
+  call-first-fault some two full =
+      let d = first-fault-decides edition input (a .answer) (a .place) (p .bytes) (was-refused some full) two in
       record { front = d .front; back = d .back; parts = d .parts; near = d .near; others = λ other before words after words′ b q. as-called q (d .others other) }
     where
       as-called : {s lent lentWords later laterWords : List ℕ} {b : declared.Reply} {few : Type 0} → ReadPromise edition s lent lentWords b later laterWords
@@ -109,9 +108,9 @@ module _ {edition : ℕ} {input before words after words′ : List ℕ} {a : dec
 
 -- An input that is cut before the place that a call answers is 2 at its own end.
 
-pub call-cut-is-two : {edition : ℕ} (front back : List ℕ) {before words after words′ lent lentWords later laterWords : List ℕ} {a b : declared.Reply} → T (areBytes (front ++ back))
+pub call-cut-is-two : {edition : ℕ} (front back : List ℕ) {before words after words′ lent lentWords later laterWords : List ℕ} {a b : declared.Reply}
     → ReadPromise edition (front ++ back) before words a after words′ → ReadPromise edition front lent lentWords b later laterWords → length front < a .place → (b .answer ≡ 2) × (b .place ≡ length front)
-call-cut-is-two {edition} front back t p q short = refused-as q (cut-before-place edition front back t (omega (arith, short, place-is p)))
+call-cut-is-two {edition} front back p q short = refused-as q (cut-before-place edition front back (p .bytes) (omega (arith, short, place-is p)))
 
 -- 4. The writer: each answer exactly when the documents say, over the grammar.
 

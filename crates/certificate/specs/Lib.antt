@@ -15,5 +15,6 @@ pub mod Printing
 pub mod Printed
 pub mod Premises
 pub mod SomeAnswer
+pub mod SomePiece
 pub mod Relay
 pub mod RelayDemands

@@ -5,14 +5,12 @@ use mathlib.Core.List.{List}
 use mathlib.Core.Bool.{true}
 use mathlib.Core.Path.{_≡_, refl, ap, sym, _∙_, subst}
 use native.Mathlib.Omega.{arith}
-use lib.Dec.{T}
 use lib.ListN.{length, take}
 use Rattle.meaning.specs.Told.{Strictness}
 use Rattle.meaning.specs.Codes.{canAsk}
 use Rattle.meaning.specs.Headers.{envelopesMost}
 use Rattle.meaning.specs.Memory.{ranksOf, Reply}
 use Rattle.meaning.specs.Lookup.{lookup}
-use Rattle.laws.specs.Logic.{areBytes}
 use Rattle.laws.specs.Firsts.{firstFrom}
 use Rattle.laws.specs.PresentValues.{zero-means}
 use Rattle.laws.specs.PassedOver.{levelZero}
@@ -49,14 +47,14 @@ lookup-in-written {edition} {code} {rows} {pool} {before} {words = words} p z t 
     first-value q (written-looks-up edition rows pool (length before) bytes w words t code c)
 
 -- the rows and words that one call of a reader left
-pub lookup-in-read : {w : Strictness} {edition code : ℕ} {input before words after words′ : List ℕ} {a b : declared.Reply} → T (areBytes input) → ReadsBy w edition input before words a after words′ → a .answer ≡ 0 → envelopesMost ≤ length words′ → canAsk code ≡ true
+pub lookup-in-read : {w : Strictness} {edition code : ℕ} {input before words after words′ : List ℕ} {a b : declared.Reply} → ReadsBy w edition input before words a after words′ → a .answer ≡ 0 → envelopesMost ≤ length words′ → canAsk code ≡ true
     → LookupPromise (firstRows (a .rows) after) words′ code b → FirstValue (firstRows (a .rows) after) code b
-lookup-in-read {w} {edition} {code} {input} {after = after} {words′ = words′} {a = a} t p z enough c q =
+lookup-in-read {w} {edition} {code} {input} {after = after} {words′ = words′} {a = a} p z enough c q =
     let (place, found, is, f) = accepted-call p z in
     let carried = words-carried p z in
     let table = rows-read f in
     let own : TrueWords (firstRows (a .rows) after) words′ = record { front = ap (λ (n : ℕ). take n words′) (carried .one-each) ∙ carried .walked; enough = enough } in
-    first-value q (subst (λ (x : List ℕ). LooksUp x words′ code) (sym table) (read-looks-up w edition input place found t is words′ (subst (λ (x : List ℕ). TrueWords x words′) table own) code c))
+    first-value q (subst (λ (x : List ℕ). LooksUp x words′ code) (sym table) (read-looks-up w edition input place found (p .bytes) is words′ (subst (λ (x : List ℕ). TrueWords x words′) table own) code c))
 
 -- "the answer equals order 1's": of a call of `present` that answers 0
 pub lookup-is-present : {edition code : ℕ} {rows pool words : List ℕ} {a b : declared.Reply} → PresentPromise edition rows pool code a → a .answer ≡ 0 → TrueWords rows words → LookupPromise rows words code b

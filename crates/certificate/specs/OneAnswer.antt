@@ -21,7 +21,7 @@ use Rattle.writer.specs.Promise.{WritePromise}
 use Rattle.listing.specs.declared.Piece.{Piece}
 use Rattle.listing.specs.Pieces.{NextPiece}
 use Rattle.listing.specs.Promised.{one-answer}
-use Rattle.lister.specs.Promise.{TablePromise, LongPromise}
+use Rattle.lister.specs.Promise.{TablePromise, PrintPromise, LongPromise}
 
 -- both are the one that the promise names
 same : {A : Type 0} {x y named : A} → x ≡ named → y ≡ named → x ≡ y
@@ -76,6 +76,10 @@ one-piece answer place count rows bytes p q = one-answer p q
 pub one-table : {edition : ℕ} {input before words after words₁ later words₂ : List ℕ} {a b : declared.Reply} → TablePromise edition input before words a after words₁ → TablePromise edition input before words b later words₂
     → (a ≡ b) × (after ≡ later) × (words₁ ≡ words₂)
 one-table p q = one-read (p .reads) (q .reads)
+
+-- what is printed from: the table that zeros give
+pub one-print : {edition : ℕ} {input : List ℕ} {a b : declared.Reply} → PrintPromise edition input a → PrintPromise edition input b → a ≡ b
+one-print p q = one-table (p .table) (q .table) .0
 
 -- the line of an input that is too long: there is such an input
 pub one-long-line : {line other : List ℕ} → LongPromise line → LongPromise other → line ≡ other

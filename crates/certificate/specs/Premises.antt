@@ -1,4 +1,4 @@
--- No premise of `Calls` and `Coders` is empty. Every call of `read` and `write` has an answer that its promise allows; and there are calls
+-- No premise of `Calls` and `Coders` is empty. Every call of `read` and `write` that lends bytes has an answer that its promise allows; and there are calls
 -- that answer 0, computed: of `read` in each edition, of `write` with a plain table and with one that is not, and of each coder.
 use Prim.Native.Nat.{ℕ}
 use mathlib.Core.List.{List, [], _∷_, _++_}
@@ -25,15 +25,15 @@ use Rattle.reader.specs.Promises.{ReadsBy}
 use Rattle.writer.specs.Promise.{WritePromise}
 
 -- strictly or tolerantly
-pub some-read : (w : Strictness) (edition : ℕ) (input before words : List ℕ) → (a : declared.Reply) × (after : List ℕ) × (words′ : List ℕ) × ReadsBy w edition input before words a after words′
-some-read w edition input before words =
+pub some-read : (w : Strictness) (edition : ℕ) (input before words : List ℕ) → T (areBytes input) → (a : declared.Reply) × (after : List ℕ) × (words′ : List ℕ) × ReadsBy w edition input before words a after words′
+some-read w edition input before words t =
     let r = answerBy w edition input before words in
-    (record { answer = r .answer; place = r .place; rows = r .rows }, rowsBy w edition input before words, wordsBy w edition input before words, record { answers = refl; rows = refl; carries = refl })
+    (record { answer = r .answer; place = r .place; rows = r .rows }, rowsBy w edition input before words, wordsBy w edition input before words, record { bytes = t; answers = refl; rows = refl; carries = refl })
 
-pub some-write : (edition : ℕ) (rows pool before : List ℕ) → (a : declared.Reply) × (after : List ℕ) × WritePromise edition rows pool before a after
-some-write edition rows pool before =
+pub some-write : (edition : ℕ) (rows pool before : List ℕ) → T (areBytes pool) → (a : declared.Reply) × (after : List ℕ) × WritePromise edition rows pool before a after
+some-write edition rows pool before t =
     let r = writeAnswer edition rows pool before in
-    (record { answer = r .answer; place = r .place; rows = r .rows }, writeOutput edition rows pool before, record { answers = refl; leaves = refl })
+    (record { answer = r .answer; place = r .place; rows = r .rows }, writeOutput edition rows pool before, record { bytes = t; answers = refl; leaves = refl })
 
 -- a header with nine bytes of a date, and two bytes of payload
 abbrev aHeader : List ℕ
@@ -71,7 +71,7 @@ areCoded =
     outcomeIs 0 2 (numberEncoded 42 2) && outcomeIs 0 2 (numberDecoded (hex 0x1_53_00)) && outcomeIs 0 9 (dateEncoded 5 (dateOf aDate) 9) && outcomeIs 0 9 (dateDecoded 5 aDate)
 
 pub premises : T (
-    areBytes aHeader && isRead 1 && isRead 2 && isReadTolerantly 1 && isReadTolerantly 2 && isWritten 1 (inMemory (baseRows 5 9 [])) 15 3 && isWritten 2 (inMemory (baseRows 5 9 [])) 15 3 && plainTable (inMemory (baseRows 5 9 [])) aHeader &&
+    areBytes aHeader && areBytes wideHeader && isRead 1 && isRead 2 && isReadTolerantly 1 && isReadTolerantly 2 && isWritten 1 (inMemory (baseRows 5 9 [])) 15 3 && isWritten 2 (inMemory (baseRows 5 9 [])) 15 3 && plainTable (inMemory (baseRows 5 9 [])) aHeader &&
     isWritten 1 encrypted 17 4 && not (plainTable encrypted aHeader) && isWritten 2 forwarded 15 3 && not (plainTable forwarded aHeader) && areCoded
     )
 unfolding textByte takeText textOk turn takeNumber numberOk lastDay passes takeDate dateOk highFirst tooWide takeBytes blockOf takeBlock blockOk shared own moves takeValue find look stepMove step run inside envelope header readBy valid writeValue wayOf fit fitRow closeWithin close planOf writeRows belongs belonging heldAgainst cellsOf ranksOf skipsOf skipsHeld laidOver write occurs wordOf wordsOf answerBy rowsBy wordsBy writeAnswer writeOutput digitsWithin digitsOf packed decodeNumber numberDecoded numberBytes numberEncoded decodeDate dateDecoded dateInRange dateEncoded

@@ -1,4 +1,4 @@
--- Order 1, of calls of `present`, and of `write` beside it: any results that the promises allow. That the pool holds bytes is a premise, as in `Calls`.
+-- Order 1, of calls of `present`, and of `write` beside it: any results that the promises allow. That the pool holds bytes, the promise of a call says, as in `Calls`.
 use Prim.Native.Nat.{ℕ, _<_}
 use mathlib.Core.List.{List, []}
 use mathlib.Core.Bool.{Bool, true, false, _&&_}
@@ -35,8 +35,8 @@ declaredOf r = record { answer = r .answer; place = r .place; rows = r .rows }
 pub one-present : {edition : ℕ} {rows pool : List ℕ} {code : ℕ} {a b : declared.Reply} → PresentPromise edition rows pool code a → PresentPromise edition rows pool code b → a ≡ b
 one-present p q = ap declaredOf (p .answers ∙ sym (q .answers))
 
-pub some-present : (edition : ℕ) (rows pool : List ℕ) (code : ℕ) → (a : declared.Reply) × PresentPromise edition rows pool code a
-some-present edition rows pool code = (declaredOf (presentAnswer edition rows pool code), record { answers = refl })
+pub some-present : (edition : ℕ) (rows pool : List ℕ) (code : ℕ) → T (areBytes pool) → (a : declared.Reply) × PresentPromise edition rows pool code a
+some-present edition rows pool code t = (declaredOf (presentAnswer edition rows pool code), record { bytes = t; answers = refl })
 
 module _ {edition : ℕ} {rows pool : List ℕ} {code : ℕ} {a : declared.Reply} (p : PresentPromise edition rows pool code a) where
   -- 1. "Proved equal to the published procedure over all envelopes": an answer of 0 is its row, and the row count.
@@ -91,11 +91,11 @@ module _ {edition : ℕ} {rows pool : List ℕ} {code : ℕ} {a : declared.Reply
             (λ y z. absurd (y x), λ y. found, λ y. found)
 
 -- 4. Under the other edition the answer on a plain table is the same.
-pub present-under-other : (e : Edition) {rows pool : List ℕ} {code : ℕ} {a b : declared.Reply} → T (areBytes pool) → plainTable rows pool ≡ true → PresentPromise (numberOf e) rows pool code a → a .answer ≡ 0 → PresentPromise (numberOf (other e)) rows pool code b → a ≡ b
-present-under-other e {rows} {pool} {code} t plain p z q =
+pub present-under-other : (e : Edition) {rows pool : List ℕ} {code : ℕ} {a b : declared.Reply} → plainTable rows pool ≡ true → PresentPromise (numberOf e) rows pool code a → a .answer ≡ 0 → PresentPromise (numberOf (other e)) rows pool code b → a ≡ b
+present-under-other e {rows} {pool} {code} plain p z q =
     let w = well p z in
     let k : w .told ≡ e = one-edition e (w .label) in
-    ap declaredOf (p .answers ∙ sym (same-under-other e rows pool code t plain (subst (λ (x : Edition). checked x rows pool ≡ passed) k (w .check))) ∙ sym (q .answers))
+    ap declaredOf (p .answers ∙ sym (same-under-other e rows pool code (p .bytes) plain (subst (λ (x : Edition). checked x rows pool ≡ passed) k (w .check))) ∙ sym (q .answers))
   where
     one-edition : (e : Edition) {f : Edition} → labelOf (numberOf e) ≡ known f → f ≡ e
     one-edition B r = sym (cc r)

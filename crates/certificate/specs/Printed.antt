@@ -48,7 +48,7 @@ IsTable edition = TablePromise edition dated rowsBefore wordsBefore isRead rowsA
 table-of : (edition : ℕ) → reply 0 15 3 ≡ answerBy strict edition dated rowsBefore wordsBefore → rowsAfter ≡ rowsBy strict edition dated rowsBefore wordsBefore → IsTable edition
 table-of edition answers leaves =
     let bytes : T (areBytes dated) = tt in
-    record { reads = record { answers = answers; rows = leaves; carries = refl }; lists = λ few room enough. text-whole edition dated rowsBefore wordsBefore bytes answers leaves enough few room }
+    record { reads = record { bytes = bytes; answers = answers; rows = leaves; carries = refl }; lists = λ few room enough. text-whole edition dated rowsBefore wordsBefore bytes answers leaves enough few room }
 
 tables : IsTable 1 × IsTable 2
 unfolding textByte takeText textOk turn takeNumber numberOk lastDay passes takeDate dateOk highFirst tooWide takeBytes blockOf takeBlock blockOk shared own moves takeValue find look stepMove step run inside envelope header readBy belongs belonging laidOver answerBy rowsBy

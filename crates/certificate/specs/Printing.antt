@@ -4,14 +4,14 @@ use Prim.Native.Nat.{ℕ, suc, _*_, _≤_}
 use mathlib.Core.List.{List, [], _++_}
 use mathlib.Core.Path.{_≡_, ap, sym, _∙_, subst}
 use native.Mathlib.Omega.{arith}
-use lib.ListN.{length, take, replicate, length-append, length-replicate}
+use lib.ListN.{length, take, length-append, length-replicate}
 use Rattle.meaning.specs.Memory.{rowWidth, roomOf, wordsBorrowed}
 use Rattle.meaning.specs.Listing.{inputMost, rowsLent, listing}
 use Rattle.listing.specs.declared.Piece.{Piece}
 use Rattle.listing.specs.Text.{textAt}
 use Rattle.listing.specs.Pieces.{pieceLeast, NextPiece}
 use Rattle.table.specs.declared.reply.Reply.{Reply}
-use Rattle.lister.specs.Promise.{TablePromise}
+use Rattle.lister.specs.Promise.{TablePromise, PrintPromise}
 use Rattle.certificate.specs.Lent.{laid-front}
 
 -- Calls of `listing::next` over one table from a cursor on, and what they wrote, put together: each begins where the one before it stopped
@@ -51,8 +51,7 @@ module _ {edition : ℕ} {input before words after words′ : List ℕ} {a : Rep
   pub listing-ends : {n : ℕ} → Going (a .answer) (a .place) (a .rows) after input n 0 0 → n ≤ length (listing edition input)
   listing-ends {n} g = subst (λ (text : List ℕ). n ≤ length text) (p .lists few room enough) (calls-few g)
 
--- zeros for so many rows, and sixteen words of zeros, lend that
-pub zeros-list : {edition : ℕ} {input after words′ joined : List ℕ} {a : Reply} → TablePromise edition input (replicate (rowsLent * rowWidth) 0) (replicate wordsBorrowed 0) a after words′ → length input ≤ inputMost
-    → Calls (a .answer) (a .place) (a .rows) after input 0 0 joined → joined ≡ listing edition input
-zeros-list p few c =
-    pieces-are-listing p few (omega (arith, length-replicate {A = ℕ} (rowsLent * rowWidth) 0)) (omega (arith, length-replicate {A = ℕ} wordsBorrowed 0)) c
+-- Of a table from `lister::print`: what it lends is that.
+pub printed-is-listing : {edition : ℕ} {input joined : List ℕ} {a : Reply} (p : PrintPromise edition input a) → length input ≤ inputMost → Calls (a .answer) (a .place) (a .rows) (p .after) input 0 0 joined → joined ≡ listing edition input
+printed-is-listing p few c =
+    pieces-are-listing (p .table) few (omega (arith, length-replicate {A = ℕ} (rowsLent * rowWidth) 0)) (omega (arith, length-replicate {A = ℕ} wordsBorrowed 0)) c

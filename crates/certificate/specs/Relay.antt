@@ -1,4 +1,4 @@
--- Order 2, of calls of `relay`, and of `read` beside it: any results that the promises allow. That input and pool hold bytes is a premise, as in `Calls`.
+-- Order 2, of calls of `relay`, and of `read` beside it: any results that the promises allow. That input and pool hold bytes, the promise of a call says, as in `Calls`.
 use Prim.Native.Nat.{ℕ, _-_, _*_, _≤_}
 use mathlib.Core.List.{List, _++_}
 use mathlib.Core.Bool.{Bool, true, false, _&&_}
@@ -36,13 +36,13 @@ pub one-relay : {edition : ℕ} {input table pool rows words output rows₁ word
     → RelayPromise edition input table pool rows words output b rows₂ words₂ out₂ → (a ≡ b) × (rows₁ ≡ rows₂) × (words₁ ≡ words₂) × (out₁ ≡ out₂)
 one-relay p q = (ap declaredOf (p .answers ∙ sym (q .answers)), p .joins ∙ sym (q .joins), p .carries ∙ sym (q .carries), p .leaves ∙ sym (q .leaves))
 
-pub some-relay : (edition : ℕ) (input table pool rows words output : List ℕ) → (a : declared.Reply) × (rows′ : List ℕ) × (words′ : List ℕ) × (out : List ℕ) × RelayPromise edition input table pool rows words output a rows′ words′ out
-some-relay edition input table pool rows words output = (
+pub some-relay : (edition : ℕ) (input table pool rows words output : List ℕ) → T (areBytes input) → T (areBytes pool) → (a : declared.Reply) × (rows′ : List ℕ) × (words′ : List ℕ) × (out : List ℕ) × RelayPromise edition input table pool rows words output a rows′ words′ out
+some-relay edition input table pool rows words output t u = (
   declaredOf (relayAnswer edition input table pool rows words output),
   relayRows edition input table pool rows words output,
   relayWords edition input table pool rows words output,
   relayOutput edition input table pool rows words output,
-  record { answers = refl; joins = refl; carries = refl; leaves = refl },
+  record { bytes = t; pool-bytes = u; answers = refl; joins = refl; carries = refl; leaves = refl },
 )
 
 -- no refusal is 0
@@ -160,26 +160,26 @@ module _ {edition : ℕ} {input table pool rows words output rows′ words′ ou
 
     -- "the joined rows are the reader's for the joined header", and so are the words: a call of `read` on the header in the output, with any payload behind it, lent
     -- the same rows and words, answers as the relay did and leaves the same
-    pub relay-reads-as-joined : T (areBytes input) → (payload : List ℕ) {b : declared.Reply} {rows″ words″ : List ℕ} → ReadPromise edition (sent a out payload) rows words b rows″ words″ → (a ≡ b) × (rows′ ≡ rows″) × (words′ ≡ words″)
-    relay-reads-as-joined t payload {b} q =
+    pub relay-reads-as-joined : (payload : List ℕ) {b : declared.Reply} {rows″ words″ : List ℕ} → ReadPromise edition (sent a out payload) rows words b rows″ words″ → (a ≡ b) × (rows′ ≡ rows″) × (words′ ≡ words″)
+    relay-reads-as-joined payload {b} q =
         let j = call .joint in
         let n = count-joined j in
         let room = call .room in
-        let f = fills q (ap (λ (x : List ℕ). read edition (x ++ payload)) header-joined ∙ joined-read good t payload) (omega arith) in
+        let f = fills q (ap (λ (x : List ℕ). read edition (x ++ payload)) header-joined ∙ joined-read good (p .bytes) payload) (omega arith) in
         let answer : reply (a .answer) (a .place) (a .rows) ≡ reply (b .answer) (b .place) (b .rows)
         = ap (λ (x : ℕ). reply x (a .place) (a .rows)) (z ∙ sym (f .answers)) ∙ ap (λ (x : ℕ). reply (b .answer) x (a .rows)) (call .ends ∙ sym (f .ends)) ∙ ap (reply (b .answer) (b .place)) (call .count ∙ n ∙ sym (f .count)) in
         (ap declaredOf answer, call .joins ∙ ap (laidOver rows) (table-is good) ∙ sym (f .leaves), call .carries ∙ ap (laidOver words) (words-are good) ∙ sym (f .carries))
 
     -- "The old header's bytes are unchanged behind it": the last bytes of the joined header are the old header's, as a call of `read` has it; and behind the joined
     -- header nothing changed
-    pub old-header-unchanged : T (areBytes input) → {before words₀ after words₁ : List ℕ} {b : declared.Reply} → ReadPromise edition input before words₀ b after words₁ → b .answer ≡ 0
+    pub old-header-unchanged : {before words₀ after words₁ : List ℕ} {b : declared.Reply} → ReadPromise edition input before words₀ b after words₁ → b .answer ≡ 0
         → (drop (a .place - b .place) (take (a .place) out) ≡ take (b .place) input) × (drop (a .place) out ≡ drop (a .place) output)
-    old-header-unchanged t {b = b} q y =
+    old-header-unchanged {b = b} q y =
         let (place, found, k, f) = accepted-call q y in
         let j = call .joint in
         let same : accepted place found ≡ accepted (good .place) (j .old) = sym k ∙ good .accepts in
         let at : place ≡ good .place = cc same in
-        let within = accepted-shape strict edition input place found t k .0 in
+        let within = accepted-shape strict edition input place found (p .bytes) k .0 in
         let long : length (j .header) ≡ b .place = ap length (good .front) ∙ ap (λ (n : ℕ). length (take n input)) (sym at) ∙ length-take-le place input within ∙ sym (f .ends) in
         let front : a .place - b .place ≡ length (j .envelope) = omega (arith, call .ends, length-append (j .envelope) (j .header), long) in (
           ap (λ (n : ℕ). drop n (take (a .place) out)) front ∙ ap (drop (length (j .envelope))) header-joined ∙ drop-append-seam (j .envelope) (j .header) ∙ good .front ∙ ap (λ (n : ℕ). take n input) (sym at ∙ sym (f .ends)),

@@ -1,18 +1,19 @@
--- Every call has an answer that its promise allows, for whatever is given and lent: of the payload view, the coders and the listing programs' body.
--- (`some-read` and `some-write` are in Premises; each order's entry has its own beside its `one-..`.)
-use Prim.Native.Nat.{ℕ, _-_, _≤_}
+-- Every call has an answer that its promise allows, for whatever is given and lent, bytes where it lends bytes: of the payload view, the coders and the listing programs' body.
+-- (`some-read` and `some-write` are in Premises, `some-piece` in SomePiece; each order's entry has its own beside its `one-..`.)
+use Prim.Native.Nat.{ℕ, _-_, _*_, _≤_}
 use mathlib.Core.List.{List}
 use mathlib.Core.Path.{_≡_, refl, sym}
 use native.Mathlib.Omega.{arith}
 use borrow.Author.Tests.{lt-ltb}
 use lib.Dec.{T}
-use lib.ListN.{length, take, drop, length-drop}
+use lib.ListN.{length, take, drop, replicate, length-drop}
 use lib.Seq.{take-all}
 use Rattle.meaning.specs.Told.{strict}
 use Rattle.meaning.specs.Headers.{Answer, refused, accepted, read}
 use Rattle.meaning.specs.Payload.{partStart, partEnd, partBytes, payloadStart, payloadEnd, payloadBytes}
+use Rattle.meaning.specs.Memory.{rowWidth, wordsBorrowed}
 use Rattle.meaning.specs.Plain.{numberDecoded, numberPlain, numberEncoded, numberOutput, Date as PlainDate, dateDecoded, datePlain, dateEncoded, dateOutput}
-use Rattle.meaning.specs.Listing.{inputMost, tooLong, listing}
+use Rattle.meaning.specs.Listing.{inputMost, rowsLent, tooLong, listing}
 use Rattle.laws.specs.Logic.{areBytes}
 use Rattle.laws.specs.Demands.{accepted-shape}
 use Rattle.table.specs.declared.reply.Reply as declared
@@ -23,7 +24,7 @@ use Rattle.coders.specs.declared.decode.DecodedDate.{DecodedDate}
 use Rattle.coders.specs.declared.encode.Encoded.{Encoded}
 use Rattle.coders.specs.Plain.{NumberDecodes, NumberEncodes, DateDecodes, DateEncodes}
 use Rattle.listing.specs.Listed.{text-whole}
-use Rattle.lister.specs.Promise.{TablePromise, LongPromise}
+use Rattle.lister.specs.Promise.{TablePromise, PrintPromise, LongPromise}
 use Rattle.certificate.specs.OneAnswer.{encodedAs}
 use Rattle.certificate.specs.Premises.{some-read}
 
@@ -66,8 +67,12 @@ some-date-encoded kind date before = (encodedAs (dateEncoded kind date (length b
 -- the table of a listing
 pub some-table : (edition : ℕ) (input before words : List ℕ) → T (areBytes input) → (a : declared.Reply) × (after : List ℕ) × (words′ : List ℕ) × TablePromise edition input before words a after words′
 some-table edition input before words t =
-    let (a, after, words′, p) = some-read strict edition input before words in
+    let (a, after, words′, p) = some-read strict edition input before words t in
     (a, after, words′, record { reads = p; lists = λ few room enough. text-whole edition input before words t (p .answers) (p .rows) enough few room })
+
+-- what is printed from
+pub some-print : (edition : ℕ) (input : List ℕ) → T (areBytes input) → (a : declared.Reply) × PrintPromise edition input a
+some-print edition input t = let (a, after, words, p) = some-table edition input (replicate (rowsLent * rowWidth) 0) (replicate wordsBorrowed 0) t in (a, record { after = after; words = words; table = p })
 
 -- the line of an input that is too long
 pub some-long-line : (line : List ℕ) × LongPromise line

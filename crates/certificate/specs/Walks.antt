@@ -3,20 +3,18 @@
 use Prim.Native.Nat.{ℕ}
 use mathlib.Core.List.{List}
 use mathlib.Core.Path.{_≡_, sym, subst}
-use lib.Dec.{T}
 use lib.ListN.{length}
 use Rattle.meaning.specs.Told.{Strictness}
-use Rattle.laws.specs.Logic.{areBytes}
 use Rattle.laws.specs.Walks.{Walked, read-walks, written-walks}
 use Rattle.table.specs.declared.reply.Reply as declared
 use Rattle.reader.specs.Promises.{ReadsBy}
 use Rattle.writer.specs.Promise.{WritePromise}
 use Rattle.certificate.specs.Lent.{firstRows, rows-read, accepted-call, written-call}
 
-pub read-rows-walk : {w : Strictness} {edition : ℕ} {input before words after words′ : List ℕ} {a : declared.Reply} → T (areBytes input) → ReadsBy w edition input before words a after words′ → a .answer ≡ 0 → (envelopes : ℕ) × Walked (firstRows (a .rows) after) envelopes
-read-rows-walk {w} {edition} {input} t p z =
+pub read-rows-walk : {w : Strictness} {edition : ℕ} {input before words after words′ : List ℕ} {a : declared.Reply} → ReadsBy w edition input before words a after words′ → a .answer ≡ 0 → (envelopes : ℕ) × Walked (firstRows (a .rows) after) envelopes
+read-rows-walk {w} {edition} {input} p z =
     let (place, found, is, f) = accepted-call p z in
-    let (envelopes, walk) = read-walks w edition input place found t is in
+    let (envelopes, walk) = read-walks w edition input place found (p .bytes) is in
     (envelopes, subst (λ (x : List ℕ). Walked x envelopes) (sym (rows-read f)) walk)
 
 pub written-rows-walk : {edition : ℕ} {rows pool before after : List ℕ} {a : declared.Reply} → WritePromise edition rows pool before a after → a .answer ≡ 0 → (envelopes : ℕ) × Walked rows envelopes

@@ -1,9 +1,9 @@
 -- What the listing programs' body promises, over `meaning`'s `listing`; nothing here speaks of standard input or output.
-use Prim.Native.Nat.{ℕ, _≤_, _<_}
+use Prim.Native.Nat.{ℕ, _*_, _≤_, _<_}
 use mathlib.Core.List.{List, [], _++_}
 use mathlib.Core.Path.{_≡_}
-use lib.ListN.{length}
-use Rattle.meaning.specs.Memory.{roomOf, wordsBorrowed}
+use lib.ListN.{length, replicate}
+use Rattle.meaning.specs.Memory.{rowWidth, roomOf, wordsBorrowed}
 use Rattle.meaning.specs.Listing.{inputMost, rowsLent, listing}
 use Rattle.listing.specs.declared.Piece.{Piece}
 use Rattle.listing.specs.Text.{textAt}
@@ -14,6 +14,12 @@ use Rattle.reader.specs.Promises.{ReadPromise}
 pub record TablePromise (edition : ℕ) (input before words : List ℕ) (answer : Reply) (after words′ : List ℕ) : Type 0 where
   pub reads : ReadPromise edition input before words answer after words′
   pub lists : length input ≤ inputMost → roomOf before ≡ rowsLent → wordsBorrowed ≤ length words → textAt (answer .answer) (answer .place) (answer .rows) after input 0 0 ≡ listing edition input
+
+-- "lends 3,072 rows": the answer is the reader's, lent zeros for as many rows and sixteen words
+pub record PrintPromise (edition : ℕ) (input : List ℕ) (answer : Reply) : Type 0 where
+  pub after : List ℕ
+  pub words : List ℕ
+  pub table : TablePromise edition input (replicate (rowsLent * rowWidth) 0) (replicate wordsBorrowed 0) answer after words
 
 -- "(longer: the one line `too long`)": these bytes are the listing of any longer input, in any edition
 pub record LongPromise (bytes : List ℕ) : Type 0 where

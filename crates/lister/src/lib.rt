@@ -1,13 +1,16 @@
 // The body of document 01's listing programs: "reads at most 65,536 bytes from standard input (longer: the one line `too long`), lends 3,072 rows".
 // No contract can speak of what a program reads or writes. Promised are the text of `read_table`, which is the listing, its pieces, which leave
-// no gap (`listing::next`), and the line of `too_long`. Of `list` and what prints it is proved that they are safe and end; what they
-// hand to standard output is run and compared.
+// no gap (`listing::next`), how much `print` lends, which inputs are too long, and the line of `too_long`. Of `list` it is proved that it is safe
+// and ends; what is handed to standard output is run and compared.
 use libc::STDOUT_FILENO;
 use listing::Piece;
 use table::reply::Reply;
 use table::rows::ROW_NUMBERS;
 use words::WORDS_BORROWED;
-ghost use Rattle.lister.specs.Promise.{TablePromise, LongPromise, Turned};
+ghost use mathlib.Core.Path.{_≡_};
+ghost use lib.Dec.{ltb};
+ghost use Rattle.meaning.specs.Listing.{inputMost};
+ghost use Rattle.lister.specs.Promise.{TablePromise, PrintPromise, LongPromise, Turned};
 
 const INPUT_MOST: usize = 65536;
 
@@ -17,12 +20,19 @@ const ROWS_LENT: usize = 3072;
 pub fn list(edition: u32, from: i32) {
     let mut input = [0u8; 65537];
     let n = io::read_full(from, &mut input);
-    if INPUT_MOST < n {
+    if is_long(n) {
         let line = too_long();
         io::write_all(STDOUT_FILENO, &line);
         return;
     }
     print(edition, &input[..n]);
+}
+
+// Takes how many bytes were read. Answers whether they are too long.
+fn is_long(n: usize) -> bool
+    ensures { λ r. ⌜ r ≡ ltb inputMost n ⌝ }
+{
+    INPUT_MOST < n
 }
 
 // "(longer: the one line `too long`)"
@@ -32,12 +42,15 @@ pub fn too_long() -> [u8; 9]
     [b't', b'o', b'o', b' ', b'l', b'o', b'n', b'g', b'\n']
 }
 
-// Lists this input. "lends 3,072 rows"; and the words that the reader borrows.
-fn print(edition: u32, input: &[u8]) {
+// Lists this input. "lends 3,072 rows"; and the words that the reader borrows. Answers what the reader answered.
+pub fn print(edition: u32, input: &[u8]) -> Reply
+    ensures { λ r. ⌜ PrintPromise edition (now (input .entry)) r ⌝ }
+{
     let mut rows = [0u32; ROWS_LENT * ROW_NUMBERS];
     let mut words = [0u32; WORDS_BORROWED];
     let table = read_table(edition, input, &mut rows, &mut words);
     print_lines(table.answer, table.place, table.rows, &rows, input);
+    table
 }
 
 // The reader's answer and rows, whose text is the listing.

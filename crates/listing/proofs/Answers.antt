@@ -12,7 +12,7 @@ use Rattle.listing.specs.Text.{rowOf, viewOf, linesOf, textAt}
 use Rattle.listing.specs.Pieces.{pieceLeast, cursor, rowStop, lineStop, stopAt, NextPiece}
 use Rattle.listing.specs.Stages.{Wrote, RowPiece}
 use Rattle.listing.proofs.Written.{piece-of, no-piece, stops-at}
-use Rattle.listing.proofs.Cursors.{first-then, first-some, text-over, line-numbers, line-views}
+use Rattle.listing.specs.Cursors.{first-then, first-some, text-over, line-numbers, line-views}
 
 -- where a piece stops, by the tests of the code
 module _ (answer count : ℕ) (rows bytes : List ℕ) (line byte room : ℕ) where

@@ -1,6 +1,5 @@
 -- The laws that the proofs of several functions share.
 pub mod Written
 pub mod Numbers
-pub mod Cursors
 pub mod Pieces
 pub mod Answers

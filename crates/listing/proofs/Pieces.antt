@@ -15,7 +15,7 @@ use Rattle.listing.specs.Text.{rowOf, viewOf, viewFrom}
 use Rattle.listing.specs.Pieces.{pieceLeast, cursor, viewStop, rowStop, PieceOf}
 use Rattle.listing.specs.Stages.{Wrote, ViewPiece, RowPiece, fieldsOf}
 use Rattle.listing.proofs.Written.{wrote-as, piece-of, stops-at}
-use Rattle.listing.proofs.Cursors.{view-rest, view-chunk, hex-length, fields-some}
+use Rattle.listing.specs.Cursors.{view-rest, view-chunk, hex-length, fields-some}
 
 module _ (view : List ℕ) (gone line : ℕ) {before after : List ℕ} {end : ℕ} where
   pub view-ends : length view - gone ≤ (length before - 1) / 2 → Wrote before after 0 (viewFrom view gone ++ (0x0a ∷ [])) end → 1 ≤ end

@@ -4,3 +4,4 @@ pub mod Pieces
 pub mod Promised
 pub mod Listed
 pub mod Stages
+pub mod Cursors

@@ -3,11 +3,13 @@ use Prim.Native.Nat.{ℕ}
 use mathlib.Core.List.{List}
 use mathlib.Core.Bool.{Bool, true, false}
 use mathlib.Core.Path.{_≡_, ap, sym, _∙_}
+use lib.Dec.{T}
 use Rattle.meaning.specs.Basics.{pick}
 use Rattle.meaning.specs.Told.{Edition, known, unknown, labelOf}
 use Rattle.meaning.specs.Codes.{canAsk}
 use Rattle.meaning.specs.Memory.{Reply, reply, roomOf}
 use Rattle.meaning.specs.Present.{passed, checked, answeredBy, presentUnder, presentAnswer}
+use Rattle.laws.specs.Logic.{areBytes}
 use Rattle.laws.specs.Passing.{firstAt}
 use Rattle.laws.specs.PresentValues.{Walkable, passed-walkable, present-at}
 use Rattle.table.specs.declared.reply.Reply as declared
@@ -33,15 +35,15 @@ module _ (edition : Edition) (rows pool : List ℕ) (code : ℕ) {r : Checked} (
 
 -- The edition's number and the code
 
-module _ (number : ℕ) (rows pool : List ℕ) (code : ℕ) {a : declared.Reply} where
+module _ (number : ℕ) (rows pool : List ℕ) (code : ℕ) (t : T (areBytes pool)) {a : declared.Reply} where
   pub in-none : labelOf number ≡ unknown → replyOf a ≡ reply 1 0 0 → PresentPromise number rows pool code a
   unfolding presentAnswer
-  in-none q e = record { answers = e ∙ ap (presentUnder rows pool code) (sym q) }
+  in-none q e = record { bytes = t; answers = e ∙ ap (presentUnder rows pool code) (sym q) }
 
   module _ {edition : Edition} (q : labelOf number ≡ known edition) {b : Bool} (c : b ≡ canAsk code) where
     in-edition : {x : Bool} → b ≡ x → replyOf a ≡ pick x (answeredBy rows code (checked edition rows pool)) (reply 17 0 0) → PresentPromise number rows pool code a
     unfolding presentAnswer
-    in-edition h e = record { answers = e ∙ ap (λ (z : Bool). pick z (answeredBy rows code (checked edition rows pool)) (reply 17 0 0)) (sym h ∙ c) ∙ ap (presentUnder rows pool code) (sym q) }
+    in-edition h e = record { bytes = t; answers = e ∙ ap (λ (z : Bool). pick z (answeredBy rows code (checked edition rows pool)) (reply 17 0 0)) (sym h ∙ c) ∙ ap (presentUnder rows pool code) (sym q) }
 
     pub can-be-asked : b ≡ true → replyOf a ≡ answeredBy rows code (checked edition rows pool) → PresentPromise number rows pool code a
     can-be-asked h e = in-edition h e

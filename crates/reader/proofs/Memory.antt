@@ -4,7 +4,7 @@ use mathlib.Core.List.{List, [], _∷_, _++_}
 use mathlib.Core.Bool.{Bool, true, false}
 use mathlib.Core.Path.{_≡_, refl, ap, sym, _∙_, subst}
 use native.Mathlib.Omega.{arith}
-use lib.Dec.{leb}
+use lib.Dec.{T, leb}
 use lib.ListN.{length, take, drop, length-drop}
 use lib.Seq.{take-all}
 use borrow.Author.Tests.{le-leb, lt-leb, leb-true}
@@ -15,6 +15,7 @@ use Rattle.meaning.specs.Skips.{Rank}
 use Rattle.meaning.specs.Words.{wordsOf}
 use Rattle.meaning.specs.Memory.{reply, tableOf, roomOf, laidOver, roomWith, answerBy, rowsBy, wordsBy}
 use Rattle.meaning.specs.Payload.{partStart, partEnd, partBytes, payloadStart, payloadEnd, payloadBytes}
+use Rattle.laws.specs.Logic.{areBytes}
 use Rattle.laws.specs.Rows.{putAll}
 use Rattle.laws.specs.Hopping.{rankAt, ranksAt, ranks-next}
 use Rattle.laws.specs.Skipping.{skipsLaid, laid-kind, laid-level, all-laid-over}
@@ -82,9 +83,9 @@ module _ (w : Strictness) (edition : ℕ) (input m left : List ℕ) where
   unfolding fillingOf
   header-refused {refusal = refusal} {p = p} h a = let is = rw h at (a .is) in refused-by refusal p (readBy w edition input) is
 
-  pub refusal-answered : (before words : List ℕ) {r : Stage} {refusal p : ℕ} {answer : Reply} → r ≡ Refused p refusal → Surveyed w edition input m r left → replyOf answer ≡ reply refusal p 0 → ReadsBy w edition input before words answer before words
+  pub refusal-answered : T (areBytes input) → (before words : List ℕ) {r : Stage} {refusal p : ℕ} {answer : Reply} → r ≡ Refused p refusal → Surveyed w edition input m r left → replyOf answer ≡ reply refusal p 0 → ReadsBy w edition input before words answer before words
   unfolding answerBy rowsBy wordsBy
-  refusal-answered before words h a s = let q = header-refused h a in record { answers = s ∙ rw q refl; rows = rw q refl; carries = rw q refl }
+  refusal-answered t before words h a s = let q = header-refused h a in record { bytes = t; answers = s ∙ rw q refl; rows = rw q refl; carries = rw q refl }
 
 -- .. of a strict reading, whatever was lent
 pub counted : (edition : ℕ) (input m left : List ℕ) {r : Stage} → Surveyed strict edition input m r left → Counted edition input r
@@ -111,12 +112,12 @@ begins-with (first b inner rest n t z e more) q = (b, cc q)
 
 module _ (w : Strictness) (edition : ℕ) (input m words : List ℕ) (place n : ℕ) (a : AcceptedHeader w edition input place n) where
   -- "14: all well, but rows exceed the room"
-  pub too-many : roomWith m words < n → ReadsBy w edition input m words (record { answer = 14; place = place; rows = n }) m words
+  pub too-many : T (areBytes input) → roomWith m words < n → ReadsBy w edition input m words (record { answer = 14; place = place; rows = n }) m words
   unfolding answerBy rowsBy wordsBy
-  too-many h =
+  too-many t h =
       let c = a .count in
       let q : leb (length (a .rows)) (roomWith m words) ≡ false = lt-leb (length (a .rows)) (roomWith m words) (omega arith) in
-      record { answers = rw (a .is, q, c) refl; rows = rw (a .is, q) refl; carries = rw (a .is, q) refl }
+      record { bytes = t; answers = rw (a .is, q, c) refl; rows = rw (a .is, q) refl; carries = rw (a .is, q) refl }
 
   tabled : AtMost envelopesMost (ranksRead (a .rows))
   tabled = accepted-tabled w edition input place (a .rows) (a .is)
@@ -159,14 +160,14 @@ module _ (w : Strictness) (edition : ℕ) (input m words : List ℕ) (place n : 
       }
 
       -- the rows, then their skip numbers, then the words
-      pub all-filled : (words′ : List ℕ) → words′ ≡ laidOver words (wordsOf (ranksAt left n 0)) → ReadsBy w edition input m words (record { answer = 0; place = place; rows = n }) left words′
+      pub all-filled : T (areBytes input) → (words′ : List ℕ) → words′ ≡ laidOver words (wordsOf (ranksAt left n 0)) → ReadsBy w edition input m words (record { answer = 0; place = place; rows = n }) left words′
       unfolding answerBy rowsBy wordsBy
-      all-filled words′ d =
+      all-filled t words′ d =
           let c = a .count in
           let q : leb (length (a .rows)) (roomWith m words) ≡ true = le-leb (length (a .rows)) (roomWith m words) (omega arith) in
           let laid : left ≡ laidOver m (tableOf (a .rows))
           = l ∙ ap (λ (x : List ℕ). skipsLaid x n n) (sym kept) ∙ ap (λ (x : ℕ). skipsLaid (putAll (a .rows) 0 m) x x) (sym c) ∙ all-laid-over (a .rows) m (omega (arith, enough h .0)) in
-          record { answers = rw (a .is, q, c) refl; rows = rw (a .is, q) laid; carries = rw (a .is, q) (d ∙ ap (λ (x : List Rank). laidOver words (wordsOf x)) (beside-ranks (a .rows) m mid n kept c (enough h .0) left l same)) }
+          record { bytes = t; answers = rw (a .is, q, c) refl; rows = rw (a .is, q) laid; carries = rw (a .is, q) (d ∙ ap (λ (x : List Rank). laidOver words (wordsOf x)) (beside-ranks (a .rows) m mid n kept c (enough h .0) left l same)) }
 
 -- lent no rows, the first pass leaves them as they are
 pub nothing-lent : (w : Strictness) (edition : ℕ) (input m words : List ℕ) (none : List ℕ) (r : Reply) (left words′ : List ℕ) → length none ≡ 0 → ReadsBy w edition input (none ++ m) words r left words′ → ReadsBy w edition input m words r left words′

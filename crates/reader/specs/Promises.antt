@@ -2,11 +2,13 @@
 use Prim.Native.Nat.{ℕ, _+_, _-_, _≤_}
 use mathlib.Core.List.{List}
 use mathlib.Core.Path.{_≡_}
+use lib.Dec.{T}
 use lib.ListN.{length, take, drop}
 use Rattle.meaning.specs.Told.{Strictness, strict, tolerant}
 use Rattle.meaning.specs.Headers.{Placed, refused, accepted, envelopeMost, readBy}
 use Rattle.meaning.specs.Memory.{answerBy, rowsBy, wordsBy}
 use Rattle.meaning.specs.Payload.{payloadStart, payloadEnd, payloadBytes}
+use Rattle.laws.specs.Logic.{areBytes}
 use Rattle.laws.specs.Pouring.{headerMost}
 use Rattle.laws.specs.Finishing.{finish}
 use Rattle.table.specs.declared.reply.Reply.{Reply}
@@ -16,8 +18,9 @@ use Rattle.read_rows.specs.declared.Stage.the-variants.{Refused, Go}
 use Rattle.read_envelopes.specs.Headers.{fillingOf, PlaceFits}
 use Rattle.reader.specs.declared.Part.{Part}
 
--- lent rows and words before the call, and after it
+-- lent rows and words before the call, and after it; what is lent as bytes holds bytes
 pub record ReadsBy (strictness : Strictness) (edition : ℕ) (input before words : List ℕ) (answer : Reply) (after words′ : List ℕ) : Type 0 where
+  pub bytes : T (areBytes input)
   pub answers : replyOf answer ≡ answerBy strictness edition input before words
   pub rows : after ≡ rowsBy strictness edition input before words
   pub carries : words′ ≡ wordsBy strictness edition input before words

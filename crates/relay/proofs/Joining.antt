@@ -68,22 +68,22 @@ module _ {edition : ℕ} {e : Edition} {input table pool : List ℕ} {place n ma
 
   module _ (rows words output : List ℕ) {size count long : ℕ} (s : size ≡ envelopeSize many) (c : count ≡ roomOf table + n) (l : long ≡ size + place) where
     -- "14, room for the joined rows, at the joined header's length with the rows needed"
-    pub rows-short : roomWith rows words < count → RelayPromise edition input table pool rows words output (record { answer = 14; place = long; rows = count }) rows words output
+    pub rows-short : T (areBytes input) → T (areBytes pool) → roomWith rows words < count → RelayPromise edition input table pool rows words output (record { answer = 14; place = long; rows = count }) rows words output
     unfolding relayAnswer relayRows relayWords relayOutput
-    rows-short h =
+    rows-short t u h =
         let no : leb (joinedCount joint) (roomWith rows words) ≡ false = lt-leb (joinedCount joint) (roomWith rows words) (omega (arith, all-rows)) in
         let a : long ≡ length (bytesOf joint) = omega (arith, all-long) in
         let b : count ≡ joinedCount joint = omega (arith, all-rows) in
-        record { answers = rw (k .is, no, a, b) refl; joins = rw (k .is, no) refl; carries = rw (k .is, no) refl; leaves = rw (k .is, no) refl }
+        record { bytes = t; pool-bytes = u; answers = rw (k .is, no, a, b) refl; joins = rw (k .is, no) refl; carries = rw (k .is, no) refl; leaves = rw (k .is, no) refl }
 
     -- "16"
-    pub output-short : {r : Reply} → count ≤ roomWith rows words → length output < long → replyOf r ≡ reply 16 long 0 → RelayPromise edition input table pool rows words output r rows words output
+    pub output-short : T (areBytes input) → T (areBytes pool) → {r : Reply} → count ≤ roomWith rows words → length output < long → replyOf r ≡ reply 16 long 0 → RelayPromise edition input table pool rows words output r rows words output
     unfolding relayAnswer relayRows relayWords relayOutput
-    output-short h g t =
+    output-short t u h g q =
         let fits : leb (joinedCount joint) (roomWith rows words) ≡ true = le-leb (joinedCount joint) (roomWith rows words) (omega (arith, all-rows)) in
         let no : leb (length (bytesOf joint)) (length output) ≡ false = lt-leb (length (bytesOf joint)) (length output) (omega (arith, all-long)) in
         let a : long ≡ length (bytesOf joint) = omega (arith, all-long) in
-        record { answers = t ∙ rw (k .is, fits, no, a) refl; joins = rw (k .is, fits, no) refl; carries = rw (k .is, fits, no) refl; leaves = rw (k .is, fits, no) refl }
+        record { bytes = t; pool-bytes = u; answers = q ∙ rw (k .is, fits, no, a) refl; joins = rw (k .is, fits, no) refl; carries = rw (k .is, fits, no) refl; leaves = rw (k .is, fits, no) refl }
 
     module _ (t : T (areBytes input)) (u : T (areBytes pool)) (h : count ≤ roomWith rows words) (g : long ≤ length output) where
       pub new-fits : ExtensionFits e table pool many output
@@ -111,4 +111,4 @@ module _ {edition : ℕ} {e : Edition} {input table pool : List ℕ} {place n ma
         pub joined-filled : {r : Reply} {rows′ words′ : List ℕ} → ReadsBy strict edition (putMid size (length laid - size) laid part) rows words r rows′ words′ → RelayPromise edition input table pool rows words output r rows′ words′ (putMid size (length laid - size) laid part)
         joined-filled {r} {rows′} {words′} a =
             let b = subst (λ (z : List ℕ). ReadsBy strict edition z rows words r rows′ words′) whole-laid a in
-            record { answers = b .answers ∙ sym (good .answers); joins = b .rows ∙ sym (good .rows-laid); carries = b .carries ∙ sym (good .words-laid); leaves = whole-laid ∙ sym (good .header-laid) }
+            record { bytes = t; pool-bytes = u; answers = b .answers ∙ sym (good .answers); joins = b .rows ∙ sym (good .rows-laid); carries = b .carries ∙ sym (good .words-laid); leaves = whole-laid ∙ sym (good .header-laid) }

@@ -4,7 +4,7 @@ use mathlib.Core.List.{List}
 use mathlib.Core.Bool.{Bool, true, false, _&&_}
 use mathlib.Core.Path.{_≡_, refl, ap, sym, _∙_}
 use native.Mathlib.Omega.{arith}
-use lib.Dec.{ltb, leb}
+use lib.Dec.{T, ltb, leb}
 use lib.ListN.{length, take}
 use borrow.Author.Tests.{ltb-false, lt-leb, lt-ltb, le-ltb}
 use Rattle.meaning.specs.Basics.{pick}
@@ -14,7 +14,7 @@ use Rattle.meaning.specs.Headers.{accepted, envelopeMost, envelopesMost, header
 use Rattle.meaning.specs.Writing.{Envelope, Plan, stuck, plan, envelopeSize, withinLimit}
 use Rattle.meaning.specs.Memory.{reply, skipsHeld, wordsRead}
 use Rattle.meaning.specs.Relay.{extensionPlan, relayed, unrelayed, jointOf, joinedPlan, behindOld, relayUnder, relay, relayAnswer, relayRows, relayWords, relayOutput}
-use Rattle.laws.specs.Logic.{both-hold}
+use Rattle.laws.specs.Logic.{areBytes, both-hold}
 use Rattle.laws.specs.Rows.{cellsAt, cells-are}
 use Rattle.laws.specs.Ties.{read-as}
 use Rattle.laws.specs.JoinedRead.{refused-as-read}
@@ -79,16 +79,20 @@ module _ {input : List ℕ} {n many : ℕ} (c : EnvelopesCounted input n) where
 -- Refusals
 
 module _ (edition : ℕ) (input table pool rows words output : List ℕ) where
-  unrelayed-is : (refusal place : ℕ) {r : Reply} → relay edition input table pool ≡ unrelayed refusal place → replyOf r ≡ reply refusal place 0 → RelayPromise edition input table pool rows words output r rows words output
+  -- the old input and the pool hold bytes
+  abbrev pub LentBytes : Type 0
+  LentBytes = T (areBytes input) × T (areBytes pool)
+
+  unrelayed-is : LentBytes → (refusal place : ℕ) {r : Reply} → relay edition input table pool ≡ unrelayed refusal place → replyOf r ≡ reply refusal place 0 → RelayPromise edition input table pool rows words output r rows words output
   unfolding relayAnswer relayRows relayWords relayOutput
-  unrelayed-is refusal place q s = record { answers = s ∙ rw q refl; joins = rw q refl; carries = rw q refl; leaves = rw q refl }
+  unrelayed-is lent refusal place q s = record { bytes = lent .0; pool-bytes = lent .1; answers = s ∙ rw q refl; joins = rw q refl; carries = rw q refl; leaves = rw q refl }
 
-  pub no-edition : {label : Label} {r : Reply} → labelIs label ≡ labelOf edition → label ≡ Unknown → replyOf r ≡ reply 1 0 0 → RelayPromise edition input table pool rows words output r rows words output
+  pub no-edition : LentBytes → {label : Label} {r : Reply} → labelIs label ≡ labelOf edition → label ≡ Unknown → replyOf r ≡ reply 1 0 0 → RelayPromise edition input table pool rows words output r rows words output
   unfolding relay
-  no-edition k u s = unrelayed-is 1 0 (ap (relayUnder input table pool) (sym k ∙ ap labelIs u)) s
+  no-edition lent k u s = unrelayed-is lent 1 0 (ap (relayUnder input table pool) (sym k ∙ ap labelIs u)) s
 
-  pub no-header : {old : Stage} {refusal place : ℕ} {r : Reply} → Counted edition input old → old ≡ Refused place refusal → replyOf r ≡ reply refusal place 0 → RelayPromise edition input table pool rows words output r rows words output
-  no-header {refusal = refusal} {place = place} c g s = unrelayed-is refusal place (refused-as-read edition input table pool refusal place (c .refuses _ _ g)) s
+  pub no-header : LentBytes → {old : Stage} {refusal place : ℕ} {r : Reply} → Counted edition input old → old ≡ Refused place refusal → replyOf r ≡ reply refusal place 0 → RelayPromise edition input table pool rows words output r rows words output
+  no-header lent {refusal = refusal} {place = place} c g s = unrelayed-is lent refusal place (refused-as-read edition input table pool refusal place (c .refuses _ _ g)) s
 
   module _ {label : Label} {known-as : declared.Edition} (k : labelIs label ≡ labelOf edition) (u : label ≡ Known known-as) {place n : ℕ} (a : AcceptedHeader strict edition input place n) where
     abbrev e : Edition
@@ -107,8 +111,8 @@ module _ (edition : ℕ) (input table pool rows words output : List ℕ) where
         ∙ ap (λ (x : List Rattle.meaning.specs.Writing.Cell). joinedPlan e (take place input) (a .rows) (skipsHeld table) (extensionPlan e x)) (cells-are pool table)
 
     module _ {new : Checked} (v : new ≡ checkedOf (newVerdict (skipsHeld table) (extensionPlan e (cellsAt pool table 0)))) where
-      pub no-table : {answer row : ℕ} {r : Reply} → new ≡ Bad answer row → replyOf r ≡ reply answer row 0 → RelayPromise edition input table pool rows words output r rows words output
-      no-table {answer} {row} b s = unrelayed-is answer row (relay-is ∙ at (skipsHeld table) (extensionPlan e (cellsAt pool table 0)) (sym v ∙ b)) s
+      pub no-table : LentBytes → {answer row : ℕ} {r : Reply} → new ≡ Bad answer row → replyOf r ≡ reply answer row 0 → RelayPromise edition input table pool rows words output r rows words output
+      no-table lent {answer} {row} b s = unrelayed-is lent answer row (relay-is ∙ at (skipsHeld table) (extensionPlan e (cellsAt pool table 0)) (sym v ∙ b)) s
         where
           at : (skips : Skips) (p : Plan) → checkedOf (newVerdict skips p) ≡ Bad answer row → joinedPlan e (take place input) (a .rows) skips p ≡ unrelayed answer row
           at skips (stuck i) q = let x : 15 ≡ answer = cc q in let y : i ≡ row = cc q in rw (x, y) refl
@@ -138,10 +142,10 @@ module _ (edition : ℕ) (input table pool rows words output : List ℕ) where
             relay-is ∙ ap (λ (x : Skips). joinedPlan e (take place input) (a .rows) x (extensionPlan e (cellsAt pool table 0))) s
             ∙ ap (joinedPlan e (take place input) (a .rows) right) p ∙ ap (λ (x : Bool). pick x (relayed (jointOf e bytes (take place input) (a .rows))) (unrelayed 5 0)) (sym q)
 
-        pub past-limit : {b : Bool} {r : Reply} → OneMoreFits input many b → b ≡ false → replyOf r ≡ reply 5 0 0 → RelayPromise edition input table pool rows words output r rows words output
-        past-limit {b} f over t =
+        pub past-limit : LentBytes → {b : Bool} {r : Reply} → OneMoreFits input many b → b ≡ false → replyOf r ≡ reply 5 0 0 → RelayPromise edition input table pool rows words output r rows words output
+        past-limit lent {b} f over t =
             let (bytes, vs, p, s, m) = planned in
-            unrelayed-is 5 0 (limits-decide b f bytes vs p s m ∙ ap (λ (x : Bool). pick x (relayed (jointOf e bytes (take place input) (a .rows))) (unrelayed 5 0)) over) t
+            unrelayed-is lent 5 0 (limits-decide b f bytes vs p s m ∙ ap (λ (x : Bool). pick x (relayed (jointOf e bytes (take place input) (a .rows))) (unrelayed 5 0)) over) t
 
         pub may-join : {b : Bool} → OneMoreFits input many b → b ≡ true → Joinable edition e input table pool place n many
         may-join {b} f holds =

@@ -1,9 +1,9 @@
--- The public promise: the answer, and the lent rows, words and output after the call, for every edition number, old input, new table and all that is lent.
+-- The public promise: the answer, and the lent rows, words and output after the call, for every edition number, old input, new table and all that is lent; what is lent as bytes holds bytes.
 use Prim.Native.Nat.{ℕ}
 use mathlib.Core.List.{List}
 use mathlib.Core.Bool.{Bool, true, _&&_}
 use mathlib.Core.Path.{_≡_}
-use lib.Dec.{ltb}
+use lib.Dec.{T, ltb}
 use lib.ListN.{length, take}
 use Rattle.meaning.specs.Told.{Edition, Told, strict}
 use Rattle.meaning.specs.Skips.{Skips, right, wrongAt}
@@ -11,6 +11,7 @@ use Rattle.meaning.specs.Headers.{Placed, accepted, envelopesMost, header}
 use Rattle.meaning.specs.Writing.{Envelope, Plan, stuck, plan, withinLimit}
 use Rattle.meaning.specs.Memory.{wordsRead}
 use Rattle.meaning.specs.Relay.{extensionPlan, relayed, jointOf, relay, relayAnswer, relayRows, relayWords, relayOutput}
+use Rattle.laws.specs.Logic.{areBytes}
 use Rattle.laws.specs.Rows.{cellsAt}
 use Rattle.table.specs.declared.reply.Reply.{Reply}
 use Rattle.table.specs.Reply.{replyOf}
@@ -19,6 +20,8 @@ use Rattle.write_rows.specs.Laying.{capped}
 use Rattle.write_envelopes.specs.Whole.{Verdict, bad, needs}
 
 pub record RelayPromise (edition : ℕ) (input table pool rows words output : List ℕ) (answer : Reply) (rows′ words′ output′ : List ℕ) : Type 0 where
+  pub bytes : T (areBytes input)
+  pub pool-bytes : T (areBytes pool)
   pub answers : replyOf answer ≡ relayAnswer edition input table pool rows words output
   pub joins : rows′ ≡ relayRows edition input table pool rows words output
   pub carries : words′ ≡ relayWords edition input table pool rows words output

@@ -3,12 +3,13 @@ use Prim.Native.Nat.{ℕ}
 use mathlib.Core.List.{List}
 use mathlib.Core.Bool.{Bool, true, false}
 use mathlib.Core.Path.{_≡_, refl, ap, sym, _∙_}
-use lib.Dec.{eqb}
+use lib.Dec.{T, eqb}
 use Rattle.meaning.specs.Basics.{pick}
 use Rattle.meaning.specs.Told.{strict}
 use Rattle.meaning.specs.Headers.{Placed, Answer, refused, accepted, readBy}
 use Rattle.meaning.specs.Memory.{Reply, reply, readReply, readMemory, roomWith, tableOf, wordsRead, answerBy, rowsBy, wordsBy}
 use Rattle.meaning.specs.Which.{Sorted, allowing, either, editionsOf, readEither, sorted, whichAnswer, whichRows, whichWords}
+use Rattle.laws.specs.Logic.{areBytes}
 use Rattle.table.specs.declared.reply.Reply as table
 use Rattle.table.specs.Reply.{replyOf}
 use Rattle.read_rows.specs.declared.Stage.{Stage}
@@ -28,6 +29,7 @@ module _ (input : List ℕ) where
       → sortedOf a ≡ sorted editions (replyOf r) → WhichPromise input before words a after words′
   unfolding whichAnswer whichRows whichWords answerBy rowsBy wordsBy
   filled edition editions {before} {words} {r = r} e q p s = record {
+    bytes = p .bytes;
     answers = s ∙ ap (λ (x : ℕ). sorted x (replyOf r)) (sym e) ∙ ap (sorted (editionsOf input)) (p .answers ∙ ap (readReply (roomWith before words)) (sym q));
     rows = p .rows ∙ ap (readMemory (roomWith before words) tableOf before) (sym q);
     carries = p .carries ∙ ap (readMemory (roomWith before words) wordsRead words) (sym q);
@@ -46,6 +48,6 @@ module _ (input : List ℕ) where
     unfolding editionsOf readEither
     by-first g h = filled 1 1 (rw (x .accepts _ _ g .is, y .refuses _ _ h) refl) (rw (x .accepts _ _ g .is, y .refuses _ _ h) refl)
 
-    pub by-neither : (before words : List ℕ) {p k place refusal : ℕ} → b ≡ Refused p k → d ≡ Refused place refusal → WhichPromise input before words (record { answer = refusal; place = place; rows = 0; editions = 0 }) before words
+    pub by-neither : T (areBytes input) → (before words : List ℕ) {p k place refusal : ℕ} → b ≡ Refused p k → d ≡ Refused place refusal → WhichPromise input before words (record { answer = refusal; place = place; rows = 0; editions = 0 }) before words
     unfolding editionsOf readEither whichAnswer whichRows whichWords
-    by-neither before words {refusal = refusal} g h = record { answers = rw (x .refuses _ _ g, y .refuses _ _ h) (pick-none (eqb refusal 0)); rows = rw (x .refuses _ _ g, y .refuses _ _ h) refl; carries = rw (x .refuses _ _ g, y .refuses _ _ h) refl }
+    by-neither t before words {refusal = refusal} g h = record { bytes = t; answers = rw (x .refuses _ _ g, y .refuses _ _ h) (pick-none (eqb refusal 0)); rows = rw (x .refuses _ _ g, y .refuses _ _ h) refl; carries = rw (x .refuses _ _ g, y .refuses _ _ h) refl }

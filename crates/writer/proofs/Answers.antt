@@ -4,7 +4,7 @@ use mathlib.Core.List.{List, []}
 use mathlib.Core.Bool.{Bool, true, false}
 use mathlib.Core.Path.{_≡_, refl, ap, sym, _∙_}
 use native.Mathlib.Omega.{arith}
-use lib.Dec.{leb}
+use lib.Dec.{T, leb}
 use lib.ListN.{length}
 use borrow.Author.Tests.{le-leb, lt-leb}
 use Rattle.meaning.specs.Basics.{pick}
@@ -13,6 +13,7 @@ use Rattle.meaning.specs.Writing.{Cell, Envelope, Plan, stuck, plan, wholePlan,
 use Rattle.meaning.specs.Skips.{Skips, right, wrongAt}
 use Rattle.meaning.specs.Memory.{cellsOf, skipsHeld, reply, laidOver, write, writeAnswer, writeOutput, roomOf}
 use Rattle.meaning.specs.Present.{passed as passes, checkOf, checked}
+use Rattle.laws.specs.Logic.{areBytes}
 use Rattle.laws.specs.Rows.{cellsAt, cells-are}
 use Rattle.meaning.specs.Headers.{envelopesMost}
 use Rattle.write_envelopes.specs.Whole.{Verdict, bad, needs, verdictOf, verdict, checkedOf, bytesOfPlan, Writable}
@@ -109,14 +110,14 @@ module _ (edition : Edition) (pool rows before : List ℕ) where
 
 -- The edition's number
 
-module _ (number : ℕ) (rows pool before : List ℕ) {answer : Reply} {after : List ℕ} where
+module _ (number : ℕ) (rows pool before : List ℕ) (t : T (areBytes pool)) {answer : Reply} {after : List ℕ} where
   pub in-edition : {edition : Edition} → labelOf number ≡ known edition → WrittenAs (writeRows edition (length before) (cellsOf pool rows) (skipsHeld rows)) rows before answer after → WritePromise number rows pool before answer after
   unfolding writeAnswer writeOutput write
-  in-edition q x = record { answers = x .answers ∙ rw q refl; leaves = x .leaves ∙ rw q refl }
+  in-edition q x = record { bytes = t; answers = x .answers ∙ rw q refl; leaves = x .leaves ∙ rw q refl }
 
   pub in-none : labelOf number ≡ unknown → replyOf answer ≡ reply 1 0 0 → after ≡ before → WritePromise number rows pool before answer after
   unfolding writeAnswer writeOutput write
-  in-none q e m = record { answers = e ∙ rw q refl; leaves = rw q m }
+  in-none q e m = record { bytes = t; answers = e ∙ rw q refl; leaves = rw q m }
 
 -- The check alone
 

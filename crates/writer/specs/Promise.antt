@@ -1,7 +1,8 @@
--- The public promise: the answer, and the whole output after the call, for every edition number, slice of rows, pool and output.
+-- The public promise: the answer, and the whole output after the call, for every edition number, slice of rows, pool and output; what is lent as bytes holds bytes.
 use Prim.Native.Nat.{ℕ}
 use mathlib.Core.List.{List}
 use mathlib.Core.Path.{_≡_}
+use lib.Dec.{T}
 use Rattle.meaning.specs.Skips.{Skips, right, wrongAt}
 use Rattle.meaning.specs.Headers.{envelopesMost}
 use Rattle.meaning.specs.Writing.{Plan, stuck, plan, fine, Written}
@@ -10,10 +11,12 @@ use Rattle.write_envelopes.specs.declared.measure.Checked.{Checked}
 use Rattle.write_envelopes.specs.declared.measure.Checked.the-variants.{Bad, Needs}
 use Rattle.meaning.specs.Memory.{roomOf, writeReply, writeMemory, writeAnswer, writeOutput}
 use Rattle.meaning.specs.Present.{Judgement, passed, stopped}
+use Rattle.laws.specs.Logic.{areBytes}
 use Rattle.table.specs.declared.reply.Reply.{Reply}
 use Rattle.table.specs.Reply.{replyOf}
 
 pub record WritePromise (edition : ℕ) (rows pool before : List ℕ) (answer : Reply) (after : List ℕ) : Type 0 where
+  pub bytes : T (areBytes pool)
   pub answers : replyOf answer ≡ writeAnswer edition rows pool before
   pub leaves : after ≡ writeOutput edition rows pool before
 

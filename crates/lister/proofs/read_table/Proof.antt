@@ -1,6 +1,4 @@
--- `read_table`: the reader's promise, and that its text is the listing, since the input is a slice of bytes.
-use native.Mathlib.Omega.{arith}
-use Rattle.laws.specs.Logic.{slice-of-bytes}
+-- `read_table`: the reader's promise, and that its text is the listing.
 use Rattle.lister.proofs.Tables.{table-listed}
 use borrow.Author.Needs.{needs}
 use Rattle.lister.proofs.read_table.Statement.{statement}
@@ -16,7 +14,7 @@ same-length-2 : tie.Need-same-length-2
 same-length-2 c = search needs
 
 returns : tie.Need-returns
-returns c = let a = c .before .before .before .before .before .before .before .before .before .before .args in let known = (c .before .before .before .before .before .before .before .before .before .shared-slice-known) in table-listed (a .edition) (a .input .now) (a .rows .now) (a .words .now) _ _ _ (slice-of-bytes (a .input .now) (λ i. omega (arith, known .given i))) (c .before .before .before .before .read .ensures)
+returns c = let a = c .before .before .before .before .before .before .before .before .before .before .args in table-listed (a .edition) (a .input .now) (a .rows .now) (a .words .now) _ _ _ (c .before .before .before .before .read .ensures)
 
 pub read-table-spec : {M : Type 1} → statement M
 read-table-spec = tie.close (tie.spec read-requires same-length same-length-2 returns)

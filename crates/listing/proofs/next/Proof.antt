@@ -1,7 +1,7 @@
 -- `next`: the first line, the next piece of a row, or nothing behind the last line.
 use native.Mathlib.Omega.{arith}
 use borrow.Author.Needs.{needs}
-use Rattle.listing.proofs.Cursors.{lines-within}
+use Rattle.listing.specs.Cursors.{lines-within}
 use Rattle.listing.proofs.Answers.{next-short, next-first, next-over, next-row}
 use Rattle.listing.proofs.next.Statement.{statement}
 use Rattle.listing.proofs.next.Tie as tie

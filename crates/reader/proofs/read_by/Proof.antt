@@ -1,5 +1,7 @@
 -- `read_by`: the first pass refuses, or counts the rows of an accepted header for the second.
 use mathlib.Core.List.{_++_}
+use native.Mathlib.Omega.{arith}
+use Rattle.laws.specs.Logic.{slice-of-bytes}
 use Rattle.reader.proofs.Memory.{header-counted, nothing-lent, refusal-answered}
 use borrow.Author.Needs.{needs}
 use Rattle.reader.proofs.read_by.Statement.{statement}
@@ -30,7 +32,7 @@ same-length : tie.Need-same-length
 same-length c = search needs
 
 returns : tie.Need-returns
-returns c = let a = c .before .before .before .before .before .before .before .before .before .before .before .args in let survey = (c .before .before .before .before .before .before .survey) in nothing-lent _ (a .edition) (a .input .now) (a .rows .now) (a .words .now) (survey .last .1 .1 .1 .0) _ _ _ (survey .kept .1 .1 .1 .0) (refusal-answered _ (a .edition) (a .input .now) _ _ (survey .last .1 .1 .1 .0 ++ a .rows .now) (a .words .now) (c .before .before .counted .given .1) (survey .ensures) (c .refused .ensures))
+returns c = let a = c .before .before .before .before .before .before .before .before .before .before .before .args in let survey = (c .before .before .before .before .before .before .survey) in nothing-lent _ (a .edition) (a .input .now) (a .rows .now) (a .words .now) (survey .last .1 .1 .1 .0) _ _ _ (survey .kept .1 .1 .1 .0) (refusal-answered _ (a .edition) (a .input .now) _ _ (slice-of-bytes (a .input .now) (λ i. omega (arith, c .before .before .before .before .before .before .before .before .before .before .shared-slice-known .given i))) (survey .last .1 .1 .1 .0 ++ a .rows .now) (a .words .now) (c .before .before .counted .given .1) (survey .ensures) (c .refused .ensures))
 
 same-length-2 : tie.Need-same-length-2
 same-length-2 c = search needs

@@ -27,13 +27,13 @@ room-with-requires : tie.Need-room-with-requires
 room-with-requires c κs = search needs
 
 returns : tie.Need-returns
-returns c = let a = c .before .before .before .before .before .before .before .before .before .before .args in let k = c .before .before .before .before .before .before .before .before .before .before .pre in rows-short k (a .rows .now) (a .words .now) (a .output .now) (c .before .before .before .size-of .ensures .0) (ap (λ (x : ℕ). x + a .n) (c .before .before .room .ensures)) refl (rw (c .before .room-with .ensures) at (c .if1 .taken))
+returns c = let a = c .before .before .before .before .before .before .before .before .before .before .args in let k = c .before .before .before .before .before .before .before .before .before .before .pre in rows-short k (a .rows .now) (a .words .now) (a .output .now) (c .before .before .before .size-of .ensures .0) (ap (λ (x : ℕ). x + a .n) (c .before .before .room .ensures)) refl (slice-of-bytes (a .input .now) (λ i. omega (arith, c .before .before .before .before .before .before .before .before .before .shared-slice-known .given i))) (slice-of-bytes (a .pool .now) (λ i. omega (arith, c .before .before .before .before .before .before .before .shared-slice-known3 .given i))) (rw (c .before .room-with .ensures) at (c .if1 .taken))
 
 refused-requires : tie.Need-refused-requires
 refused-requires c κs = search needs
 
 returns-2 : tie.Need-returns-2
-returns-2 c = let a = c .before .before .before .before .before .before .before .before .before .before .before .before .args in let k = c .before .before .before .before .before .before .before .before .before .before .before .before .pre in output-short k (a .rows .now) (a .words .now) (a .output .now) (c .before .before .before .before .before .size-of .ensures .0) (ap (λ (x : ℕ). x + a .n) (c .before .before .before .before .room .ensures)) refl (rw (c .before .before .before .room-with .ensures) at (c .before .before .if1 .left)) (c .before .if2 .taken) (c .refused .ensures)
+returns-2 c = let a = c .before .before .before .before .before .before .before .before .before .before .before .before .args in let k = c .before .before .before .before .before .before .before .before .before .before .before .before .pre in output-short k (a .rows .now) (a .words .now) (a .output .now) (c .before .before .before .before .before .size-of .ensures .0) (ap (λ (x : ℕ). x + a .n) (c .before .before .before .before .room .ensures)) refl (slice-of-bytes (a .input .now) (λ i. omega (arith, c .before .before .before .before .before .before .before .before .before .before .before .shared-slice-known .given i))) (slice-of-bytes (a .pool .now) (λ i. omega (arith, c .before .before .before .before .before .before .before .before .before .shared-slice-known3 .given i))) (rw (c .before .before .before .room-with .ensures) at (c .before .before .if1 .left)) (c .before .if2 .taken) (c .refused .ensures)
 
 put-extension-requires : tie.Need-put-extension-requires
 put-extension-requires c κs = let a = c .before .before .before .before .before .before .before .before .before .before .before .before .args in let k = c .before .before .before .before .before .before .before .before .before .before .before .before .pre in new-fits k (a .rows .now) (a .words .now) (a .output .now) (c .before .before .before .before .before .size-of .ensures .0) (ap (λ (x : ℕ). x + a .n) (c .before .before .before .before .room .ensures)) refl (slice-of-bytes (a .input .now) (λ i. omega (arith, c .before .before .before .before .before .before .before .before .before .before .before .shared-slice-known .given i))) (slice-of-bytes (a .pool .now) (λ i. omega (arith, c .before .before .before .before .before .before .before .before .before .shared-slice-known3 .given i))) (rw (c .before .before .before .room-with .ensures) at (c .before .before .if1 .left)) (c .before .if2 .left)

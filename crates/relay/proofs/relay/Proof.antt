@@ -1,5 +1,7 @@
 -- `relay`: the edition, the old input, the new table, the limits; then what may be joined is joined.
+use native.Mathlib.Omega.{arith}
 use borrow.Author.Needs.{needs}
+use Rattle.laws.specs.Logic.{slice-of-bytes}
 use Rattle.relay.proofs.Refusing.{capped-small, may-join, no-edition, no-header, no-table, past-limit}
 use Rattle.relay.proofs.relay.Statement.{statement}
 use Rattle.relay.proofs.relay.Tie as tie
@@ -17,7 +19,7 @@ refused-requires : tie.Need-refused-requires
 refused-requires c κs = search needs
 
 returns : tie.Need-returns
-returns c = let a = c .before .before .before .before .before .before .before .before .before .before .args in no-edition (a .edition) (a .input .now) (a .table .now) (a .pool .now) (a .rows .now) (a .words .now) (a .output .now) (c .before .before .before .label-of .ensures) (c .before .enum-told .given .1) (c .refused .ensures)
+returns c = let a = c .before .before .before .before .before .before .before .before .before .before .args in no-edition (a .edition) (a .input .now) (a .table .now) (a .pool .now) (a .rows .now) (a .words .now) (a .output .now) (slice-of-bytes (a .input .now) (λ i. omega (arith, c .before .before .before .before .before .before .before .before .before .shared-slice-known .given i)), slice-of-bytes (a .pool .now) (λ i. omega (arith, c .before .before .before .before .before .before .before .shared-slice-known3 .given i))) (c .before .before .before .label-of .ensures) (c .before .enum-told .given .1) (c .refused .ensures)
 
 count-requires : tie.Need-count-requires
 count-requires c κs = search needs
@@ -65,13 +67,13 @@ refused-requires-4 : tie.Need-refused-requires-4
 refused-requires-4 c κs = search needs
 
 returns-3 : tie.Need-returns-3
-returns-3 c = let a = c .before .before .before .before .before .before .before .before .before .before .before .before .before .before .before .args in no-header (a .edition) (a .input .now) (a .table .now) (a .pool .now) (a .rows .now) (a .words .now) (a .output .now) (c .before .before .before .before .count .ensures) (c .before .before .old .given .1) (c .refused2 .ensures)
+returns-3 c = let a = c .before .before .before .before .before .before .before .before .before .before .before .before .before .before .before .args in no-header (a .edition) (a .input .now) (a .table .now) (a .pool .now) (a .rows .now) (a .words .now) (a .output .now) (slice-of-bytes (a .input .now) (λ i. omega (arith, c .before .before .before .before .before .before .before .before .before .before .before .before .before .before .shared-slice-known .given i)), slice-of-bytes (a .pool .now) (λ i. omega (arith, c .before .before .before .before .before .before .before .before .before .before .before .before .shared-slice-known3 .given i))) (c .before .before .before .before .count .ensures) (c .before .before .old .given .1) (c .refused2 .ensures)
 
 returns-4 : tie.Need-returns-4
-returns-4 c = let a = c .before .before .before .before .before .before .before .before .before .before .before .before .before .before .before .before .before .before .before .args in no-table (a .edition) (a .input .now) (a .table .now) (a .pool .now) (a .rows .now) (a .words .now) (a .output .now) (c .before .before .before .before .before .before .before .before .before .before .before .before .label-of .ensures) (c .before .before .before .before .before .before .before .before .before .before .label .given .1) (c .before .before .before .before .before .before .before .before .count .ensures .accepts _ _ (c .before .before .before .before .before .before .old2 .given .1)) (c .before .before .before .before .check-new .ensures) (c .before .before .new .given .1) (c .refused3 .ensures)
+returns-4 c = let a = c .before .before .before .before .before .before .before .before .before .before .before .before .before .before .before .before .before .before .before .args in no-table (a .edition) (a .input .now) (a .table .now) (a .pool .now) (a .rows .now) (a .words .now) (a .output .now) (c .before .before .before .before .before .before .before .before .before .before .before .before .label-of .ensures) (c .before .before .before .before .before .before .before .before .before .before .label .given .1) (c .before .before .before .before .before .before .before .before .count .ensures .accepts _ _ (c .before .before .before .before .before .before .old2 .given .1)) (c .before .before .before .before .check-new .ensures) (slice-of-bytes (a .input .now) (λ i. omega (arith, c .before .before .before .before .before .before .before .before .before .before .before .before .before .before .before .before .before .before .shared-slice-known .given i)), slice-of-bytes (a .pool .now) (λ i. omega (arith, c .before .before .before .before .before .before .before .before .before .before .before .before .before .before .before .before .shared-slice-known3 .given i))) (c .before .before .new .given .1) (c .refused3 .ensures)
 
 returns-5 : tie.Need-returns-5
-returns-5 c = let a = c .before .before .before .before .before .before .before .before .before .before .before .before .before .before .before .before .before .before .before .before .before .args in past-limit (a .edition) (a .input .now) (a .table .now) (a .pool .now) (a .rows .now) (a .words .now) (a .output .now) (c .before .before .before .before .before .before .before .before .before .before .before .before .before .before .label-of .ensures) (c .before .before .before .before .before .before .before .before .before .before .before .before .label .given .1) (c .before .before .before .before .before .before .before .before .before .before .count .ensures .accepts _ _ (c .before .before .before .before .before .before .before .before .old2 .given .1)) (c .before .before .before .before .before .before .check-new .ensures) (c .before .before .before .before .new2 .given .1) (c .before .before .one-more-fits .ensures) (c .before .if1 .left) (c .refused4 .ensures)
+returns-5 c = let a = c .before .before .before .before .before .before .before .before .before .before .before .before .before .before .before .before .before .before .before .before .before .args in past-limit (a .edition) (a .input .now) (a .table .now) (a .pool .now) (a .rows .now) (a .words .now) (a .output .now) (c .before .before .before .before .before .before .before .before .before .before .before .before .before .before .label-of .ensures) (c .before .before .before .before .before .before .before .before .before .before .before .before .label .given .1) (c .before .before .before .before .before .before .before .before .before .before .count .ensures .accepts _ _ (c .before .before .before .before .before .before .before .before .old2 .given .1)) (c .before .before .before .before .before .before .check-new .ensures) (c .before .before .before .before .new2 .given .1) (slice-of-bytes (a .input .now) (λ i. omega (arith, c .before .before .before .before .before .before .before .before .before .before .before .before .before .before .before .before .before .before .before .before .shared-slice-known .given i)), slice-of-bytes (a .pool .now) (λ i. omega (arith, c .before .before .before .before .before .before .before .before .before .before .before .before .before .before .before .before .before .before .shared-slice-known3 .given i))) (c .before .before .one-more-fits .ensures) (c .before .if1 .left) (c .refused4 .ensures)
 
 pub relay-spec : {M : Type 1} → statement M
 relay-spec =

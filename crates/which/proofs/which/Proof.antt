@@ -1,5 +1,7 @@
 -- `which`: both editions count; the second fills, or the first where it alone allows the bytes.
+use native.Mathlib.Omega.{arith}
 use borrow.Author.Needs.{needs}
+use Rattle.laws.specs.Logic.{slice-of-bytes}
 use Rattle.which.proofs.Sorting.{by-both, by-first, by-neither, by-second}
 use Rattle.which.proofs.which.Statement.{statement}
 use Rattle.which.proofs.which.Tie as tie
@@ -71,7 +73,7 @@ returns-3 : tie.Need-returns-3
 returns-3 c = by-first (c .before .before .before .before .before .before .before .before .before .before .before .before .before .before .before .before .before .before .before .args .input .now) (c .before .before .before .before .before .before .before .before .before .before .before .before .before .before .before .count .ensures) (c .before .before .before .before .before .before .before .before .before .before .before .before .before .before .count2 .ensures) (c .before .before .before .before .before .before .before .before .before .by-b .given .1) (c .before .before .before .before .before .before .before .before .before .before .before .before .by-d2 .given .1) (c .before .before .before .before .before .fill2 .ensures) (c .sort3 .ensures)
 
 returns-4 : tie.Need-returns-4
-returns-4 c = let a = c .before .before .before .before .before .before .before .before .before .before .args in by-neither (a .input .now) (c .before .before .before .before .before .before .count .ensures) (c .before .before .before .before .before .count2 .ensures) (a .rows .now) (a .words .now) (c .enum-told3 .given .1) (c .before .before .before .by-d2 .given .1)
+returns-4 c = let a = c .before .before .before .before .before .before .before .before .before .before .args in by-neither (a .input .now) (c .before .before .before .before .before .before .count .ensures) (c .before .before .before .before .before .count2 .ensures) (slice-of-bytes (a .input .now) (λ i. omega (arith, c .before .before .before .before .before .before .before .before .before .shared-slice-known .given i))) (a .rows .now) (a .words .now) (c .enum-told3 .given .1) (c .before .before .before .by-d2 .given .1)
 
 pub which-spec : {M : Type 1} → statement M
 which-spec =

@@ -1,7 +1,9 @@
 -- `write`: the edition by its number.
 use Rattle.writer.proofs.Answers.{in-edition, in-none}
 use Rattle.table.specs.Told.{labelIs}
+use Rattle.laws.specs.Logic.{slice-of-bytes}
 use mathlib.Core.Path.{_∙_, ap, refl, sym}
+use native.Mathlib.Omega.{arith}
 use borrow.Author.Needs.{needs}
 use Rattle.writer.proofs.write.Statement.{statement}
 use Rattle.writer.proofs.write.Tie as tie
@@ -21,7 +23,7 @@ refused-requires c κs = search needs
 returns : tie.Need-returns
 returns c =
     let a = c .before .before .before .before .before .before .before .args in
-    in-none (a .edition) (a .rows .now) (a .pool .now) (a .output .now) (sym (c .before .before .before .label-of .ensures) ∙ ap labelIs (c .before .enum-told .given .1)) (c .refused .ensures) refl
+    in-none (a .edition) (a .rows .now) (a .pool .now) (a .output .now) (slice-of-bytes (a .pool .now) (λ i. omega (arith, c .before .before .before .before .before .shared-slice-known2 .given i))) (sym (c .before .before .before .label-of .ensures) ∙ ap labelIs (c .before .enum-told .given .1)) (c .refused .ensures) refl
 
 write-in-requires : tie.Need-write-in-requires
 write-in-requires c κs = search needs
@@ -32,7 +34,7 @@ same-length c = search needs
 returns-2 : tie.Need-returns-2
 returns-2 c =
     let a = c .before .before .before .before .before .before .before .before .before .before .before .args in
-    in-edition (a .edition) (a .rows .now) (a .pool .now) (a .output .now) (sym (c .before .before .before .before .before .before .before .label-of .ensures) ∙ ap labelIs (c .before .before .before .before .before .label .given .1)) (c .before .before .write-in .ensures)
+    in-edition (a .edition) (a .rows .now) (a .pool .now) (a .output .now) (slice-of-bytes (a .pool .now) (λ i. omega (arith, c .before .before .before .before .before .before .before .before .before .shared-slice-known2 .given i))) (sym (c .before .before .before .before .before .before .before .label-of .ensures) ∙ ap labelIs (c .before .before .before .before .before .label .given .1)) (c .before .before .write-in .ensures)
 
 pub write-spec : {M : Type 1} → statement M
 write-spec =

@@ -2,7 +2,7 @@
 use native.Mathlib.Omega.{arith}
 use borrow.Author.Needs.{needs}
 use Rattle.listing.proofs.Written.{wrote-then}
-use Rattle.listing.proofs.Cursors.{hex-length}
+use Rattle.listing.specs.Cursors.{hex-length}
 use Rattle.listing.proofs.row.last_bytes.Statement.{statement}
 use Rattle.listing.proofs.row.last_bytes.Tie as tie
 

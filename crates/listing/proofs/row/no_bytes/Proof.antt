@@ -5,7 +5,7 @@ use Prim.Native.Nat.{ℕ}
 use native.Mathlib.Omega.{arith}
 use borrow.Author.Needs.{needs}
 use Rattle.listing.proofs.Written.{wrote-then, wrote-as}
-use Rattle.listing.proofs.Cursors.{view-none, view-over}
+use Rattle.listing.specs.Cursors.{view-none, view-over}
 use Rattle.listing.proofs.row.no_bytes.Statement.{statement}
 use Rattle.listing.proofs.row.no_bytes.Tie as tie
 

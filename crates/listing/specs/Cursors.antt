@@ -119,14 +119,14 @@ module _ (answer place count : ℕ) (rows bytes : List ℕ) where
   unfolding textAt
   row-at i byte h = rw (lt-ltb i many h) refl
 
-  numbers-at : (i : ℕ) → i < many → text (suc i) 0 ≡ fieldsOf (rowOf rows i) ++ text (suc i) 1
+  pub numbers-at : (i : ℕ) → i < many → text (suc i) 0 ≡ fieldsOf (rowOf rows i) ++ text (suc i) 1
   unfolding rowFrom rowText viewFrom
   numbers-at i h =
       let behind = linesFrom rows bytes (suc i) (many - suc i) in
       let view = viewed (viewOf (rowOf rows i) bytes) in
       row-at i 0 h ∙ ap (λ (x : List ℕ). x ++ behind) (line-of-fields (rowOf rows i) view) ∙ append-assoc (fieldsOf (rowOf rows i)) (view ++ (0x0a ∷ [])) behind ∙ ap (λ (x : List ℕ). fieldsOf (rowOf rows i) ++ x) (sym (row-at i 1 h))
 
-  views-at : (i : ℕ) → i < many → ViewAt text (viewOf (rowOf rows i) bytes) (suc i)
+  pub views-at : (i : ℕ) → i < many → ViewAt text (viewOf (rowOf rows i) bytes) (suc i)
   unfolding rowFrom
   views-at i h k =
       let view = viewFrom (viewOf (rowOf rows i) bytes) k in
