@@ -12,9 +12,9 @@ use Rattle.meaning.specs.Basics.{pick}
 use Rattle.meaning.specs.Headers.{Placed, Answer, refused, accepted, read}
 use Rattle.meaning.specs.Writing.{Written, written, unwritten}
 use Rattle.meaning.specs.Memory.{roomOf, Reply, reply, readReply, roomWith, answerBy, writeReply, write, writeAnswer}
-use Rattle.laws.specs.Grammar.{HeaderOf}
-use Rattle.laws.specs.Faults.{ReaderRefusal}
-use Rattle.laws.specs.WriterFaults.{WriterFault, WritesAs}
+use Rattle.meaning.specs.Grammar.{HeaderOf}
+use Rattle.meaning.specs.Faults.{ReaderRefusal}
+use Rattle.meaning.specs.WriterFaults.{WriterFault, WritesAs}
 use Rattle.laws.specs.Decisive.{decidedBy}
 use Rattle.laws.specs.ReadRefused.{placeOf}
 use Rattle.laws.specs.Demands.{accepts-exactly, refuses-exactly, first-fault-decides, cut-before-place, writes-exactly, writer-refuses-exactly}

@@ -5,12 +5,12 @@ use mathlib.Core.Path.{_≡_, refl, ap, sym}
 use native.Mathlib.Numerals.{add-one}
 use native.Mathlib.Omega.{arith}
 use borrow.Author.Tests.{ne-eqb}
+use Rattle.meaning.specs.Basics.{here, there}
 use Rattle.meaning.specs.Bytes.{line}
 use Rattle.meaning.specs.Kinds.{agentName, addressesOpen, address, resolversOpen, extraKey}
 use Rattle.meaning.specs.Told.{Edition, B, D, Told}
 use Rattle.meaning.specs.Editions.{agentList, oneAgent, afterName, addressTexts, afterAddresses, afterResolvers, agentExtra, state, stay, deeper, listEnds, agentEnds, listEnd, go, text, opens, closing, extraCode, anyValues, on_▸_▸_▸_, pass_▸_, shared, own, moves}
 use Rattle.meaning.specs.Reading.{none, hit, find, look}
-use Rattle.laws.specs.Tables.{here, there}
 use Rattle.laws.specs.Lookups.{look-uncoded}
 use Rattle.laws.specs.Shapes.{Shaped, Texts, Extras, InList}
 use Rattle.laws.specs.Rooms.{flip}

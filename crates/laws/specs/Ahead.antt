@@ -8,13 +8,13 @@ use mathlib.Core.Path.{_≡_, refl, ap, sym, _∙_, subst}
 use native.Mathlib.Omega.{arith}
 use lib.Dec.{T, eqb, eqb→eq, eqb-refl}
 use borrow.Author.Tests.{ne-eqb, eq-eqb}
-use Rattle.meaning.specs.Basics.{pick, every}
+use Rattle.meaning.specs.Basics.{pick, every, In, here, there}
 use Rattle.meaning.specs.Told.{Edition}
 use Rattle.meaning.specs.Editions.{Room, parameters, agentList, afterResolvers, State, state, Next, outer, inner, innerOne, stay, deeper, listEnds, agentEnds, listEnd, go, isQuiet, Move, closing, moves, shared, own}
 use Rattle.meaning.specs.Reading.{Row, Found, none, hit, find, orElse, hasCode, isClosed, next}
 use Rattle.meaning.specs.Writing.{standsFor, isPass, wayTo, byPass, atLevel, wayOf, unfit, fits, led, fitBy, fitRow, close}
 use Rattle.laws.specs.Logic.{left-of, right-of, either, or-left, or-right, is-false, not-both}
-use Rattle.laws.specs.Tables.{In, here, there, every-in, Hits, find-hits, finds-none, allRooms, each-room}
+use Rattle.laws.specs.Tables.{every-in, Hits, find-hits, finds-none, allRooms, each-room}
 use Rattle.laws.specs.Lookups.{closed-none, stands, pass-facts, pass-found}
 use Rattle.laws.specs.Fits.{unfit-fits, fit-holds, fit-once, close-once}
 use Rattle.laws.specs.WrittenRead.{andThen, fitAll, Split, then-inv, then-make}

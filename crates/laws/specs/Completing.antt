@@ -7,7 +7,7 @@ use mathlib.Core.Path.{_≡_, refl, _∙_, subst}
 use native.Mathlib.Omega.{arith}
 use lib.Dec.{T, eqb, ltb, ltb→lt}
 use borrow.Author.Tests.{le-ltb}
-use Rattle.meaning.specs.Basics.{pick, every}
+use Rattle.meaning.specs.Basics.{pick, every, In, here}
 use Rattle.meaning.specs.Bytes.{textByte, textOk, lastDay, passes, dateOk}
 use Rattle.meaning.specs.Kinds.{agentName}
 use Rattle.meaning.specs.Told.{Edition}
@@ -16,7 +16,7 @@ use Rattle.meaning.specs.Reading.{Row, Found, none, hit, find, isClosed, tooDee
 use Rattle.meaning.specs.Headers.{start}
 use Rattle.meaning.specs.Writing.{valid, writeValue, isPass, fits, lead, fitRow, close}
 use Rattle.laws.specs.Logic.{left-of, right-of, either, is-false, not-both}
-use Rattle.laws.specs.Tables.{roomNumber, In, here, every-in, Hits, find-hits, allRooms, each-room}
+use Rattle.laws.specs.Tables.{roomNumber, every-in, Hits, find-hits, allRooms, each-room}
 use Rattle.laws.specs.Lookups.{rowAt, pass-facts}
 use Rattle.laws.specs.Fits.{heavy, pass-lightens, fit-holds, close-once}
 use Rattle.laws.specs.WrittenRead.{fitAll, then-make}

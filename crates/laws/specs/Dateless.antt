@@ -8,7 +8,7 @@ use mathlib.Core.Path.{_≡_, refl, ap, _∙_, subst}
 use native.Mathlib.Omega.{arith}
 use lib.Dec.{T, eqb}
 use borrow.Author.Tests.{eqb-true}
-use Rattle.meaning.specs.Basics.{pick, every}
+use Rattle.meaning.specs.Basics.{pick, every, In}
 use Rattle.meaning.specs.Told.{Edition}
 use Rattle.meaning.specs.Kinds.{receivedBy, toOpens, fromOpens, receiverOpens, comments, payloadLength, payloadEncoding, encryptedOpens, ownKey, behaviourOpens}
 use Rattle.meaning.specs.Editions.{closing, Room, headRepresentation, headDate, parameters, agentList, State, state, Next, outer, inner, innerOne, stay, deeper, listEnds, agentEnds, listEnd, go, Move, moves, shared, own}
@@ -19,7 +19,7 @@ use Rattle.meaning.specs.Words.{occurs}
 use Rattle.meaning.specs.Writing.{fits, fitRow}
 use Rattle.laws.specs.Logic.{left-of, right-of, either, not-both, is-true}
 use Rattle.laws.specs.Nesting.{false-not}
-use Rattle.laws.specs.Tables.{roomNumber, In, every-in, allRooms, each-room}
+use Rattle.laws.specs.Tables.{roomNumber, every-in, allRooms, each-room}
 use Rattle.laws.specs.Fits.{fit-holds}
 use Rattle.laws.specs.WrittenRead.{fitAll, then-inv}
 use Rattle.laws.specs.RightSkips.{standing}

@@ -15,7 +15,7 @@ use Rattle.meaning.specs.Editions.{State, Form, Move, noCode, moves}
 use Rattle.meaning.specs.Reading.{hit, hasCode, look, isClosed, strange, levelMost, valueFrom}
 use Rattle.meaning.specs.Kinds.{agentName}
 use Rattle.laws.specs.Tables.{allRooms, each-room}
-use Rattle.laws.specs.Faults.{BadValue, text-ends, date-ends, number-ends, length-ends, block-ends, text-byte, date-byte, number-byte, length-wide, BadStep, code-needed, strange-code, agent-deep, bad-value, closed-early}
+use Rattle.meaning.specs.Faults.{BadValue, text-ends, date-ends, number-ends, length-ends, block-ends, text-byte, date-byte, number-byte, length-wide, BadStep, code-needed, strange-code, agent-deep, bad-value, closed-early}
 use Rattle.laws.specs.FaultyValues.{worth-length}
 
 -- how many bytes from its place on decide a refusal, at most: 6 and 13 are decided by those before the place, a wrong length by its up to six bytes,

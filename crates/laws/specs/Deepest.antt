@@ -8,18 +8,18 @@ use native.Mathlib.Omega.{arith}
 use lib.Dec.{T, eqb, leb, leb→le, eqb→eq}
 use lib.ListN.{length}
 use borrow.Author.Tests.{eq-eqb}
-use Rattle.meaning.specs.Basics.{pick, every}
+use Rattle.meaning.specs.Basics.{pick, every, In}
 use Rattle.meaning.specs.Kinds.{agentName}
 use Rattle.meaning.specs.Told.{Edition}
 use Rattle.meaning.specs.Editions.{Room, agentList, parameters, State, state, Next, outer, inner, innerOne, stay, deeper, listEnds, agentEnds, listEnd, go, Form, Move, noCode, moves, shared, own}
 use Rattle.meaning.specs.Reading.{hit, look, strange, levelMost}
 use Rattle.meaning.specs.Headers.{Placed, start}
 use Rattle.laws.specs.Logic.{left-of, right-of, either}
-use Rattle.laws.specs.Tables.{In, every-in, allRooms, each-room, roomNumber}
+use Rattle.laws.specs.Tables.{every-in, allRooms, each-room, roomNumber}
 use Rattle.laws.specs.Lookups.{Looked, looked, quiet-flat}
 use Rattle.laws.specs.GrammarWritten.{shallow}
-use Rattle.laws.specs.Grammar.{Steps, none, row, pass}
-use Rattle.laws.specs.Faults.{BadValue, text-ends, date-ends, number-ends, length-ends, block-ends, text-byte, date-byte, number-byte, length-wide, BadStep, code-needed, strange-code, agent-deep, bad-value, closed-early, BadInside}
+use Rattle.meaning.specs.Grammar.{Steps, none, row, pass}
+use Rattle.meaning.specs.Faults.{BadValue, text-ends, date-ends, number-ends, length-ends, block-ends, text-byte, date-byte, number-byte, length-wide, BadStep, code-needed, strange-code, agent-deep, bad-value, closed-early, BadInside}
 
 abbrev isList : Room → Bool
 isList r = eqb (roomNumber r) (roomNumber agentList)

@@ -35,11 +35,11 @@ use Rattle.laws.specs.PlainNumbers.{number-coded-decoded, number-decoded
 use Rattle.laws.specs.PlainDates.{date-coded-decoded, date-decoded-coded}
 use Rattle.laws.specs.Ties.{written-right, whole-front, numberOf, SameMeaning, plainCell, plainTable, read-known, write-known, accepted-known, written-known, read-as, write-as, cells-placed, whole-of, whole-written, same-meaning, plain-cells, seven-or-nine, only-stuck}
 use Rattle.laws.specs.Fifteen.{IsTable, plan-table, BeginsTable, NoneWith, stuck-means}
-use Rattle.laws.specs.Grammar.{HeaderOf}
+use Rattle.meaning.specs.Grammar.{HeaderOf}
 use Rattle.laws.specs.Exactly.{header-accepted, accepted-header, one-header}
-use Rattle.laws.specs.Faults.{ReaderRefusal}
+use Rattle.meaning.specs.Faults.{ReaderRefusal}
 use Rattle.laws.specs.ReadRefused.{refuses-as-said, Decided, fault-decides, placeOf, cut-is-two}
-use Rattle.laws.specs.WriterFaults.{WriterFault, WritesAs}
+use Rattle.meaning.specs.WriterFaults.{WriterFault, WritesAs}
 use Rattle.laws.specs.WriteRefused.{unwritten-as-said, written-as-said}
 
 -- 1. "Read then written: the same bytes."

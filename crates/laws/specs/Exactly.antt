@@ -10,7 +10,7 @@ use Rattle.meaning.specs.Told.{strict, told}
 use Rattle.meaning.specs.Headers.{Placed, accepted, header, envelopesMost, read}
 use Rattle.laws.specs.Logic.{areBytes}
 use Rattle.laws.specs.Ties.{accepted-known, read-as, whole-of, whole-written, from-zero}
-use Rattle.laws.specs.Grammar.{TableOf, HeaderOf}
+use Rattle.meaning.specs.Grammar.{TableOf, HeaderOf}
 use Rattle.laws.specs.Grammatical.{header-reads}
 use Rattle.laws.specs.GrammarWritten.{writes-grammatical}
 

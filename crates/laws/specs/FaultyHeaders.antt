@@ -18,7 +18,7 @@ use Rattle.laws.specs.Logic.{areBytes, other-bytes, bytes-front, bytes-b
 use Rattle.laws.specs.Steps.{Wet, never-dry}
 use Rattle.laws.specs.Refusals.{OutNumbered, run-numbered}
 use Rattle.laws.specs.Grammatical.{inside-done}
-use Rattle.laws.specs.Faults.{Worth, identifier, Declares, in-short, in-long, CutLength, in-two, in-four, GoodLength, BadHeader, no-identifier, length-cut, input-cut, not-identifier, one-too-many, length-low, length-high, bad-inside, bad-behind}
+use Rattle.meaning.specs.Faults.{Worth, identifier, Declares, in-short, in-long, CutLength, in-two, in-four, GoodLength, BadHeader, no-identifier, length-cut, input-cut, not-identifier, one-too-many, length-low, length-high, bad-inside, bad-behind}
 use Rattle.laws.specs.FaultyValues.{worth-before, worth-length, worth-of, too-short, is-short}
 use Rattle.laws.specs.FaultyInsides.{inside-stops, InsideIs, inside-is}
 

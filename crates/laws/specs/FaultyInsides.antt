@@ -21,10 +21,10 @@ use Rattle.laws.specs.Lookups.{Looked, looked, quiet-coded, closed-none}
 use Rattle.laws.specs.Steps.{inside-path, inside-fails, inside-over}
 use Rattle.laws.specs.Shortest.{shortest}
 use Rattle.laws.specs.ReadWritten.{Stepping, Stepped, stepped}
-use Rattle.laws.specs.Grammar.{standing, Steps, row, pass}
+use Rattle.meaning.specs.Grammar.{standing, Steps, row, pass}
 use Rattle.laws.specs.Grammatical.{not-deep, steps-read}
 use Rattle.laws.specs.GrammarWritten.{shallow}
-use Rattle.laws.specs.Faults.{BadStep, code-needed, strange-code, agent-deep, bad-value, closed-early, BadInside}
+use Rattle.meaning.specs.Faults.{BadStep, code-needed, strange-code, agent-deep, bad-value, closed-early, BadInside}
 use Rattle.laws.specs.FaultyValues.{ValueFault, value-fault, value-fails}
 
 -- From what is said to what is given

@@ -15,7 +15,7 @@ use Rattle.meaning.specs.Reading.{takeValue}
 use Rattle.laws.specs.Logic.{left-of, right-of, both, is-true}
 use Rattle.laws.specs.Values.{text-byte-above}
 use Rattle.laws.specs.Refusals.{Leaves, high-leaves}
-use Rattle.laws.specs.Faults.{Worth, backwards, Digits, none-more, and-more, BadValue, text-ends, date-ends, number-ends, length-ends, block-ends, text-byte, date-byte, number-byte, length-wide}
+use Rattle.meaning.specs.Faults.{Worth, backwards, Digits, none-more, and-more, BadValue, text-ends, date-ends, number-ends, length-ends, block-ends, text-byte, date-byte, number-byte, length-wide}
 
 -- Numbers of so many bytes
 

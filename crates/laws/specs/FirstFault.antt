@@ -14,7 +14,7 @@ use Rattle.meaning.specs.Editions.{State, Form}
 use Rattle.meaning.specs.Reading.{strange}
 use Rattle.meaning.specs.Headers.{start}
 use Rattle.laws.specs.Tables.{allRooms, each-room}
-use Rattle.laws.specs.Faults.{BadValue, text-ends, date-ends, number-ends, length-ends, block-ends, text-byte, date-byte, number-byte, length-wide, BadStep, code-needed, strange-code, agent-deep, bad-value, closed-early, BadInside, identifier, GoodLength, BadHeader, no-identifier, length-cut, input-cut, not-identifier, one-too-many, length-low, length-high, bad-inside, bad-behind}
+use Rattle.meaning.specs.Faults.{BadValue, text-ends, date-ends, number-ends, length-ends, block-ends, text-byte, date-byte, number-byte, length-wide, BadStep, code-needed, strange-code, agent-deep, bad-value, closed-early, BadInside, identifier, GoodLength, BadHeader, no-identifier, length-cut, input-cut, not-identifier, one-too-many, length-low, length-high, bad-inside, bad-behind}
 use Rattle.laws.specs.FaultyHeaders.{head-length, head-most}
 use Rattle.laws.specs.Decisive.{decidedBy, DecidedStep, step-decided}
 

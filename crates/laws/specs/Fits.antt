@@ -6,13 +6,13 @@ use mathlib.Core.Bool.{Bool, true, false, _&&_, _||_, not}
 use mathlib.Core.Path.{_≡_, refl, ap, sym, subst}
 use native.Mathlib.Omega.{arith}
 use lib.Dec.{T, eqb, leb, ltb, leb→le, ltb→lt, eqb→eq}
-use Rattle.meaning.specs.Basics.{pick, every}
+use Rattle.meaning.specs.Basics.{pick, every, In}
 use Rattle.meaning.specs.Told.{Edition}
 use Rattle.meaning.specs.Editions.{Room, receivedBegins, headRepresentation, headDate, parameters, ownText, parameterRepresentation, behaviourValue, encryptedTexts, receivedDate, afterDate, afterFrom, afterId, afterVia, receivedExtra, agentList, oneAgent, afterName, addressTexts, afterAddresses, afterResolvers, agentExtra, closed, State, state, Next, outer, inner, innerOne, stay, deeper, listEnds, agentEnds, listEnd, go, isQuiet, Move, closing, moves, shared, own}
 use Rattle.meaning.specs.Reading.{Row, Found, none, hit, find, isClosed, tooDeep}
 use Rattle.meaning.specs.Writing.{valid, writeValue, standsFor, isPass, Way, byOwn, byPass, nowhere, wayOf, Fit, unfit, fits, led, lead, place, fitBy, fit, passesMost, fitRow, closeBy, closeWithin, close}
 use Rattle.laws.specs.Logic.{left-of, right-of}
-use Rattle.laws.specs.Tables.{In, every-in, Hits, find-hits, allRooms, each-room}
+use Rattle.laws.specs.Tables.{every-in, Hits, find-hits, allRooms, each-room}
 use Rattle.laws.specs.Lookups.{stands, WayIs, way-is, pass-facts}
 
 pub unfit-fits : {A : Type 0} {st : State} {bs : List ℕ} → unfit ≡ fits st bs → A

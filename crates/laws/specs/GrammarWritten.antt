@@ -7,20 +7,20 @@ use mathlib.Core.Path.{_≡_, refl, ap, sym, _∙_, subst}
 use native.Mathlib.Omega.{arith}
 use lib.ListN.{length, length-append}
 use borrow.Author.Tests.{eq-eqb, ltb-false, le-leb}
+use Rattle.meaning.specs.Basics.{In}
 use Rattle.meaning.specs.Kinds.{agentName}
 use Rattle.meaning.specs.Told.{Edition}
 use Rattle.meaning.specs.Editions.{State, go, Move, moves}
 use Rattle.meaning.specs.Reading.{Row, isClosed, levelMost, tooDeep}
 use Rattle.meaning.specs.Headers.{Placed, placedRow, meant, envelopeMost, start}
 use Rattle.meaning.specs.Writing.{fits, fitRow, close, envelopeSize, wrap}
-use Rattle.laws.specs.Tables.{In}
 use Rattle.laws.specs.Lookups.{rowAt}
 use Rattle.laws.specs.Fits.{Placing, fit-holds, close-holds, close-once}
 use Rattle.laws.specs.WrittenRead.{fitAll, Split, then-inv, then-make}
 use Rattle.laws.specs.Ahead.{all-behind}
 use Rattle.laws.specs.ReadWritten.{fit-own}
 use Rattle.laws.specs.Envelopes.{openingRow, Writes, map-append, limit-size}
-use Rattle.laws.specs.Grammar.{standing, startIn, Steps, none, row, pass, Inside, headSize, Mark, Header, the-base, extension, Small}
+use Rattle.meaning.specs.Grammar.{standing, startIn, Steps, none, row, pass, Inside, headSize, Mark, Header, the-base, extension, Small}
 use Rattle.laws.specs.Grammatical.{not-deep}
 
 -- From the grammar to the writer

@@ -8,7 +8,7 @@ use native.Mathlib.Omega.{arith}
 use lib.Dec.{T, eqb, ltb}
 use lib.ListN.{length, length-append}
 use borrow.Author.Tests.{eqb-true, le-leb, le-ltb}
-use Rattle.meaning.specs.Basics.{pick}
+use Rattle.meaning.specs.Basics.{pick, In}
 use Rattle.meaning.specs.Bytes.{Width, oneByte, twoBytes, fourBytes, bytesOf, lengthBytes}
 use Rattle.meaning.specs.Kinds.{agentName}
 use Rattle.meaning.specs.Told.{Edition, told}
@@ -16,12 +16,11 @@ use Rattle.meaning.specs.Editions.{Room, State, go, Form, text, date, number, b
 use Rattle.meaning.specs.Reading.{Seen, seen, reachBack, hasCode, levelMost, tooDeep, next, step, done, withRows, inside}
 use Rattle.meaning.specs.Headers.{Placed, placedRow, placed, accepted, behind, envelopeMost, opening, header, start}
 use Rattle.meaning.specs.Writing.{isOnly, valid, writeValue, isShort, envelopeSize, wrap}
-use Rattle.laws.specs.Tables.{In}
 use Rattle.laws.specs.Lookups.{isTextForm, uncoded-text}
 use Rattle.laws.specs.Steps.{Path, rests, moves-on, inside-path, inside-over, step-over, loud-seen}
 use Rattle.laws.specs.WrittenRead.{step-written, step-quiet}
 use Rattle.laws.specs.Envelopes.{wrap-length, base-step, extension-step}
-use Rattle.laws.specs.Grammar.{standing, beforeView, startIn, Steps, none, row, pass, Inside, headSize, Mark, Header, the-base, extension, Small}
+use Rattle.meaning.specs.Grammar.{standing, beforeView, startIn, Steps, none, row, pass, Inside, headSize, Mark, Header, the-base, extension, Small}
 
 -- how deep an agent may stand, as the reader asks it
 pub not-deep : (m : Move) (st : State) → (m .kind ≡ agentName → st .level ≤ levelMost) → tooDeep m st ≡ false

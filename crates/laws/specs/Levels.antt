@@ -8,7 +8,7 @@ use mathlib.Core.Path.{_≡_, refl, ap, sym, _∙_, subst}
 use native.Mathlib.Omega.{arith}
 use lib.Dec.{T, eqb, ltb}
 use borrow.Author.Tests.{eqb-false, lt-ltb, ltb-true}
-use Rattle.meaning.specs.Basics.{pick, every}
+use Rattle.meaning.specs.Basics.{pick, every, In}
 use Rattle.meaning.specs.Kinds.{extensionOpens, agentName}
 use Rattle.meaning.specs.Told.{Edition}
 use Rattle.meaning.specs.Editions.{Room, receivedBegins, headRepresentation, headDate, parameters, ownText, parameterRepresentation, behaviourValue, encryptedTexts, receivedDate, afterDate, afterFrom, afterId, afterVia, receivedExtra, agentList, oneAgent, afterName, addressTexts, afterAddresses, afterResolvers, agentExtra, closed, State, state, Next, outer, inner, innerOne, stay, deeper, listEnds, agentEnds, listEnd, go, isQuiet, Move, moves, shared, own}
@@ -18,7 +18,7 @@ use Rattle.meaning.specs.Codes.{isDate}
 use Rattle.meaning.specs.Headers.{start}
 use Rattle.meaning.specs.Writing.{fits, fitRow}
 use Rattle.laws.specs.Logic.{left-of, right-of, is-true, is-false, either}
-use Rattle.laws.specs.Tables.{In, every-in, allRooms, each-room}
+use Rattle.laws.specs.Tables.{every-in, allRooms, each-room}
 use Rattle.laws.specs.Fits.{Placing, fit-holds}
 use Rattle.laws.specs.WrittenRead.{fitAll, then-inv}
 use Rattle.laws.specs.Envelopes.{openingRow, Writes, the-base, before}

@@ -58,11 +58,9 @@ pub mod Ranked
 pub mod Lacking
 pub mod PassedOver
 pub mod Looking
-pub mod Grammar
 pub mod Grammatical
 pub mod GrammarWritten
 pub mod Exactly
-pub mod Faults
 pub mod FaultyValues
 pub mod FaultyInsides
 pub mod FaultyHeaders
@@ -70,7 +68,6 @@ pub mod Decisive
 pub mod FirstFault
 pub mod ReadRefused
 pub mod Deepest
-pub mod WriterFaults
 pub mod Planning
 pub mod Limits
 pub mod Stopping

@@ -9,7 +9,7 @@ use borrow.Author.Tests.{leb-true, leb-false}
 use Rattle.meaning.specs.Basics.{pick}
 use Rattle.meaning.specs.Headers.{envelopeMost}
 use Rattle.meaning.specs.Writing.{Envelope, envelopeSize, withinLimit, Limit, fine, exceeds, limits}
-use Rattle.laws.specs.Grammar.{Mark, Small, PastLimit, one-too-many, too-large, later}
+use Rattle.meaning.specs.Grammar.{Mark, Small, PastLimit, one-too-many, too-large, later}
 use Rattle.laws.specs.Planning.{markOf}
 
 -- From what is given to what is said

@@ -8,7 +8,7 @@ use native.Mathlib.Omega.{arith}
 use lib.Dec.{T, eqb, leb, ltb, leb→le, ltb→lt, eqb→eq, eqb-refl}
 use lib.ListN.{length}
 use borrow.Author.Tests.{eqb-true, eq-eqb, lt-ltb, le-ltb}
-use Rattle.meaning.specs.Basics.{pick, every}
+use Rattle.meaning.specs.Basics.{pick, every, In}
 use Rattle.meaning.specs.Bytes.{Check, passes, dateOk, dateChecks, Width, oneByte, twoBytes, fourBytes, bytesOf, fewest, past, blockOk}
 use Rattle.meaning.specs.Kinds.{agentName}
 use Rattle.meaning.specs.Told.{Edition}
@@ -16,7 +16,7 @@ use Rattle.meaning.specs.Editions.{Room, State, Form, text, date, number, block
 use Rattle.meaning.specs.Reading.{Row, Found, none, hit, find, orElse, hasCode, look, isClosed, tooDeep}
 use Rattle.meaning.specs.Writing.{isOnly, valid, standsFor, isPass, wayTo, Way, byOwn, byPass, nowhere, ways, atLevel, wayOf}
 use Rattle.laws.specs.Logic.{left-of, right-of, both, either, is-true, is-false, not-both}
-use Rattle.laws.specs.Tables.{In, every-in, Hits, find-hits, find-in, apart, allRooms, each-room}
+use Rattle.laws.specs.Tables.{every-in, Hits, find-hits, find-in, apart, allRooms, each-room}
 
 -- What tells the moves of one kind apart: forms of one class, by a number that the view has too
 

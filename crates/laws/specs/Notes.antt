@@ -5,12 +5,12 @@ use mathlib.Core.Path.{_≡_, refl}
 use native.Mathlib.Omega.{arith}
 use borrow.Author.Tests.{eqb-true, lt-leb}
 use lib.Dec.{T, eqb, leb}
-use Rattle.meaning.specs.Basics.{every}
+use Rattle.meaning.specs.Basics.{every, In}
 use Rattle.meaning.specs.Kinds.{anyText, comments, ownValue}
 use Rattle.meaning.specs.Bytes.{line, note, isBreak, textByte}
 use Rattle.meaning.specs.Told.{Edition}
 use Rattle.meaning.specs.Editions.{Room, Form, text, date, number, block, itself, opens, quiet, Move, moves, shared, own}
-use Rattle.laws.specs.Tables.{In, every-in, allRooms, each-room}
+use Rattle.laws.specs.Tables.{every-in, allRooms, each-room}
 
 abbrev pub isNoteKind : ℕ → Bool
 isNoteKind kind = eqb kind anyText || eqb kind comments || eqb kind ownValue

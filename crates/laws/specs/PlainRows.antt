@@ -8,7 +8,7 @@ use mathlib.Core.Path.{_≡_, refl, ap, sym, _∙_}
 use native.Mathlib.Omega.{arith}
 use lib.Dec.{T, eqb, ltb}
 use lib.ListN.{length}
-use Rattle.meaning.specs.Basics.{every}
+use Rattle.meaning.specs.Basics.{every, In}
 use Rattle.meaning.specs.Bytes.{Reach, absolute, relative, dateChecks}
 use Rattle.meaning.specs.Kinds.{dateAbsolute, dateForward, dateBackward, extraKey, encryptedOpens, agentName}
 use Rattle.meaning.specs.Told.{Edition, B, D, told}
@@ -16,7 +16,7 @@ use Rattle.meaning.specs.Editions.{Room, State, Next, outer, inner, innerOne, s
 use Rattle.meaning.specs.Reading.{Row, Found, none, hit, find, hasCode, look, isClosed, strange, next, step}
 use Rattle.meaning.specs.Writing.{valid, fits, fitRow}
 use Rattle.laws.specs.Logic.{left-of, right-of, is-false}
-use Rattle.laws.specs.Tables.{In, every-in, in-moves, in-shared, allRooms, each-room}
+use Rattle.laws.specs.Tables.{every-in, in-moves, in-shared, allRooms, each-room}
 use Rattle.laws.specs.Lookups.{date-length}
 use Rattle.laws.specs.Steps.{Path, rests, moves-on}
 use Rattle.laws.specs.Fits.{Placing, fit-holds}

@@ -16,9 +16,9 @@ use Rattle.laws.specs.WrittenRead.{fitAll, then-inv, then-make}
 use Rattle.laws.specs.Envelopes.{openingRow, map-append}
 use Rattle.laws.specs.Plans.{OpensIs, opens-is, closed-fits, Planned, plan-row, plan-end, plan-turn}
 use Rattle.laws.specs.RowCounts.{length-meant}
-use Rattle.laws.specs.Grammar.{headSize, Mark, mark, Header, the-base, extension}
+use Rattle.meaning.specs.Grammar.{headSize, Mark, mark, Header, the-base, extension}
 use Rattle.laws.specs.GrammarWritten.{steps-fit, fit-steps}
-use Rattle.laws.specs.WriterFaults.{RowsAre}
+use Rattle.meaning.specs.WriterFaults.{RowsAre}
 
 -- an envelope of a plan: its row and its size
 abbrev pub markOf : Envelope → Mark

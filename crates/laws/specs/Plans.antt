@@ -7,7 +7,7 @@ use native.Mathlib.Omega.{arith}
 use lib.Dec.{T, eqb, leb, leb→le, eqb→eq}
 use lib.ListN.{length}
 use borrow.Author.Tests.{le-leb, leb-true, ne-eqb, eqb-true}
-use Rattle.meaning.specs.Basics.{pick, isEmpty, every}
+use Rattle.meaning.specs.Basics.{pick, isEmpty, every, In}
 use Rattle.meaning.specs.Kinds.{extensionOpens, baseOpens}
 use Rattle.meaning.specs.Told.{Edition, B, D}
 use Rattle.meaning.specs.Editions.{State, state, closed, isQuiet, Move, moves, shared, own, Room}
@@ -16,7 +16,7 @@ use Rattle.meaning.specs.Skips.{Skips, right, wrongAt}
 use Rattle.meaning.specs.Headers.{start, envelopesMost, opening}
 use Rattle.meaning.specs.Writing.{Fit, unfit, fits, fitRow, close, Cell, cell, broken, Opens, envelopeRow, innerRow, opensOf, Envelope, envelopeAt, Plan, stuck, plan, onPlan, newPlan, rowPlan, turnPlan, endPlan, nextRow, lastRow, planOf, wholePlan, withinLimit, wrap, headerOf, Limit, fine, exceeds, limits, Written, written, unwritten, limited, planned, writeRows}
 use Rattle.laws.specs.Logic.{left-of, right-of}
-use Rattle.laws.specs.Tables.{In, every-in, allRooms, each-room}
+use Rattle.laws.specs.Tables.{every-in, allRooms, each-room}
 use Rattle.laws.specs.Fits.{fit-holds, close-once}
 use Rattle.laws.specs.WrittenRead.{fitAll, then-inv, then-make}
 use Rattle.laws.specs.Envelopes.{openingRow, Writes, the-base, before}

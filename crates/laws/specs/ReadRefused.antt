@@ -15,9 +15,9 @@ use Rattle.meaning.specs.Memory.{Reply, reply, readReply}
 use Rattle.laws.specs.Logic.{areBytes, bytes-front}
 use Rattle.laws.specs.Refusals.{refused-shape}
 use Rattle.laws.specs.Ties.{read-as, from-zero}
-use Rattle.laws.specs.Grammar.{HeaderOf}
+use Rattle.meaning.specs.Grammar.{HeaderOf}
 use Rattle.laws.specs.Exactly.{header-accepted, accepted-header}
-use Rattle.laws.specs.Faults.{BadHeader, ReaderRefusal, no-edition, faulty, no-room}
+use Rattle.meaning.specs.Faults.{BadHeader, ReaderRefusal, no-edition, faulty, no-room}
 use Rattle.laws.specs.FaultyHeaders.{header-refuses, refused-header}
 use Rattle.laws.specs.Decisive.{decidedBy}
 use Rattle.laws.specs.FirstFault.{header-decided, two-at-end}

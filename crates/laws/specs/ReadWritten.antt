@@ -8,7 +8,7 @@ use native.Mathlib.Omega.{arith}
 use lib.Dec.{T, eqb, eqb-refl}
 use lib.ListN.{length, length-append}
 use borrow.Author.Tests.{eqb-false}
-use Rattle.meaning.specs.Basics.{pick}
+use Rattle.meaning.specs.Basics.{pick, In}
 use Rattle.meaning.specs.Bytes.{Taken, took, failed}
 use Rattle.meaning.specs.Told.{Edition, strict, Told}
 use Rattle.meaning.specs.Editions.{State, go, Form, text, date, number, block, itself, opens, quiet, isQuiet, Move, noCode, moves}
@@ -16,7 +16,6 @@ use Rattle.meaning.specs.Reading.{Seen, rowOf, takeValue, seenBy, Found, none, 
 use Rattle.meaning.specs.Writing.{valid, writeValue, wayOf, fits, lead, fitRow, close}
 use Rattle.laws.specs.Logic.{is-true, areBytes, other-bytes, bytes-behind}
 use Rattle.laws.specs.Values.{Was, allowed, value-out}
-use Rattle.laws.specs.Tables.{In}
 use Rattle.laws.specs.Lookups.{Looked, looked, quiet-coded, rowAt, own-found}
 use Rattle.laws.specs.Steps.{loud-seen, quiet-seen}
 use Rattle.laws.specs.Fits.{fit-once, close-once}

@@ -6,13 +6,12 @@ use mathlib.Core.Path.{_≡_, refl, ap, sym}
 use lib.Dec.{eqb}
 use lib.ListN.{length}
 use borrow.Author.Tests.{ne-eqb}
-use Rattle.meaning.specs.Basics.{pick}
+use Rattle.meaning.specs.Basics.{pick, here, there}
 use Rattle.meaning.specs.Bytes.{Taken, took, failed, line, note}
 use Rattle.meaning.specs.Kinds.{agentName, receivedBy, receivedFrom, receivedId, receivedVia, encryptedOpens, encryptedItem, ownValue}
 use Rattle.meaning.specs.Told.{Edition, B, D, Told}
 use Rattle.meaning.specs.Editions.{Room, receivedBegins, headRepresentation, headDate, parameterRepresentation, receivedDate, parameters, ownText, behaviourValue, encryptedTexts, afterDate, afterFrom, afterId, afterVia, State, state, Next, outer, inner, innerOne, stay, deeper, listEnds, agentEnds, go, text, opens, Move, noCode, anyValues, representations, sharedDate, ownDates, closing, closed, on_▸_▸_▸_, pass_▸_, shared, own, moves}
 use Rattle.meaning.specs.Reading.{seenBy, takeValue, Found, none, hit, find, orElse, hasCode, look, isClosed, strange, next, stepTaken, valueFrom, stepMove, step}
-use Rattle.laws.specs.Tables.{here, there}
 use Rattle.laws.specs.Lookups.{look-uncoded}
 use Rattle.laws.specs.Shapes.{Shaped, Texts, Optional, NoCode}
 

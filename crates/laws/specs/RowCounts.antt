@@ -7,13 +7,12 @@ use native.Mathlib.Omega.{arith}
 use lib.Dec.{T}
 use lib.ListN.{length, length-append}
 use borrow.Author.Tests.{eqb-true}
-use Rattle.meaning.specs.Basics.{pick}
+use Rattle.meaning.specs.Basics.{pick, In}
 use Rattle.meaning.specs.Told.{Edition}
 use Rattle.meaning.specs.Editions.{Room, State, Form, text, date, number, block, itself, opens, quiet, Move, noCode, moves}
 use Rattle.meaning.specs.Reading.{Row, hasCode}
 use Rattle.meaning.specs.Headers.{Placed, meant}
 use Rattle.meaning.specs.Writing.{writeValue, fits, fitRow, wrap}
-use Rattle.laws.specs.Tables.{In}
 use Rattle.laws.specs.Lookups.{isTextForm, uncoded-text}
 use Rattle.laws.specs.Fits.{fit-holds}
 use Rattle.laws.specs.WrittenRead.{fitAll, then-inv}

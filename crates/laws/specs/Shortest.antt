@@ -9,7 +9,7 @@ use native.Mathlib.Omega.{arith}
 use lib.Dec.{T, eqb, leb, ltb, le→leb, lt→ltb, ltb→lt, eqb→eq}
 use lib.ListN.{length}
 use borrow.Author.Tests.{ltb-true, ltb-false}
-use Rattle.meaning.specs.Basics.{every}
+use Rattle.meaning.specs.Basics.{every, In, here, there}
 use Rattle.meaning.specs.Bytes.{Width, oneByte, twoBytes, fourBytes, bytesOf, fewest, past, shortestOnly, tooWide, blockOk}
 use Rattle.meaning.specs.Kinds.{agentName, anyBytes}
 use Rattle.meaning.specs.Told.{Strictness, strict, Told}
@@ -18,7 +18,7 @@ use Rattle.meaning.specs.Reading.{levelMost, tooDeep}
 use Rattle.meaning.specs.Writing.{valid, writeValue, lead}
 use Rattle.laws.specs.Logic.{left-of, right-of, both, either, not-both}
 use Rattle.laws.specs.Values.{mayStand, allowed}
-use Rattle.laws.specs.Tables.{In, here, there, every-in, allRooms, each-room, rooms, roomNumber, roomAt, room-again}
+use Rattle.laws.specs.Tables.{every-in, allRooms, each-room, rooms, roomNumber, roomAt, room-again}
 
 pub record Shortest (told : Told) (r : Room) (m : Move) (v : List ℕ) : Type 0 where
   pub by : Move

@@ -8,7 +8,7 @@ use mathlib.Core.Path.{_≡_, refl, _∙_, subst}
 use native.Mathlib.Omega.{arith}
 use lib.Dec.{T, eqb, leb}
 use borrow.Author.Tests.{eq-eqb}
-use Rattle.meaning.specs.Basics.{pick, every}
+use Rattle.meaning.specs.Basics.{pick, every, In}
 use Rattle.meaning.specs.Kinds.{agentName}
 use Rattle.meaning.specs.Told.{Edition}
 use Rattle.meaning.specs.Editions.{Room, parameters, agentList, agentExtra, State, state, Next, outer, inner, innerOne, stay, deeper, listEnds, agentEnds, listEnd, go, Move, moves, shared, own}
@@ -17,7 +17,7 @@ use Rattle.meaning.specs.Skips.{Rank, isEnvelope}
 use Rattle.meaning.specs.Headers.{start}
 use Rattle.meaning.specs.Writing.{fits, fitRow}
 use Rattle.laws.specs.Logic.{left-of, right-of, either, not-both}
-use Rattle.laws.specs.Tables.{roomNumber, In, every-in, allRooms, each-room}
+use Rattle.laws.specs.Tables.{roomNumber, every-in, allRooms, each-room}
 use Rattle.laws.specs.Fits.{fit-holds}
 use Rattle.laws.specs.WrittenRead.{fitAll, then-inv}
 use Rattle.laws.specs.Envelopes.{openingRow, Writes, the-base, before}

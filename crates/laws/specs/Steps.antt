@@ -7,13 +7,12 @@ use native.Mathlib.Omega.{arith}
 use lib.Dec.{T}
 use lib.ListN.{length, length-append}
 use borrow.Author.Tests.{eqb-true}
-use Rattle.meaning.specs.Basics.{pick}
+use Rattle.meaning.specs.Basics.{pick, In}
 use Rattle.meaning.specs.Bytes.{Taken, took, failed, Rule, takeText, textOk, takeDate, dateOk, dateChecks, takeNumber, numberOk, Count, counted, short, highFirst, Width, bytesOf, tooWide, takeBytes, blockOf, takeBlock}
 use Rattle.meaning.specs.Told.{known, Told}
 use Rattle.meaning.specs.Editions.{Room, State, go, Form, text, date, number, block, itself, opens, quiet, isQuiet, Move, noCode, moves}
 use Rattle.meaning.specs.Reading.{Seen, seen, takeValue, reachBack, seenBy, Found, none, hit, hasCode, look, isClosed, strange, tooDeep, Step, fails, over, next, stepTaken, valueFrom, stepMove, step, Out, dry, fault, done, withRows, onward, run, inside}
 use Rattle.laws.specs.Values.{Was, ended, text-out, date-out, number-out, Took, bytes-out}
-use Rattle.laws.specs.Tables.{In}
 use Rattle.laws.specs.Lookups.{isTextForm, uncoded-text, Looked, looked}
 
 -- a value leaves at most n bytes

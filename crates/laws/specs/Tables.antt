@@ -5,16 +5,11 @@ use mathlib.Core.Bool.{Bool, true, false, _&&_, not}
 use mathlib.Core.Logic.{_⊎_, inl, inr}
 use mathlib.Core.Path.{_≡_, refl, sym, subst}
 use lib.Dec.{T}
-use Rattle.meaning.specs.Basics.{pick, every}
+use Rattle.meaning.specs.Basics.{pick, every, In, here, there}
 use Rattle.meaning.specs.Told.{Edition, B, D}
 use Rattle.meaning.specs.Editions.{Room, receivedBegins, headRepresentation, headDate, parameters, ownText, parameterRepresentation, behaviourValue, encryptedTexts, receivedDate, afterDate, afterFrom, afterId, afterVia, receivedExtra, agentList, oneAgent, afterName, addressTexts, afterAddresses, afterResolvers, agentExtra, closed, Move, shared, own, moves}
 use Rattle.meaning.specs.Reading.{Found, none, hit, find}
 use Rattle.laws.specs.Logic.{left-of, right-of, is-true, not-both}
-
--- x is a member of the list
-pub data In {A : Type 0} (x : A) : List A → Type 0 where
-  here : {l : List A} → In x (x ∷ l)
-  there : {y : A} {l : List A} → In x l → In x (y ∷ l)
 
 pub every-in : {A : Type 0} (p : A → Bool) {x : A} {l : List A} → In x l → T (every p l) → T (p x)
 every-in p {x} (here {l = l}) t = left-of (p x) (every p l) t

@@ -15,14 +15,12 @@ use Rattle.meaning.specs.Headers.{envelopesMost}
 use Rattle.meaning.specs.Writing.{Cell, cell, Envelope, Plan, stuck, plan, wholePlan, headerOf, Limit, fine, exceeds, limits, Written, written, unwritten, limited, planned, writeRows, writtenUnder}
 use Rattle.meaning.specs.Skips.{Skips, right, wrongAt}
 use Rattle.meaning.specs.Memory.{roomOf, cellsOf, skipsHeld, write}
-use Rattle.laws.specs.Hopping.{AllRight, all-held, held-are}
-use Rattle.laws.specs.RightSkips.{LowestWrong, wrong-means, right-means}
 use Rattle.laws.specs.Ties.{write-as}
 use Rattle.laws.specs.Completing.{Sound}
 use Rattle.laws.specs.Fifteen.{stuck-between}
 use Rattle.laws.specs.Stopping.{begins-plan, with-none}
-use Rattle.laws.specs.Grammar.{Mark, Small, PastLimit}
-use Rattle.laws.specs.WriterFaults.{AreTable, BeginTable, NoneWithNext, StopsAt, GoodRows, WriterFault, no-edition, no-table, wrong-skip, past-limit, no-room, WritesAs}
+use Rattle.meaning.specs.Grammar.{Mark, Small, PastLimit}
+use Rattle.meaning.specs.WriterFaults.{AreTable, BeginTable, NoneWithNext, StopsAt, GoodRows, WriterFault, no-edition, no-table, wrong-skip, past-limit, no-room, WritesAs}
 use Rattle.laws.specs.Planning.{markOf, planned-table, table-planned}
 use Rattle.laws.specs.Limits.{LimitIs, limit-is, limit-fine, limit-past}
 
@@ -103,23 +101,6 @@ stops-stuck e cs i s = at (wholePlan e cs) refl
     at (stuck j) q = q ∙ ap stuck (same j (stuck-stops e cs j q) (ltb i j) (ltb j i) refl refl)
     at (plan bs vs) q = absurd (table-goes-on e cs i s (plan-is-table e cs bs vs q))
 
--- Skip numbers
-
-right-held : (rows : List ℕ) → AllRight rows (roomOf rows) 0 → skipsHeld rows ≡ right
-right-held rows a = held-are rows ∙ all-held rows (roomOf rows) a
-
-wrong-held : (rows : List ℕ) (i : ℕ) → LowestWrong rows (roomOf rows) 0 i → skipsHeld rows ≡ wrongAt i
-wrong-held rows i w = at (skipsHeld rows) refl
-  where
-    same : (j : ℕ) → LowestWrong rows (roomOf rows) 0 j → (x y : Bool) → ltb i j ≡ x → ltb j i ≡ y → j ≡ i
-    same j v true y p q = absurd (w .wrong (v .before i (omega arith) (ltb-true i j p)))
-    same j v false true p q = absurd (v .wrong (w .before j (omega arith) (ltb-true j i q)))
-    same j v false false p q = let a = ltb-false i j p in let b = ltb-false j i q in omega arith
-
-    at : (s : Skips) → skipsHeld rows ≡ s → skipsHeld rows ≡ wrongAt i
-    at right q = absurd (w .wrong (right-means rows q i (omega arith) (w .inside)))
-    at (wrongAt j) q = q ∙ ap wrongAt (same j (wrong-means rows j q) (ltb i j) (ltb j i) refl refl)
-
 -- From what is given to what is said
 
 module _ (edition : ℕ) (rows pool : List ℕ) (room : ℕ) where
@@ -137,8 +118,8 @@ module _ (edition : ℕ) (rows pool : List ℕ) (room : ℕ) where
 
   plan-says : (e : Edition) → labelOf edition ≡ known e → (skips : Skips) → skipsHeld rows ≡ skips → (p : Plan) → wholePlan e (cellsOf pool rows) ≡ p → WrittenSays (planned room skips p)
   plan-says e k skips h (stuck i) q = no-table k (stuck-stops e (cellsOf pool rows) i q)
-  plan-says e k (wrongAt i) h (plan bs vs) q = wrong-skip k (plan-is-table e (cellsOf pool rows) bs vs q) (wrong-means rows i h)
-  plan-says e k right h (plan bs vs) q = limit-says e k vs (record { are = planned-table e (cellsOf pool rows) bs vs q; skips = right-means rows h }) (limits envelopesMost vs) (limit-is envelopesMost vs)
+  plan-says e k (wrongAt i) h (plan bs vs) q = wrong-skip k (plan-is-table e (cellsOf pool rows) bs vs q) h
+  plan-says e k right h (plan bs vs) q = limit-says e k vs (record { are = planned-table e (cellsOf pool rows) bs vs q; skips = h }) (limits envelopesMost vs) (limit-is envelopesMost vs)
 
   label-says : (l : Label) → labelOf edition ≡ l → WrittenSays (writtenUnder room (cellsOf pool rows) (skipsHeld rows) l)
   unfolding writeRows
@@ -164,7 +145,7 @@ module _ (edition : ℕ) (rows pool : List ℕ) (room : ℕ) (e : Edition) (k : 
   good-given : (bytes : List ℕ) (marks : List Mark) → GoodRows e rows pool bytes marks → (vs : List Envelope) × (write edition rows pool room ≡ limited room vs (limits envelopesMost vs)) × (headerOf vs ≡ bytes) × (map markOf vs ≡ marks)
   good-given bytes marks g =
       let (vs, p, a, b) = table-planned e (cellsOf pool rows) bytes marks (g .are) in
-      (vs, planned-given (plan [] vs) p ∙ ap (λ (s : Skips). planned room s (plan [] vs)) (right-held rows (g .skips)), a, b)
+      (vs, planned-given (plan [] vs) p ∙ ap (λ (s : Skips). planned room s (plan [] vs)) (g .skips), a, b)
 
   within-given : (bytes : List ℕ) (marks : List Mark) → GoodRows e rows pool bytes marks → Small marks → length marks ≤ envelopesMost → write edition rows pool room ≡ pick (leb (length bytes) room) (written bytes) (unwritten 16 (length bytes))
   within-given bytes marks g s few =
@@ -177,7 +158,7 @@ fault-given edition rows pool room (no-edition k) = unknown-given edition rows p
 fault-given edition rows pool room (no-table {e} {i} k s) = planned-given edition rows pool room e k (stuck i) (stops-stuck e (cellsOf pool rows) i s)
 fault-given edition rows pool room (wrong-skip {e} {i} k t w) =
     let (vs, p, _, _) = table-planned e (cellsOf pool rows) (t .bytes) (t .marks) (t .are) in
-    planned-given edition rows pool room e k (plan [] vs) p ∙ ap (λ (s : Skips). planned room s (plan [] vs)) (wrong-held rows i w)
+    planned-given edition rows pool room e k (plan [] vs) p ∙ ap (λ (s : Skips). planned room s (plan [] vs)) w
 fault-given edition rows pool room (past-limit {e} {i} {bytes} {marks} k g p) =
     let (vs, w, a, b) = good-given edition rows pool room e k bytes marks g in
     w ∙ ap (limited room vs) (limit-past envelopesMost vs i (subst (λ (m : List Mark). PastLimit envelopesMost m i) (sym b) p))

@@ -7,7 +7,7 @@ use native.Mathlib.Omega.{arith}
 use lib.Dec.{T, leb, ltb, leb→le, ltb→lt, lt→ltb}
 use lib.ListN.{length, take, drop}
 use borrow.Author.Tests.{eqb-false, leb-true}
-use Rattle.meaning.specs.Basics.{pick, every}
+use Rattle.meaning.specs.Basics.{pick, every, In}
 use Rattle.meaning.specs.Bytes.{Width, oneByte, twoBytes, fourBytes, fewest, past, lengthBytes, blockOk}
 use Rattle.meaning.specs.Told.{Edition}
 use Rattle.meaning.specs.Editions.{Room, State, Form, text, date, number, block, itself, opens, quiet, isQuiet, Move, noCode, moves, shared, own}
@@ -17,7 +17,7 @@ use Rattle.meaning.specs.Writing.{valid, writeValue, fits, lead, fitRow, close,
 use Rattle.meaning.specs.Memory.{cellsOf}
 use Rattle.laws.specs.Logic.{left-of, right-of, both, isByte, areBytes}
 use Rattle.laws.specs.Rows.{every-cell}
-use Rattle.laws.specs.Tables.{In, every-in, allRooms, each-room}
+use Rattle.laws.specs.Tables.{every-in, allRooms, each-room}
 use Rattle.laws.specs.Lookups.{quiet-coded}
 use Rattle.laws.specs.Fits.{fit-holds, close-holds}
 use Rattle.laws.specs.WrittenRead.{fitAll, then-inv}

@@ -7,7 +7,7 @@ use native.Mathlib.Omega.{arith}
 use lib.Dec.{T, eqb, eqb→eq}
 use lib.ListN.{length}
 use borrow.Author.Tests.{eqb-true}
-use Rattle.meaning.specs.Basics.{pick, every}
+use Rattle.meaning.specs.Basics.{pick, every, In}
 use Rattle.meaning.specs.Bytes.{took, textByte, textOk}
 use Rattle.meaning.specs.Kinds.{standardRepresentation, dateAbsolute, dateForward, dateBackward, anyBytes, payloadLength}
 use Rattle.meaning.specs.Told.{Edition, Told}
@@ -16,7 +16,7 @@ use Rattle.meaning.specs.Reading.{Row, Seen, seen, rowOf, takeValue, reachBack,
 use Rattle.meaning.specs.Writing.{valid, writeValue, Fit, unfit, fits, led, fitRow, close}
 use Rattle.laws.specs.Logic.{left-of}
 use Rattle.laws.specs.Values.{text-byte-above, value-in}
-use Rattle.laws.specs.Tables.{In, every-in, allRooms, each-room}
+use Rattle.laws.specs.Tables.{every-in, allRooms, each-room}
 use Rattle.laws.specs.Lookups.{isTextForm, look-coded, look-uncoded, uncoded-text, quiet-coded, quiet-flat}
 use Rattle.laws.specs.Steps.{Path, rests, moves-on, inside-path, inside-over, step-is, step-over, loud-seen, quiet-seen}
 use Rattle.laws.specs.Fits.{unfit-fits, led-inv, Placing, fit-holds, close-holds}

@@ -16,3 +16,8 @@ module _ {A : Type 0} where
   abbrev pub every : (A → Bool) → List A → Bool
   every p [] = true
   every p (x ∷ xs) = p x && every p xs
+
+-- x is a member of the list
+pub data In {A : Type 0} (x : A) : List A → Type 0 where
+  here : {l : List A} → In x (x ∷ l)
+  there : {y : A} {l : List A} → In x l → In x (y ∷ l)

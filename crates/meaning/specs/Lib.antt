@@ -11,6 +11,9 @@ pub mod Words
 pub mod Headers
 pub mod Writing
 pub mod Memory
+pub mod Grammar
+pub mod Faults
+pub mod WriterFaults
 pub mod Present
 pub mod Lookup
 pub mod Which

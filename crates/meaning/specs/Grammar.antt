@@ -1,20 +1,19 @@
--- What a header of an edition is, said by document 01's grammar: bytes and their rows, with neither the reading machine nor the writer's plan. To be read like `meaning`: the demands are
--- stated over it. What the editions allow stands in their tables (`Editions`); which values are valid, and how a value and an envelope's head stand as bytes, in `Writing`.
+-- What a header of an edition is, said by document 01's grammar: bytes and their rows, with neither the reading machine nor the writer's plan. The demands are stated over it.
+-- What the editions allow stands in their tables (`Editions`); which values are valid, and how a value and an envelope's head stand as bytes, in `Writing`.
 use Prim.Native.Nat.{ℕ, suc, _+_, _≤_, _<_}
 use mathlib.Core.List.{List, [], _∷_, _++_}
 use mathlib.Core.Bool.{Bool, true, false}
 use mathlib.Core.Path.{_≡_}
 use lib.Dec.{T}
 use lib.ListN.{length}
-use Rattle.meaning.specs.Basics.{pick}
+use Rattle.meaning.specs.Basics.{pick, In}
 use Rattle.meaning.specs.Bytes.{bytesOf}
 use Rattle.meaning.specs.Kinds.{agentName}
 use Rattle.meaning.specs.Told.{Edition, known, labelOf}
 use Rattle.meaning.specs.Editions.{State, go, Form, text, date, number, block, itself, opens, quiet, isQuiet, Move, moves}
 use Rattle.meaning.specs.Reading.{isClosed, levelMost}
 use Rattle.meaning.specs.Headers.{Placed, placedRow, envelopeMost, envelopesMost, opening, start}
 use Rattle.meaning.specs.Writing.{valid, writeValue, lead, isShort, envelopeSize, wrap}
-use Rattle.laws.specs.Tables.{In}
 
 -- a move's bytes, with the value v: its code, if it has one, then the value in its form
 abbrev pub standing : Move → List ℕ → List ℕ

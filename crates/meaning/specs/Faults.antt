@@ -1,19 +1,19 @@
 -- What each refusal of the reader says, in document 01's words ("Answers by number"): the bytes before the fault are in order, and what is wrong at its place.
--- To be read like `meaning`; no clause looks behind what it names, so the first fault decides.
+-- No clause looks behind what it names, so the first fault decides.
 use Prim.Native.Nat.{ℕ, suc, _+_, _≤_, _<_}
 use mathlib.Core.List.{List, [], _∷_, _++_}
 use mathlib.Core.Bool.{Bool, true, false}
 use mathlib.Core.Path.{_≡_}
 use lib.Dec.{T}
 use lib.ListN.{length}
 use Rattle.meaning.specs.Basics.{pick}
 use Rattle.meaning.specs.Bytes.{Rule, textByte, textOk, Reach, dateChecks, Check, passes, dateOk, more, wrong, turn, counted, highFirst, Width, bytesOf, fewest}
 use Rattle.meaning.specs.Kinds.{agentName}
 use Rattle.meaning.specs.Told.{Edition, known, unknown, labelOf}
 use Rattle.meaning.specs.Editions.{State, Form, text, date, number, block, Move, moves}
 use Rattle.meaning.specs.Reading.{none, hit, look, isClosed, strange, levelMost, valueFrom}
 use Rattle.meaning.specs.Headers.{Placed, envelopeMost, envelopesMost, start, shortLeast, longLeast}
-use Rattle.laws.specs.Grammar.{Steps, Inside, HeaderOf}
+use Rattle.meaning.specs.Grammar.{Steps, Inside, HeaderOf}
 
 -- Faults inside a value. Its bytes, up to the declared end; the refusal; and how many of them are left at the fault
 
