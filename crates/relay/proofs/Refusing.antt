@@ -21,9 +21,8 @@ use Rattle.laws.specs.JoinedRead.{refused-as-read}
 use Rattle.table.specs.declared.reply.Reply.{Reply}
 use Rattle.table.specs.Reply.{replyOf}
 use Rattle.table.specs.declared.told.Label.{Label}
-use Rattle.table.specs.declared.told.Label.the-variants.{Known, Unknown}
-use Rattle.table.specs.declared.told.Edition as declared
-use Rattle.table.specs.Told.{editionOf, labelIs}
+use Rattle.table.specs.declared.told.Label.the-variants.{Unknown}
+use Rattle.table.specs.Told.{labelIs}
 use Rattle.read_rows.specs.declared.Stage.{Stage}
 use Rattle.read_rows.specs.declared.Stage.the-variants.{Refused}
 use Rattle.read_envelopes.specs.Counts.{EnvelopesCounted}
@@ -94,13 +93,7 @@ module _ (edition : ℕ) (input table pool rows words output : List ℕ) where
   pub no-header : LentBytes → {old : Stage} {refusal place : ℕ} {r : Reply} → Counted edition input old → old ≡ Refused place refusal → replyOf r ≡ reply refusal place 0 → RelayPromise edition input table pool rows words output r rows words output
   no-header lent {refusal = refusal} {place = place} c g s = unrelayed-is lent refusal place (refused-as-read edition input table pool refusal place (c .refuses _ _ g)) s
 
-  module _ {label : Label} {known-as : declared.Edition} (k : labelIs label ≡ labelOf edition) (u : label ≡ Known known-as) {place n : ℕ} (a : AcceptedHeader strict edition input place n) where
-    abbrev e : Edition
-    e = editionOf known-as
-
-    told-as : labelOf edition ≡ known e
-    told-as = sym k ∙ ap labelIs u
-
+  module _ {e : Edition} (told-as : labelOf edition ≡ known e) {place n : ℕ} (a : AcceptedHeader strict edition input place n) where
     header-is : header envelopesMost (told e) 0 input ≡ accepted place (a .rows)
     header-is = sym (read-as strict edition e input told-as) ∙ a .is
 

@@ -24,11 +24,13 @@ use write_envelopes::measure::size_of;
 use writer::skips_before;
 ghost use mathlib.Core.Path.{_≡_};
 ghost use Prim.Native.Nat.{_≤_};
+ghost use Rattle.meaning.specs.Told as told;
 ghost use Rattle.meaning.specs.Headers.{envelopeMost};
 ghost use Rattle.meaning.specs.Memory.{skipsHeld};
 ghost use Rattle.meaning.specs.Relay.{extensionPlan};
 ghost use Rattle.laws.specs.Rows.{cellsAt};
 ghost use Rattle.table.specs.Told.{editionOf};
+ghost use Rattle.reader.specs.Promises.{AcceptedHeader};
 ghost use Rattle.write_envelopes.specs.Whole.{checkedOf};
 ghost use Rattle.relay.specs.Promise.{RelayPromise, newVerdict, OneMoreFits, Joinable};
 
@@ -55,29 +57,58 @@ pub fn relay(
     let old = count(edition, input);
     match old {
         Stage::Refused { refusal, at } => refused(refusal, at),
-        Stage::Go(place, n) => {
-            let new = check_new(known, table, pool);
-            match new {
-                Checked::Bad { answer, place: row } => refused(answer, row),
-                Checked::Needs(many) => {
-                    if one_more_fits(input, many) {
-                        return join(
-                            edition,
-                            known,
-                            input,
-                            table,
-                            pool,
-                            rows,
-                            words,
-                            output,
-                            place,
-                            n,
-                            many,
-                        );
-                    }
-                    refused(ENVELOPE_LIMIT, 0)
-                }
+        Stage::Go(place, n) => put_before(
+            edition,
+            known,
+            input,
+            table,
+            pool,
+            rows,
+            words,
+            output,
+            place,
+            n,
+        ),
+    }
+}
+
+// The same for an old header up to `place` with n rows, in a known edition: refuses, in this order, what is wrong with the new table (15), with the limits (5), and
+// with the room (14, 16).
+fn put_before(
+    edition: u32,
+    known: Edition,
+    input: &[u8],
+    table: &[u32],
+    pool: &[u8],
+    rows: &mut [u32],
+    words: &mut [u32],
+    output: &mut [u8],
+    place: usize,
+    n: usize,
+) -> Reply
+    requires { ⌜ (told.labelOf edition ≡ told.known (editionOf known)) × AcceptedHeader told.strict edition (now input) place n ⌝ }
+    ensures { λ r. ⌜ RelayPromise edition (now (input .entry)) (now (table .entry)) (now (pool .entry)) (now (rows .entry)) (now (words .entry)) (now (output .entry)) r (now (rows .exit)) (now (words .exit)) (now (output .exit)) ⌝ }
+{
+    let new = check_new(known, table, pool);
+    match new {
+        Checked::Bad { answer, place: row } => refused(answer, row),
+        Checked::Needs(many) => {
+            if one_more_fits(input, many) {
+                return join(
+                    edition,
+                    known,
+                    input,
+                    table,
+                    pool,
+                    rows,
+                    words,
+                    output,
+                    place,
+                    n,
+                    many,
+                );
             }
+            refused(ENVELOPE_LIMIT, 0)
         }
     }
 }
