@@ -37,4 +37,7 @@ pub mod Sortings
 pub mod Relaying
 pub mod Strange
 pub mod Further
+pub mod Ranges
+pub mod Long
 pub mod Bounds
+pub mod Between

@@ -7,7 +7,7 @@ use lib.ListN.{length, replicate}
 use Rattle.meaning.specs.Basics.{pick, every}
 use Rattle.meaning.specs.Told.{Strictness, strict, tolerant}
 use Rattle.meaning.specs.Headers.{readBy}
-use Rattle.meaning.specs.Memory.{tableOf, readReply, write}
+use Rattle.meaning.specs.Memory.{tableOf, readReply, answerBy, rowsBy, wordsBy, write}
 use Rattle.meaning.specs.Cases.{same, hex, aDate, replyIs, rowsIn, viewsFrom, bytesAre}
 
 -- a base with these parameters, in the length form that its size asks for
@@ -101,5 +101,16 @@ lengthForms =
 abbrev unknownEdition : Bool
 unknownEdition = answerIs tolerant (at 3 [] []) (hex 0x1_fe) 1 0 && answerIs tolerant (at 0 [] []) [] 1 0
 
+-- what is lent: the tolerant reading lays its rows and words there, the strict one refuses and changes nothing
+abbrev lent : ℕ → List ℕ
+lent n = replicate n 99
+
+abbrev memory : ℕ → Bool
+memory e =
+    let input = sizedBase (hex 0x1_0b_17_00_01_7f) in
+    replyIs 0 20 5 (answerBy tolerant e input (lent 26) (lent 17)) && same (wordsBy tolerant e input (lent 26) (lent 17)) (2064 ∷ lent 16) &&
+    same (rowsBy tolerant e input (lent 26) (lent 17)) (2 ∷ 0 ∷ 0 ∷ 0 ∷ 5 ∷ 3 ∷ 0 ∷ 3 ∷ 1 ∷ 2 ∷ 5 ∷ 0 ∷ 5 ∷ 9 ∷ 3 ∷ 29 ∷ 0 ∷ 14 ∷ 0 ∷ 5 ∷ 21 ∷ 0 ∷ 18 ∷ 1 ∷ 5 ∷ 99 ∷ []) &&
+    replyIs 11 15 0 (answerBy strict e input (lent 26) (lent 17)) && same (rowsBy strict e input (lent 26) (lent 17)) (lent 26) && same (wordsBy strict e input (lent 26) (lent 17)) (lent 17)
+
 abbrev pub widths : Bool
-widths = forms && faults && lengthForms && unknownEdition
+widths = memory 1 && memory 2 && forms && faults && lengthForms && unknownEdition
