@@ -2,18 +2,20 @@
 -- part after each refusal, the coders' kinds and order of refusals, levels far from the one expected.
 use Prim.Native.Nat.{ℕ, zero, suc, _+_}
 use mathlib.Core.List.{List, [], _∷_, _++_}
-use mathlib.Core.Bool.{Bool, _&&_}
+use mathlib.Core.Bool.{Bool, _&&_, _||_}
 use lib.Dec.{eqb}
 use lib.ListN.{length, take, drop, replicate}
-use Rattle.meaning.specs.Basics.{every}
-use Rattle.meaning.specs.Memory.{row, readAnswer, readRows, readWords, writeOutput}
+use Rattle.meaning.specs.Basics.{pick, every}
+use Rattle.meaning.specs.Told.{B, told}
+use Rattle.meaning.specs.Headers.{header}
+use Rattle.meaning.specs.Memory.{Numbers, row, readReply, readAnswer, readRows, readWords, writeAnswer, writeOutput}
 use Rattle.meaning.specs.Present.{presentAnswer}
 use Rattle.meaning.specs.Relay.{relayAnswer, relayOutput}
 use Rattle.meaning.specs.Listing.{listing}
 use Rattle.meaning.specs.Payload.{payloadStart, payloadEnd, payloadBytes}
 use Rattle.meaning.specs.Plain.{Date, numberEncoded, dateDecoded, dateEncoded}
-use Rattle.meaning.specs.Cases.{same, joined, hex, aDate, baseWith, baseRows, replyIs, inMemory, Reading, refuses, reads, Writing, unwriting, unwritingPart, writes, outcomeIs, Number, number, decodes, encodes, DateRead, datesRead}
-use Rattle.meaning.specs.Accepting.{anExtension, extensionRows}
+use Rattle.meaning.specs.Cases.{same, joined, upFrom, hex, aDate, baseWith, baseRows, replyIs, inMemory, Reading, refuses, reads, Writing, unwriting, unwritingPart, writes, outcomeIs, Number, number, decodes, encodes, DateRead, datesRead}
+use Rattle.meaning.specs.Accepting.{anExtension, extensionRows, baseRowsAt}
 
 abbrev aBase : List ℕ
 aBase = baseWith 0x0f 0x20 (hex 0x1_01)
@@ -66,6 +68,15 @@ faults =
     later (hex 0x1_fd_00_12_61_00_20 ++ (aDate ++ hex 0x1_01_01_77)) 13 17 ∷ later (hex 0x1_fd_00_10_61_00_20 ++ (aDate ++ hex 0x1_01)) 6 16 ∷ later (hex 0x1_fe_00_10_12) 2 4 ∷
     (refuses 1 (longForm 0xfe 0x13) 7 7 ∷ refuses 2 (longForm 0xfd 0x1f) 8 7 ∷ refuses 2 (anExtension ++ longForm 0xfe 0x13) 7 24 ∷ []) ∷ [])
 
+-- "3: identifier not FD or FE": every byte, in front, behind an extension and as the seventeenth
+abbrev isIdentifier : ℕ → Bool
+isIdentifier b = eqb b 0xfd || eqb b 0xfe
+
+abbrev identifies : ℕ → Bool
+identifies b =
+    let is = isIdentifier b in
+    reads (refuses 1 (b ∷ []) (pick is 2 3) (pick is 1 0)) && reads (refuses 2 (anExtension ++ (b ∷ [])) (pick is 2 3) (pick is 18 17)) && replyIs (pick is 5 3) 272 0 (readReply 0 (header 0 (told B) 272 (b ∷ [])))
+
 -- Lent memory and the payload's part after each refusal: nothing changes, and the part is the empty one at the front
 
 abbrev nested : ℕ → List ℕ
@@ -86,6 +97,20 @@ abbrev keeps : Reading → Bool
 keeps c =
     replyIs (c .answer) (c .place) 0 (readAnswer (c .edition) (c .input) (lent 40) (lent 17)) && same (readRows (c .edition) (c .input) (lent 40) (lent 17)) (lent 40) &&
     same (readWords (c .edition) (c .input) (lent 40) (lent 17)) (lent 17) && eqb (payloadStart (c .edition) (c .input)) 0 && eqb (payloadEnd (c .edition) (c .input)) 0 && same (payloadBytes (c .edition) (c .input)) []
+
+abbrev extensions : ℕ → List Numbers
+extensions zero = baseRowsAt 17
+extensions (suc n) = extensionRows 0 ++ extensions n
+
+abbrev keepsOutput : ℕ → List ℕ → ℕ → ℕ → ℕ → Bool
+keepsOutput e table room answer place =
+    let pool = anExtension ++ aBase in
+    replyIs answer place 0 (writeAnswer e table pool (lent room)) && same (writeOutput e table pool (lent room)) (lent room)
+
+abbrev outputs : Bool
+outputs =
+    keepsOutput 3 (inMemory (baseRowsAt 17)) 20 1 0 && keepsOutput 1 (inMemory (row 2 0 0 0 ∷ [])) 20 15 1 && keepsOutput 2 (inMemory (baseRowsAt 17) ++ (0 ∷ [])) 20 15 3 && keepsOutput 1 (2 ∷ 0 ∷ 0 ∷ 0 ∷ 3 ∷ 3 ∷ 0 ∷ 20 ∷ 1 ∷ 2 ∷ 5 ∷ 0 ∷ 22 ∷ 9 ∷ 4 ∷ []) 20 15 2 &&
+    keepsOutput 1 (inMemory (extensions 16)) 400 5 48 && keepsOutput 2 (inMemory (extensions 16)) 0 5 48 && keepsOutput 1 (inMemory (baseRowsAt 17)) 14 16 15 && keepsOutput 2 (inMemory (extensions 1)) 31 16 32
 
 -- Tables: every count of numbers left over; levels far from the one expected
 
@@ -117,4 +142,4 @@ editions = 0 ∷ 3 ∷ 4 ∷ 12 ∷ 255 ∷ 256 ∷ 257 ∷ 258 ∷ 65537 ∷ 65
 
 abbrev pub further : Bool
 further =
-    every notKnown editions && every decodes numbers && every datesRead dates && encoders && every reads faults && every reads refusals && every keeps refusals && every writes tables
+    every notKnown editions && every decodes numbers && every datesRead dates && encoders && every reads faults && every identifies (upFrom 0 256) && every reads refusals && every keeps refusals && outputs && every writes tables

@@ -38,6 +38,7 @@ pub mod Relaying
 pub mod Strange
 pub mod Further
 pub mod Ranges
+pub mod Fitting
 pub mod Long
 pub mod Bounds
 pub mod Between

@@ -78,8 +78,18 @@ abbrev twice : ℕ → Case
 twice e =
     record { edition = e; input = aNew ++ aBase; table = table; rows = 45; words = 17; output = 49; answer = 0; place = 49; count = 9; rowsAfter = inMemory (newRowsAt 0 ++ (newRowsAt 17 ++ baseRowsAt 34)); wordsAfter = 1024 ∷ 1024 ∷ 16 ∷ lent 14; outputAfter = aNew ++ (aNew ++ aBase) }
 
+-- what D has alone: a forward date and an extra, before a forward date; and what B has: an encrypted item, before a date with a designator
+abbrev forward : Case
+forward =
+    record { edition = 2; input = baseWith 0x0f 0x21 (hex 0x1_01); table = inMemory (row 1 0 0 0 ∷ row 8 0 3 1 ∷ row 6 1 6 9 ∷ row 19 1 3 1 ∷ row 20 1 3 1 ∷ []); rows = 40; words = 16; output = 38; answer = 0; place = 38; count = 8; rowsAfter = 1 ∷ 0 ∷ 0 ∷ 0 ∷ 5 ∷ 8 ∷ 0 ∷ 3 ∷ 1 ∷ 5 ∷ 6 ∷ 1 ∷ 6 ∷ 9 ∷ 3 ∷ 19 ∷ 1 ∷ 16 ∷ 1 ∷ 5 ∷ 20 ∷ 1 ∷ 19 ∷ 1 ∷ 5 ∷ 2 ∷ 0 ∷ 23 ∷ 0 ∷ 8 ∷ 3 ∷ 0 ∷ 26 ∷ 1 ∷ 7 ∷ 6 ∷ 0 ∷ 28 ∷ 9 ∷ 8 ∷ []; wordsAfter = 1024 ∷ 16 ∷ lent 14; outputAfter = hex 0x1_fd_00_17_61_00_21 ++ (aDate ++ (hex 0x1_05_61_00_14_61_00_01_01 ++ baseWith 0x0f 0x21 (hex 0x1_01))) }
+
+abbrev encrypted : Case
+encrypted =
+    record { edition = 1; input = baseWith 0x10 0x21 (hex 0x1_5a_01); table = inMemory (newRowsAt 0 ++ (row 25 0 0 0 ∷ row 26 0 3 1 ∷ [])); rows = 40; words = 16; output = 37; answer = 0; place = 37; count = 8; rowsAfter = 1 ∷ 0 ∷ 0 ∷ 0 ∷ 5 ∷ 8 ∷ 0 ∷ 3 ∷ 1 ∷ 3 ∷ 5 ∷ 1 ∷ 6 ∷ 9 ∷ 3 ∷ 25 ∷ 0 ∷ 16 ∷ 0 ∷ 5 ∷ 26 ∷ 0 ∷ 17 ∷ 1 ∷ 5 ∷ 2 ∷ 0 ∷ 21 ∷ 0 ∷ 8 ∷ 3 ∷ 0 ∷ 24 ∷ 1 ∷ 7 ∷ 5 ∷ 0 ∷ 26 ∷ 10 ∷ 8 ∷ []; wordsAfter = 1280 ∷ 16 ∷ lent 14; outputAfter = hex 0x1_fd_00_15_61_00_20 ++ (aDate ++ (hex 0x1_01_08_61_00_01_01 ++ baseWith 0x10 0x21 (hex 0x1_5a_01))) }
+
 abbrev accepted : List Case
-accepted = joining 1 0 0 0 ∷ joining 2 0 0 0 ∷ joining 1 4 1 3 ∷ joining 2 5 0 1 ∷ commenting 1 ∷ commenting 2 ∷ twice 1 ∷ twice 2 ∷ []
+accepted =
+    forward ∷ encrypted ∷ joining 1 0 0 0 ∷ joining 2 0 0 0 ∷ joining 1 4 1 3 ∷ joining 2 5 0 1 ∷ commenting 1 ∷ commenting 2 ∷ twice 1 ∷ twice 2 ∷ []
 
 -- "the new ones, then the old with starts moved by the new envelope's length", as rows
 abbrev rowsIn : Relayed → List ℕ
