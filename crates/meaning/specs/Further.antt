@@ -7,7 +7,8 @@ use lib.Dec.{eqb}
 use lib.ListN.{length, take, drop, replicate}
 use Rattle.meaning.specs.Basics.{pick, every}
 use Rattle.meaning.specs.Told.{B, told}
-use Rattle.meaning.specs.Headers.{header}
+use Rattle.meaning.specs.Reading.{Row, seen, rowOf}
+use Rattle.meaning.specs.Headers.{placedRow, meant, header}
 use Rattle.meaning.specs.Memory.{Numbers, row, readReply, readAnswer, readRows, readWords, writeAnswer, writeOutput}
 use Rattle.meaning.specs.Present.{presentAnswer}
 use Rattle.meaning.specs.Relay.{relayAnswer, relayOutput}
@@ -26,7 +27,9 @@ aBase = baseWith 0x0f 0x20 (hex 0x1_01)
 abbrev pub numbers : List Number
 numbers =
     number (hex 0x1_23_45_67_89_a1_00) 0 6 1234567890 ∷ number (hex 0x1_43_21_a9_87_65_00) 0 6 3210987654 ∷ number (hex 0x1_a9_87_65_43_20) 0 5 987654321 ∷
-    number (hex 0x1_aa_aa_aa_aa_aa_00) 10 4 0 ∷ number (hex 0x1_21_11_11_11_11_10) 10 5 0 ∷ []
+    number (hex 0x1_aa_aa_aa_aa_aa_00) 10 4 0 ∷ number (hex 0x1_21_11_11_11_11_10) 10 5 0 ∷
+    -- several bytes left over: the first of them
+    number (hex 0x1_80_00_00) 10 1 0 ∷ number (hex 0x1_10_23_45_60) 10 1 0 ∷ number (hex 0x1_23_00_80_23_00) 10 2 0 ∷ []
 
 abbrev decoding : ℕ → List ℕ → ℕ → ℕ → List ℕ → DateRead
 decoding kind s answer place xs = record { kind = kind; bytes = s; answer = answer; place = place; components = xs }
@@ -35,7 +38,8 @@ decoding kind s answer place xs = record { kind = kind; bytes = s; answer = answ
 abbrev pub dates : List DateRead
 dates =
     decoding 6 (hex 0x1_12_34_56_78_9a_21_43_65_80) 0 9 (123 ∷ 45 ∷ 67 ∷ 89 ∷ 10 ∷ 32 ∷ 547 ∷ 0 ∷ []) ∷ decoding 7 (hex 0x1_a9_87_65_43_21_aa_19_28_70) 0 9 (9876 ∷ 54 ∷ 32 ∷ 10 ∷ 99 ∷ 8 ∷ 176 ∷ 0 ∷ []) ∷
-    decoding 0 aDate 9 0 (replicate 8 0) ∷ decoding 4 [] 9 0 (replicate 8 0) ∷ decoding 8 (aDate ++ hex 0x1_5a) 9 0 (replicate 8 0) ∷ decoding 0 [] 9 0 (replicate 8 0) ∷ []
+    decoding 0 aDate 9 0 (replicate 8 0) ∷ decoding 4 [] 9 0 (replicate 8 0) ∷ decoding 8 (aDate ++ hex 0x1_5a) 9 0 (replicate 8 0) ∷ decoding 0 [] 9 0 (replicate 8 0) ∷
+    decoding 5 (aDate ++ hex 0x1_5a_5a_5a) 9 10 (replicate 8 0) ∷ decoding 7 (aDate ++ (hex 0x1_5a ++ aDate)) 9 10 (replicate 8 0) ∷ []
 
 abbrev aPlainDate : ℕ → Date
 aPlainDate month = record { year = 2000; month = month; day = 8; hour = 4; minute = 26; second = 51; millisecond = 481; designator = 0 }
@@ -140,6 +144,14 @@ notKnown e =
 abbrev editions : List ℕ
 editions = 0 ∷ 3 ∷ 4 ∷ 12 ∷ 255 ∷ 256 ∷ 257 ∷ 258 ∷ 65537 ∷ 65538 ∷ 4294967295 ∷ []
 
+-- "Two tables mean the same .. if they have equal .. kinds, levels, lengths and viewed bytes; starts may differ": what a row says, where it starts aside
+abbrev says : ℕ → ℕ → List ℕ → Row → Bool
+says kind level view r = eqb (r .kind) kind && eqb (r .level) level && same (r .view) view
+
+abbrev meanings : Bool
+meanings = says 17 3 (hex 0x1_61_62) (rowOf (seen 17 3 40 (hex 0x1_61_62))) && says 17 3 (hex 0x1_61_62) (meant (placedRow 17 3 40 (hex 0x1_61_62)))
+
 abbrev pub further : Bool
 further =
+    meanings &&
     every notKnown editions && every decodes numbers && every datesRead dates && encoders && every reads faults && every identifies (upFrom 0 256) && every reads refusals && every keeps refusals && outputs && every writes tables

@@ -40,5 +40,6 @@ pub mod Further
 pub mod Ranges
 pub mod Fitting
 pub mod Long
+pub mod Limits
 pub mod Bounds
 pub mod Between

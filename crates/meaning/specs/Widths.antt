@@ -6,7 +6,7 @@ use lib.Dec.{leb}
 use lib.ListN.{length, replicate}
 use Rattle.meaning.specs.Basics.{pick, every}
 use Rattle.meaning.specs.Told.{Strictness, strict, tolerant}
-use Rattle.meaning.specs.Headers.{readBy}
+use Rattle.meaning.specs.Headers.{readBy, readTolerant}
 use Rattle.meaning.specs.Memory.{tableOf, readReply, answerBy, rowsBy, wordsBy, write}
 use Rattle.meaning.specs.Cases.{same, hex, aDate, replyIs, rowsIn, viewsFrom, bytesAre}
 use Rattle.meaning.specs.Accepting.{anExtension}
@@ -122,7 +122,7 @@ wideBase = sizedBase (hex 0x1_0b_17_00_01_7f)
 
 abbrev laterIs : List ℕ → ℕ → ℕ → Bool
 laterIs input rows place =
-    replyIs 0 (length input) rows (readReply 64 (readBy tolerant 1 input)) && replyIs 0 (length input) rows (readReply 64 (readBy tolerant 2 input)) &&
+    replyIs 0 (length input) rows (readReply 64 (readTolerant 1 input)) && replyIs 0 (length input) rows (readReply 64 (readTolerant 2 input)) &&
     replyIs 11 place 0 (readReply 64 (readBy strict 1 input)) && replyIs 11 place 0 (readReply 64 (readBy strict 2 input))
 
 abbrev later : Bool
