@@ -1,10 +1,12 @@
--- The long length form: a header that has it, and each place and number of its stage, for a base and for an extension that others follow.
+-- The long length form: a header that has it, and each place and number of its stage, for a base and for an extension that others follow; and a table of more
+-- rows than the listing lends.
 use Prim.Native.Nat.{ℕ}
 use mathlib.Core.List.{List, [], _∷_, _++_, map}
 use mathlib.Core.Bool.{Bool, true, false, _&&_}
 use lib.ListN.{length, replicate}
 use Rattle.meaning.specs.Told.{Edition, B, D, told}
 use Rattle.meaning.specs.Headers.{Placed, Answer, header, envelope, read}
+use Rattle.meaning.specs.Listing.{listing}
 use Rattle.meaning.specs.Memory.{Numbers, row, numbersOf, readReply}
 use Rattle.meaning.specs.Cases.{same, hex, aDate, baseWith, replyIs, tableIs, rowsIn, inMemory}
 use Rattle.meaning.specs.Accepting.{baseRowsAt}
@@ -57,5 +59,9 @@ stages =
     stageRefuses true 12 12 (hex 0x1_13_20_31_11_16) 7 24 && stageRefuses true 12 12 (hex 0x1_12_20_31_11_06) 9 28 && stageRefuses false 9 9 (hex 0x1_61_1f) 8 25 &&
     stageRefuses false 21 21 (hex 0x1_61_00_20 ++ (aDate ++ hex 0x1_01_01_fc)) 3 38 && stageRefuses false 21 21 (hex 0x1_61_00_20 ++ (aDate ++ hex 0x1_01_01_fe_00_04_13)) 7 41
 
+-- "the listing program lends 3,072 rows": 3,069 empty encrypted items make 3,073
+abbrev manyRows : Bool
+manyRows = same (listing 1 (hex 0x1_fe_0c_0e_12_20 ++ (aDate ++ (0x08 ∷ (replicate 3069 0 ++ hex 0x1_01_01))))) (hex 0x1_31_34_09_33_30_38_36_09_33_30_37_33_0a)
+
 abbrev pub long : Bool
-long = stages && accepted
+long = stages && accepted && manyRows
