@@ -1,5 +1,5 @@
 -- Our own table between the bounds: every byte in every room and at every place of a value, later envelopes, the long form, lent memory after each refusal.
--- The quick parts of `bounds` stand before it, so that a wrong definition which they tell is not computed further.
+-- It stands on `bounds`: where that does not hold, this is not computed.
 use mathlib.Core.Bool.{Bool}
 use lib.Dec.{T}
 use Rattle.meaning.specs.Bytes.{textByte, takeText, textOk, turn, takeNumber, numberOk, lastDay, passes, takeDate, dateOk, highFirst, tooWide, takeBytes, blockOf, takeBlock, blockOk}
@@ -22,8 +22,8 @@ use Rattle.meaning.specs.Further.{further}
 use Rattle.meaning.specs.Ranges.{ranges}
 use Rattle.meaning.specs.Fitting.{fitting}
 use Rattle.meaning.specs.Long.{long}
-use Rattle.meaning.specs.Bounds.{andThen, quick}
+use Rattle.meaning.specs.Bounds.{andThen, bounds}
 
-pub between : T (andThen quick (λ _. andThen further (λ _. andThen ranges (λ _. andThen fitting (λ _. andThen strange (λ _. long))))))
+pub between : T (andThen further (λ _. andThen ranges (λ _. andThen fitting (λ _. andThen strange (λ _. long)))))
 unfolding textByte takeText textOk turn takeNumber numberOk lastDay passes takeDate dateOk highFirst tooWide takeBytes blockOf takeBlock blockOk shared own moves takeValue find look stepMove step run inside envelope header readBy valid writeValue wayOf fit fitRow closeWithin close planOf writeRows belongs belonging heldAgainst cellsOf ranksOf skipsOf skipsHeld laidOver write occurs wordOf wordsOf onesWithin onesOf answerBy rowsBy wordsBy writeAnswer writeOutput payloadStart payloadEnd payloadBytes numberValue digitsWithin digitsOf packed decodeNumber numberDecoded numberPlain numberBytes numberEncoded numberOutput decodeDate dateDecoded datePlain dateInRange dateEncoded dateOutput decimal viewed lineOf listingOf listing copyAll lookOn allEnvelopes lookedUp present checked presentAnswer lookup editionsOf readEither whichAnswer whichRows whichWords movedTable relay relayAnswer relayRows relayWords relayOutput
-between = tt
+between = let held = bounds in tt

@@ -54,9 +54,6 @@ abbrev pub andThen : Bool → (Unit {0} → Bool) → Bool
 andThen false rest = false
 andThen true rest = rest tt
 
-abbrev pub quick : Bool
-quick = lookings && sortings && presence && skips && relaying && values
-
-pub bounds : T (andThen quick (λ _. andThen (presents && days) (λ _. andThen widths (λ _. andThen readings (λ _. andThen breaks (λ _. writings))))))
+pub bounds : T (andThen (lookings && sortings && presence && skips && relaying && values) (λ _. andThen (presents && days) (λ _. andThen widths (λ _. andThen readings (λ _. andThen breaks (λ _. writings))))))
 unfolding textByte takeText textOk turn takeNumber numberOk lastDay passes takeDate dateOk highFirst tooWide takeBytes blockOf takeBlock blockOk shared own moves takeValue find look stepMove step run inside envelope header readBy valid writeValue wayOf fit fitRow closeWithin close planOf writeRows belongs belonging heldAgainst cellsOf ranksOf skipsOf skipsHeld laidOver write occurs wordOf wordsOf onesWithin onesOf answerBy rowsBy wordsBy writeAnswer writeOutput payloadStart payloadEnd payloadBytes numberValue digitsWithin digitsOf packed decodeNumber numberDecoded numberPlain numberBytes numberEncoded numberOutput decodeDate dateDecoded datePlain dateInRange dateEncoded dateOutput decimal viewed lineOf listingOf listing copyAll lookOn allEnvelopes lookedUp present checked presentAnswer lookup editionsOf readEither whichAnswer whichRows whichWords movedTable relay relayAnswer relayRows relayWords relayOutput
 bounds = tt
