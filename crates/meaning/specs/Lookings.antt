@@ -112,6 +112,13 @@ answersFor h kind = looksUp (looking (hop kind 1) (zeros 16) (h .code) 0 (pick (
 abbrev everyKind : Held → Bool
 everyKind h = every (answersFor h) (upFrom 0 40)
 
+-- A row of every kind over a `to` list: an envelope is entered, any other row that does not answer is left for its skip number
+abbrev entered : List ℕ
+entered = 1 ∷ 2 ∷ []
+
+abbrev overList : ℕ → Bool
+overList kind = looksUp (looking (hop kind 2 ++ hop 12 2) (4 ∷ zeros 15) 0x02 0 (pick (among kind entered) 1 (pick (among kind (12 ∷ [])) 0 2)) (pick (among kind entered) 2 1))
+
 -- the codes that can be asked, and no other
 abbrev asked : List ℕ
 asked = upFrom 2 10 ++ (0x20 ∷ [])
@@ -120,4 +127,4 @@ abbrev everyCode : ℕ → Bool
 everyCode code = looksUp (looking [] (zeros 16) code (pick (among code asked) 0 17) 0 0)
 
 abbrev pub lookings : Bool
-lookings = every looksUp found && every looksUp refused && every everyKind codes && every everyCode (upFrom 0 300)
+lookings = every looksUp found && every looksUp refused && every everyKind codes && every overList (upFrom 0 40) && every everyCode (upFrom 0 300)
