@@ -48,7 +48,7 @@ insideBase = hex 0x1_12_20 ++ (aDate ++ hex 0x1_01_77)
 abbrev insideExtension : List ℕ
 insideExtension = hex 0x1_61_00_20 ++ (aDate ++ (hex 0x1_01_01 ++ aBase))
 
-abbrev stages : Bool
+abbrev pub stages : Bool
 stages =
     stageAccepts B true 19 insideBase 36 (row 2 0 17 0 ∷ row 3 0 24 1 ∷ row 5 0 26 9 ∷ []) && stageAccepts D true 19 insideBase 36 (row 2 0 17 0 ∷ row 3 0 24 1 ∷ row 5 0 26 9 ∷ []) &&
     stageAccepts B false 21 insideExtension 53 (row 1 0 17 0 ∷ row 8 0 24 1 ∷ row 5 1 27 9 ∷ baseRowsAt 38) && stageAccepts D false 21 insideExtension 53 (row 1 0 17 0 ∷ row 8 0 24 1 ∷ row 5 1 27 9 ∷ baseRowsAt 38) &&
@@ -64,4 +64,4 @@ abbrev manyRows : Bool
 manyRows = same (listing 1 (hex 0x1_fe_0c_0e_12_20 ++ (aDate ++ (0x08 ∷ (replicate 3069 0 ++ hex 0x1_01_01))))) (hex 0x1_31_34_09_33_30_38_36_09_33_30_37_33_0a)
 
 abbrev pub long : Bool
-long = stages && accepted && manyRows
+long = accepted && manyRows
