@@ -44,9 +44,10 @@ dates =
 abbrev aPlainDate : ℕ → Date
 aPlainDate month = record { year = 2000; month = month; day = 8; hour = 4; minute = 26; second = 51; millisecond = 481; designator = 0 }
 
--- range before room, a kind before both
+-- range before room, a kind before both; more room than is needed
 abbrev encoders : Bool
 encoders =
+    outcomeIs 0 2 (numberEncoded 12 3) && outcomeIs 0 6 (numberEncoded 4294967295 99) && outcomeIs 0 9 (dateEncoded 5 (aPlainDate 12) 10) && outcomeIs 0 9 (dateEncoded 7 (aPlainDate 99) 99) &&
     encodes 1234567890 (hex 0x1_23_45_67_89_a1_00) && encodes 3210987654 (hex 0x1_43_21_a9_87_65_00) && outcomeIs 10 0 (numberEncoded 4294967296 0) && outcomeIs 10 0 (numberEncoded 18446744073709551615 6) &&
     outcomeIs 9 0 (dateEncoded 5 (aPlainDate 13) 0) && outcomeIs 9 0 (dateEncoded 6 (aPlainDate 100) 0) && outcomeIs 16 9 (dateEncoded 5 (aPlainDate 12) 0) &&
     outcomeIs 9 0 (dateEncoded 0 (aPlainDate 5) 9) && outcomeIs 9 0 (dateEncoded 4 (aPlainDate 5) 0) && outcomeIs 9 0 (dateEncoded 8 (aPlainDate 5) 99)
