@@ -1,5 +1,5 @@
 -- For each move of each edition an input that takes it. Offsets count from the first parameter's byte, at 14 of the envelope.
-use Prim.Native.Nat.{ℕ, _+_, _/_, _%_}
+use Prim.Native.Nat.{ℕ, zero, suc, _+_, _/_, _%_}
 use mathlib.Core.List.{List, [], _∷_, _++_}
 use lib.ListN.{length, replicate}
 use Rattle.meaning.specs.Memory.{Numbers, row}
@@ -103,9 +103,33 @@ objects =
     received 2 6 10 ((0x25 ∷ aDate) ++ hex 0x1_61_01) [] ∷
     received 2 7 10 ((0x26 ∷ aDate) ++ hex 0x1_7a_01) [] ∷ []) ∷ [])
 
+-- so many agents, each the one resolver of the one above, around what the innermost has; and their rows, before its rows
+abbrev nestedAround : ℕ → List ℕ → List ℕ
+nestedAround zero s = s
+nestedAround (suc n) s = hex 0x1_02_61_00_03 ++ (nestedAround n s ++ hex 0x1_01_01)
+
+abbrev nestedRows : ℕ → ℕ → ℕ → List Numbers → List Numbers
+nestedRows zero level at rows = rows
+nestedRows (suc n) level at rows = row 15 level (at + 1) 1 ∷ row 18 level (at + 3) 0 ∷ nestedRows n (suc level) (at + 4) rows
+
+-- an agent of level 8 with an address and with a list of resolvers, which is empty: a ninth agent list; and one whose address is its last row.
+-- Behind them all a representation
+abbrev eighth : List ℕ
+eighth = hex 0x1_02_61_00_02_78_00_01_03_01_01
+
+abbrev eighthAddressed : List ℕ
+eighthAddressed = hex 0x1_02_61_00_02_78_00_01_01
+
+abbrev eighthRows : List Numbers
+eighthRows = row 15 8 30 1 ∷ row 16 8 32 0 ∷ row 17 8 33 1 ∷ []
+
 abbrev pub agents : List Reading
 agents =
     joined (
+    both (0x02 ∷ (nestedAround 7 eighth ++ hex 0x1_01_04_10)) (row 12 0 0 0 ∷ nestedRows 7 1 1 (eighthRows ++ (row 18 8 36 0 ∷ row 3 0 55 1 ∷ []))) ∷
+    both (0x03 ∷ nestedAround 7 eighth) (row 13 0 0 0 ∷ nestedRows 7 1 1 (eighthRows ++ (row 18 8 36 0 ∷ []))) ∷
+    both (0x02 ∷ (nestedAround 7 eighthAddressed ++ hex 0x1_01_04_10)) (row 12 0 0 0 ∷ nestedRows 7 1 1 (eighthRows ++ (row 3 0 53 1 ∷ []))) ∷
+    both (0x03 ∷ (nestedAround 7 eighthAddressed ++ hex 0x1_04_00_72_00)) (row 13 0 0 0 ∷ nestedRows 7 1 1 (eighthRows ++ (row 4 0 53 1 ∷ []))) ∷
     agentBoth (hex 0x1_01) [] ∷
     agentBoth (hex 0x1_02_01_01) (row 16 1 4 0 ∷ []) ∷
     agentBoth (hex 0x1_02_78_00_00_01_01) (row 16 1 4 0 ∷ row 17 1 5 1 ∷ row 17 1 7 0 ∷ []) ∷

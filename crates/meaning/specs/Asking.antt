@@ -8,7 +8,7 @@ use Rattle.meaning.specs.Basics.{pick, every}
 use Rattle.meaning.specs.Headers.{Answer, refused, accepted, read}
 use Rattle.meaning.specs.Memory.{Numbers, row, tableOf, roomOf}
 use Rattle.meaning.specs.Present.{presentAnswer}
-use Rattle.meaning.specs.Cases.{hex, aDate, baseWith, inMemory, replyIs}
+use Rattle.meaning.specs.Cases.{upFrom, among, hex, aDate, baseWith, inMemory, replyIs}
 use Rattle.meaning.specs.Accepting.{withParameters, anExtension, extensionRows, baseRowsAt}
 
 -- edition, rows, pool and code to answer and place
@@ -98,5 +98,9 @@ refusals =
     replied 2 (inMemory (sixteen 15 (baseRowsAt 17))) (anExtension ++ aBase) 0x20 0 47 && replied 2 (inMemory (sixteen 16 (baseRowsAt 17))) (anExtension ++ aBase) 0x20 5 48 &&
     replied 2 (inMemory (sixteen 16 (baseRowsAt 17))) (anExtension ++ aBase) 0x21 17 0
 
+-- every code: 17, or else what the writer makes of no rows
+abbrev asking : ℕ → Bool
+asking code = let asked = among code (upFrom 2 10 ++ (0x20 ∷ [])) in replied 1 [] [] code (pick asked 15 17) 0 && replied 2 [] [] code (pick asked 15 17) 0
+
 abbrev pub presents : Bool
-presents = codes && repeats && refusals
+presents = codes && repeats && refusals && every asking (upFrom 0 300)

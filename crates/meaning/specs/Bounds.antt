@@ -1,4 +1,5 @@
 -- Our own table: every move of each edition, a refused code for each room, each bound of document 01 at it and one over; in one theorem.
+-- What lies between the bounds stands in Between, under a second one: there is a limit to what one declaration may compute.
 use mathlib.Core.Bool.{Bool, true, false, _&&_}
 use lib.Dec.{T}
 use Rattle.meaning.specs.Basics.{every}
@@ -30,8 +31,6 @@ use Rattle.meaning.specs.Which.{editionsOf, readEither, whichAnswer, whi
 use Rattle.meaning.specs.Sortings.{sortings}
 use Rattle.meaning.specs.Relay.{movedTable, relay, relayAnswer, relayRows, relayWords, relayOutput}
 use Rattle.meaning.specs.Relaying.{relaying}
-use Rattle.meaning.specs.Strange.{strange}
-use Rattle.meaning.specs.Further.{further}
 
 abbrev pub readings : Bool
 readings =
@@ -51,10 +50,10 @@ abbrev pub skips : Bool
 skips = every hops.skipsRead hops.read && every hops.rewritten hops.read && every writes hops.wrong && every writes hops.first
 
 -- The first part that does not hold decides, and those behind it are not computed: a wrong definition is told in seconds. So the quick ones stand first.
-abbrev andThen : Bool → (Unit {0} → Bool) → Bool
+abbrev pub andThen : Bool → (Unit {0} → Bool) → Bool
 andThen false rest = false
 andThen true rest = rest tt
 
-pub bounds : T (andThen (lookings && sortings && presence && skips && relaying && values) (λ _. andThen (presents && days) (λ _. andThen widths (λ _. andThen readings (λ _. andThen breaks (λ _. andThen strange (λ _. andThen further (λ _. writings))))))))
+pub bounds : T (andThen (lookings && sortings && presence && skips && relaying && values) (λ _. andThen (presents && days) (λ _. andThen widths (λ _. andThen readings (λ _. andThen breaks (λ _. writings))))))
 unfolding textByte takeText textOk turn takeNumber numberOk lastDay passes takeDate dateOk highFirst tooWide takeBytes blockOf takeBlock blockOk shared own moves takeValue find look stepMove step run inside envelope header readBy valid writeValue wayOf fit fitRow closeWithin close planOf writeRows belongs belonging heldAgainst cellsOf ranksOf skipsOf skipsHeld laidOver write occurs wordOf wordsOf onesWithin onesOf answerBy rowsBy wordsBy writeAnswer writeOutput payloadStart payloadEnd payloadBytes numberValue digitsWithin digitsOf packed decodeNumber numberDecoded numberPlain numberBytes numberEncoded numberOutput decodeDate dateDecoded datePlain dateInRange dateEncoded dateOutput decimal viewed lineOf listingOf listing copyAll lookOn allEnvelopes lookedUp present checked presentAnswer lookup editionsOf readEither whichAnswer whichRows whichWords movedTable relay relayAnswer relayRows relayWords relayOutput
 bounds = tt

@@ -1,7 +1,7 @@
 -- How an instance is held against the definitions: what each kind of case says, and the test that it passes.
 use Prim.Native.Nat.{ℕ, zero, suc, _-_, _/_, _%_}
 use mathlib.Core.List.{List, [], _∷_, _++_}
-use mathlib.Core.Bool.{Bool, true, false, _&&_}
+use mathlib.Core.Bool.{Bool, true, false, _&&_, _||_}
 use lib.Dec.{eqb, leb}
 use lib.ListN.{length, take, drop}
 use Rattle.meaning.specs.Basics.{pick}
@@ -20,6 +20,15 @@ module _ {A : Type 0} where
   abbrev pub joined : List (List A) → List A
   joined [] = []
   joined (xs ∷ xss) = xs ++ joined xss
+
+-- so many numbers, from this one on
+abbrev pub upFrom : ℕ → ℕ → List ℕ
+upFrom x zero = []
+upFrom x (suc n) = x ∷ upFrom (suc x) n
+
+abbrev pub among : ℕ → List ℕ → Bool
+among x [] = false
+among x (y ∷ ys) = eqb x y || among x ys
 
 -- bytes as the paper prints them: 0x1_FE_00_0F is FE 00 0F; the 1 only marks the front
 abbrev pub hexWithin : ℕ → ℕ → List ℕ → List ℕ

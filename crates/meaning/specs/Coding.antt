@@ -165,6 +165,9 @@ example =
 
 abbrev pub listings : Bool
 listings =
-    same (listing 2 (baseWith 0x14 0x20 (hex 0x1_03_02_61_00_01_01_28))) example && same (listing 1 (hex 0x1_fe_00)) (hex 0x1_32_09_32_09_30_0a) && eqb rowsLent 3072 &&
+    same (listing 2 (baseWith 0x14 0x20 (hex 0x1_03_02_61_00_01_01_28))) example && same (listing 1 (hex 0x1_fe_00)) (hex 0x1_32_09_32_09_30_0a) &&
+    same (listing 1 (baseWith 0x13 0x20 (hex 0x1_0b_17_00_00_01))) (hex 0x1_31_31_09_31_35_09_30_0a) && same (listing 1 (baseWith 0x0f 0x21 (hex 0x1_01))) (hex 0x1_39_09_31_34_09_30_0a) && eqb rowsLent 3072 &&
     same (listingOf 2 (read 1 aBase)) (hex 0x1_31_34_09_31_35_09_33_0a) && eqb (length (listingOf 3 (read 1 aBase))) 61 && same (viewed (hex 0x1_9a_f0_0b)) (hex 0x1_39_61_66_30_30_62) &&
+    -- each hex digit in each half of a byte
+    same (viewed (hex 0x1_01_23_45_67_89_ab_cd_ef)) (hex 0x1_30_31_32_33_34_35_36_37_38_39_61_62_63_64_65_66) && same (viewed (hex 0x1_fe_dc_ba_98_76_54_32_10)) (hex 0x1_66_65_64_63_62_61_39_38_37_36_35_34_33_32_31_30) &&
     same (listing 1 (replicate 65536 0)) (hex 0x1_33_09_30_09_30_0a) && same (listing 2 (replicate 65537 0)) (hex 0x1_74_6f_6f_20_6c_6f_6e_67_0a)

@@ -87,5 +87,15 @@ months =
     day 2023 6 30 true ∷ day 2023 6 31 false ∷ day 2023 7 30 true ∷ day 2023 7 31 true ∷ day 2023 8 30 true ∷ day 2023 8 31 true ∷ day 2023 9 30 true ∷ day 2023 9 31 false ∷
     day 2023 10 30 true ∷ day 2023 10 31 true ∷ day 2023 11 30 true ∷ day 2023 11 31 false ∷ day 2023 12 30 true ∷ day 2023 12 31 true ∷ day 2023 12 32 false ∷ day 2023 1 0 false ∷ []
 
+-- 29 February of a year, decoded
+abbrev leapIs : Bool → ℕ → Bool
+leapIs exists year = decodedAs exists 5 (day year 2 29 exists)
+
+-- years by 2, by 4, by 100, by 200 and by 400
+abbrev leaps : Bool
+leaps =
+    every (leapIs true) (0 ∷ 4 ∷ 8 ∷ 96 ∷ 104 ∷ 400 ∷ 800 ∷ 1200 ∷ 1600 ∷ 1996 ∷ 2000 ∷ 2004 ∷ 2020 ∷ 2028 ∷ 2400 ∷ 2800 ∷ 3200 ∷ 4000 ∷ 8000 ∷ []) &&
+    every (leapIs false) (1 ∷ 2 ∷ 3 ∷ 6 ∷ 10 ∷ 98 ∷ 100 ∷ 200 ∷ 300 ∷ 500 ∷ 600 ∷ 700 ∷ 900 ∷ 1000 ∷ 1700 ∷ 1800 ∷ 2018 ∷ 2022 ∷ 2100 ∷ 2200 ∷ 3000 ∷ 5000 ∷ 9900 ∷ 9998 ∷ [])
+
 abbrev pub days : Bool
-days = every holds februaries && every holds months
+days = leaps && every holds februaries && every holds months

@@ -37,4 +37,9 @@ pub mod Sortings
 pub mod Relaying
 pub mod Strange
 pub mod Further
+pub mod Ranges
+pub mod Fitting
+pub mod Long
+pub mod Limits
 pub mod Bounds
+pub mod Between

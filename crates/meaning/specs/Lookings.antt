@@ -2,9 +2,9 @@
 use Prim.Native.Nat.{ℕ, zero, suc, _+_}
 use mathlib.Core.List.{List, [], _∷_, _++_}
 use mathlib.Core.Bool.{Bool, _&&_}
-use Rattle.meaning.specs.Basics.{every}
+use Rattle.meaning.specs.Basics.{pick, every}
 use Rattle.meaning.specs.Lookup.{lookup}
-use Rattle.meaning.specs.Cases.{replyIs}
+use Rattle.meaning.specs.Cases.{upFrom, among, replyIs}
 
 -- rows and words lent and a code, to answer, place and rows looked at
 record Looking : Type 0 where
@@ -93,5 +93,38 @@ refused =
     -- only rows looked at
     looking (hop 12 2 ++ (hop 12 0 ++ hop 23 3)) (zeros 16) 0x06 0 2 2 ∷ []
 
+-- One row of every kind, asked by every code: the kinds that hold or open each. Items, values and what stands in agents and received objects hold none
+record Held : Type 0 where
+  pub code : ℕ
+  pub kinds : List ℕ
+
+abbrev held : ℕ → List ℕ → Held
+held code kinds = record { code = code; kinds = kinds }
+
+abbrev codes : List Held
+codes =
+    held 0x02 (12 ∷ []) ∷ held 0x03 (13 ∷ []) ∷ held 0x04 (3 ∷ 4 ∷ []) ∷ held 0x05 (22 ∷ []) ∷ held 0x06 (23 ∷ []) ∷ held 0x07 (24 ∷ []) ∷ held 0x08 (25 ∷ []) ∷ held 0x09 (14 ∷ []) ∷ held 0x0a (8 ∷ []) ∷
+    held 0x0b (29 ∷ []) ∷ held 0x20 (5 ∷ 6 ∷ 7 ∷ []) ∷ []
+
+abbrev answersFor : Held → ℕ → Bool
+answersFor h kind = looksUp (looking (hop kind 1) (zeros 16) (h .code) 0 (pick (among kind (h .kinds)) 0 1) 1)
+
+abbrev everyKind : Held → Bool
+everyKind h = every (answersFor h) (upFrom 0 40)
+
+-- A row of every kind over a `to` list: an envelope is entered, any other row that does not answer is left for its skip number
+abbrev entered : List ℕ
+entered = 1 ∷ 2 ∷ []
+
+abbrev overList : ℕ → Bool
+overList kind = looksUp (looking (hop kind 2 ++ hop 12 2) (4 ∷ zeros 15) 0x02 0 (pick (among kind entered) 1 (pick (among kind (12 ∷ [])) 0 2)) (pick (among kind entered) 2 1))
+
+-- the codes that can be asked, and no other
+abbrev asked : List ℕ
+asked = upFrom 2 10 ++ (0x20 ∷ [])
+
+abbrev everyCode : ℕ → Bool
+everyCode code = looksUp (looking [] (zeros 16) code (pick (among code asked) 0 17) 0 0)
+
 abbrev pub lookings : Bool
-lookings = every looksUp found && every looksUp refused
+lookings = every looksUp found && every looksUp refused && every everyKind codes && every overList (upFrom 0 40) && every everyCode (upFrom 0 300)

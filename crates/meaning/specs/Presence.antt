@@ -6,9 +6,10 @@ use lib.Dec.{eqb}
 use lib.ListN.{replicate}
 use Rattle.meaning.specs.Basics.{every}
 use Rattle.meaning.specs.Told.{strict, tolerant}
-use Rattle.meaning.specs.Words.{onesOf}
+use Rattle.meaning.specs.Skips.{rank}
+use Rattle.meaning.specs.Words.{onesOf, codesIn}
 use Rattle.meaning.specs.Headers.{Answer, refused, accepted, readBy}
-use Rattle.meaning.specs.Memory.{wordsRead, answerBy, wordsBy}
+use Rattle.meaning.specs.Memory.{wordsRead, answerBy, rowsBy, wordsBy}
 use Rattle.meaning.specs.Cases.{same, hex, aDate, baseWith, replyIs}
 use Rattle.meaning.specs.Accepting.{withParameters, anExtension}
 
@@ -67,6 +68,7 @@ lent n = replicate n 99
 abbrev room : Bool
 room =
     replyIs 14 15 3 (answerBy strict 1 aBase (lent 15) (lent 15)) && same (wordsBy strict 1 aBase (lent 15) (lent 15)) (lent 15) &&
+    same (rowsBy strict 1 aBase (lent 15) (lent 15)) (lent 15) && same (rowsBy tolerant 2 aBase (lent 20) (lent 15)) (lent 20) &&
     replyIs 0 15 3 (answerBy strict 1 aBase (lent 15) (lent 16)) && same (wordsBy strict 1 aBase (lent 15) (lent 16)) (16 ∷ lent 15) &&
     replyIs 0 15 3 (answerBy tolerant 2 aBase (lent 15) (lent 17)) && same (wordsBy tolerant 2 aBase (lent 15) (lent 17)) (16 ∷ lent 16) &&
     replyIs 14 15 3 (answerBy tolerant 2 aBase (lent 14) (lent 16)) && same (wordsBy tolerant 2 aBase (lent 14) (lent 16)) (lent 16) &&
@@ -77,5 +79,12 @@ abbrev ones : Bool
 ones =
     eqb (onesOf 0) 0 && eqb (onesOf 16) 1 && eqb (onesOf 1040) 2 && eqb (onesOf 4093) 11 && eqb (onesOf 2147483648) 1 && eqb (onesOf 4294967294) 31 && eqb (onesOf 4294967295) 32
 
+-- the codes that rows carry, each once, in the order of the bits; values, items and what stands deeper are none
+abbrev codes : Bool
+codes =
+    same (codesIn []) [] && same (codesIn (rank 3 0 ∷ rank 5 0 ∷ [])) (0x04 ∷ []) && same (codesIn (rank 8 0 ∷ rank 5 1 ∷ rank 22 0 ∷ rank 27 0 ∷ rank 28 0 ∷ rank 22 0 ∷ [])) (0x00 ∷ 0x05 ∷ 0x0a ∷ []) &&
+    same (codesIn (rank 4 0 ∷ rank 5 0 ∷ rank 29 0 ∷ rank 20 0 ∷ rank 14 0 ∷ rank 25 0 ∷ rank 26 0 ∷ rank 24 0 ∷ rank 23 0 ∷ rank 22 0 ∷ rank 13 0 ∷ rank 15 1 ∷ rank 12 0 ∷ rank 8 0 ∷ rank 27 0 ∷ []))
+    (hex 0x1_00_02_03_04_05_06_07_08_09_0a_0b)
+
 abbrev pub presence : Bool
-presence = every carries headers && room && ones
+presence = every carries headers && room && ones && codes

@@ -69,9 +69,32 @@ notForward n b = refuses 2 (dateWith 0x22 n b) 9 (5 + n)
 abbrev designator : ℕ → ℕ → List Reading
 designator b over = accepts 1 (baseWith 0x10 0x21 (b ∷ 1 ∷ [])) 16 (baseRows 5 10 []) ∷ accepts 2 (baseWith 0x10 0x25 (b ∷ 1 ∷ [])) 16 (baseRows 6 10 []) ∷ refuses 1 (baseWith 0x10 0x21 (over ∷ 1 ∷ [])) 9 14 ∷ refuses 2 (baseWith 0x10 0x24 (over ∷ 1 ∷ [])) 9 14 ∷ []
 
+-- the largest digits and the smallest, with each code of D for a relative date; the codes for an absolute one refuse their month
+abbrev nines : List ℕ
+nines = replicate 8 0xaa ++ hex 0x1_a0
+
+abbrev noughts : List ℕ
+noughts = replicate 8 0x11 ++ hex 0x1_10
+
+abbrev undesignatedAny : ℕ → ℕ → List ℕ → Reading
+undesignatedAny code kind date = accepts 2 (hex 0x1_fe_00_0f_12 ++ (code ∷ (date ++ hex 0x1_01))) 15 (baseRows kind 9 [])
+
+abbrev designatedAny : ℕ → ℕ → List ℕ → Reading
+designatedAny code kind date = accepts 2 (hex 0x1_fe_00_10_12 ++ (code ∷ (date ++ hex 0x1_6d_01))) 16 (baseRows kind 10 [])
+
+abbrev refusedMonth : ℕ → ℕ → List ℕ → Reading
+refusedMonth e code date = refuses e (hex 0x1_fe_00_10_12 ++ (code ∷ (date ++ hex 0x1_6d_01))) 9 7
+
+abbrev pub anyDigits : List Reading
+anyDigits =
+    undesignatedAny 0x21 6 nines ∷ undesignatedAny 0x21 6 noughts ∷ undesignatedAny 0x22 7 nines ∷ undesignatedAny 0x22 7 noughts ∷
+    designatedAny 0x25 6 nines ∷ designatedAny 0x25 6 noughts ∷ designatedAny 0x26 7 nines ∷ designatedAny 0x26 7 noughts ∷
+    refusedMonth 1 0x20 nines ∷ refusedMonth 2 0x20 noughts ∷ refusedMonth 1 0x21 nines ∷ refusedMonth 1 0x21 noughts ∷ refusedMonth 2 0x24 nines ∷ refusedMonth 2 0x24 noughts ∷ []
+
 abbrev pub dates : List Reading
 dates =
     joined (
+    anyDigits ∷
     -- year, month 1 to 12, day 1 to 31, hour to 23, minute and second to 59, millisecond and its padding
     upTo 0 0xaa 0xab ∷ upTo 0 0x11 0x01 ∷ upTo 0 0xa1 0xb1 ∷ upTo 1 0x1a 0x1b ∷ upTo 1 0x11 0x10 ∷
     upTo 2 0x23 0x24 ∷ upTo 2 0x12 0x11 ∷ upTo 3 0x42 0x43 ∷ upTo 3 0x12 0x11 ∷ upTo 4 0x34 0x35 ∷ upTo 4 0x11 0x10 ∷

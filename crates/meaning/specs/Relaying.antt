@@ -1,11 +1,11 @@
 -- Order 2: relays, given as bytes, rows and words and not by the definition: each refusal in its order, each bound at it and one over, chains of relays.
 use Prim.Native.Nat.{ℕ, zero, suc, _+_}
-use mathlib.Core.List.{List, [], _∷_, _++_}
+use mathlib.Core.List.{List, [], _∷_, _++_, map}
 use mathlib.Core.Bool.{Bool, _&&_}
-use lib.ListN.{replicate}
+use lib.ListN.{length, replicate}
 use Rattle.meaning.specs.Basics.{every}
-use Rattle.meaning.specs.Memory.{Numbers, row}
-use Rattle.meaning.specs.Relay.{Relayed, relayed, unrelayed, relay, bytesOf, relayAnswer, relayRows, relayWords, relayOutput}
+use Rattle.meaning.specs.Memory.{Numbers, row, tableOf}
+use Rattle.meaning.specs.Relay.{Joint, Relayed, relayed, unrelayed, relay, moved, bytesOf, relayAnswer, relayRows, relayWords, relayOutput}
 use Rattle.meaning.specs.Cases.{same, hex, aDate, baseWith, inMemory, replyIs}
 use Rattle.meaning.specs.Accepting.{baseRowsAt}
 
@@ -67,8 +67,37 @@ abbrev joining : ℕ → ℕ → ℕ → ℕ → Case
 joining e r w o =
     record { edition = e; input = aBase ++ hex 0x1_50_41_59; table = table; rows = 30 + r; words = 16 + w; output = 32 + o; answer = 0; place = 32; count = 6; rowsAfter = joinedRows ++ lent r; wordsAfter = 1024 ∷ 16 ∷ lent (14 + w); outputAfter = aNew ++ (aBase ++ lent o) }
 
+-- a new envelope with a comment, whose bytes are X's `a`, in front of a base with one: starts move by 20, skip numbers by 4. The new rows' own starts are
+-- those of the joined header, wherever in the pool their bytes are
+abbrev commenting : ℕ → Case
+commenting e =
+    record { edition = e; input = baseWith 0x12 0x20 (hex 0x1_05_63_00_01); table = inMemory (row 1 0 17 0 ∷ row 8 0 3 1 ∷ row 5 1 6 9 ∷ row 22 0 3 1 ∷ []); rows = 41; words = 16; output = 39; answer = 0; place = 38; count = 8; rowsAfter = 1 ∷ 0 ∷ 0 ∷ 0 ∷ 4 ∷ 8 ∷ 0 ∷ 3 ∷ 1 ∷ 3 ∷ 5 ∷ 1 ∷ 6 ∷ 9 ∷ 3 ∷ 22 ∷ 0 ∷ 17 ∷ 1 ∷ 4 ∷ 2 ∷ 0 ∷ 20 ∷ 0 ∷ 8 ∷ 3 ∷ 0 ∷ 23 ∷ 1 ∷ 6 ∷ 5 ∷ 0 ∷ 25 ∷ 9 ∷ 7 ∷ 22 ∷ 0 ∷ 35 ∷ 1 ∷ 8 ∷ 99 ∷ []; wordsAfter = 1056 ∷ 48 ∷ lent 14; outputAfter = hex 0x1_fd_00_14_61_00_20 ++ (aDate ++ (hex 0x1_01_05_61_00_01 ++ (baseWith 0x12 0x20 (hex 0x1_05_63_00_01) ++ lent 1))) }
+
+-- X in front of X and M
+abbrev twice : ℕ → Case
+twice e =
+    record { edition = e; input = aNew ++ aBase; table = table; rows = 45; words = 17; output = 49; answer = 0; place = 49; count = 9; rowsAfter = inMemory (newRowsAt 0 ++ (newRowsAt 17 ++ baseRowsAt 34)); wordsAfter = 1024 ∷ 1024 ∷ 16 ∷ lent 14; outputAfter = aNew ++ (aNew ++ aBase) }
+
+-- what D has alone: a forward date and an extra, before a forward date; and what B has: an encrypted item, before a date with a designator
+abbrev forward : Case
+forward =
+    record { edition = 2; input = baseWith 0x0f 0x21 (hex 0x1_01); table = inMemory (row 1 0 0 0 ∷ row 8 0 3 1 ∷ row 6 1 6 9 ∷ row 19 1 3 1 ∷ row 20 1 3 1 ∷ []); rows = 40; words = 16; output = 38; answer = 0; place = 38; count = 8; rowsAfter = 1 ∷ 0 ∷ 0 ∷ 0 ∷ 5 ∷ 8 ∷ 0 ∷ 3 ∷ 1 ∷ 5 ∷ 6 ∷ 1 ∷ 6 ∷ 9 ∷ 3 ∷ 19 ∷ 1 ∷ 16 ∷ 1 ∷ 5 ∷ 20 ∷ 1 ∷ 19 ∷ 1 ∷ 5 ∷ 2 ∷ 0 ∷ 23 ∷ 0 ∷ 8 ∷ 3 ∷ 0 ∷ 26 ∷ 1 ∷ 7 ∷ 6 ∷ 0 ∷ 28 ∷ 9 ∷ 8 ∷ []; wordsAfter = 1024 ∷ 16 ∷ lent 14; outputAfter = hex 0x1_fd_00_17_61_00_21 ++ (aDate ++ (hex 0x1_05_61_00_14_61_00_01_01 ++ baseWith 0x0f 0x21 (hex 0x1_01))) }
+
+abbrev encrypted : Case
+encrypted =
+    record { edition = 1; input = baseWith 0x10 0x21 (hex 0x1_5a_01); table = inMemory (newRowsAt 0 ++ (row 25 0 0 0 ∷ row 26 0 3 1 ∷ [])); rows = 40; words = 16; output = 37; answer = 0; place = 37; count = 8; rowsAfter = 1 ∷ 0 ∷ 0 ∷ 0 ∷ 5 ∷ 8 ∷ 0 ∷ 3 ∷ 1 ∷ 3 ∷ 5 ∷ 1 ∷ 6 ∷ 9 ∷ 3 ∷ 25 ∷ 0 ∷ 16 ∷ 0 ∷ 5 ∷ 26 ∷ 0 ∷ 17 ∷ 1 ∷ 5 ∷ 2 ∷ 0 ∷ 21 ∷ 0 ∷ 8 ∷ 3 ∷ 0 ∷ 24 ∷ 1 ∷ 7 ∷ 5 ∷ 0 ∷ 26 ∷ 10 ∷ 8 ∷ []; wordsAfter = 1280 ∷ 16 ∷ lent 14; outputAfter = hex 0x1_fd_00_15_61_00_20 ++ (aDate ++ (hex 0x1_01_08_61_00_01_01 ++ baseWith 0x10 0x21 (hex 0x1_5a_01))) }
+
 abbrev accepted : List Case
-accepted = joining 1 0 0 0 ∷ joining 2 0 0 0 ∷ joining 1 4 1 3 ∷ joining 2 5 0 1 ∷ []
+accepted =
+    forward ∷ encrypted ∷ joining 1 0 0 0 ∷ joining 2 0 0 0 ∷ joining 1 4 1 3 ∷ joining 2 5 0 1 ∷ commenting 1 ∷ commenting 2 ∷ twice 1 ∷ twice 2 ∷ []
+
+-- "the new ones, then the old with starts moved by the new envelope's length", as rows
+abbrev rowsIn : Relayed → List ℕ
+rowsIn (relayed j) = tableOf (j .new ++ map (moved (length (j .envelope))) (j .old))
+rowsIn (unrelayed refusal place) = []
+
+abbrev movedRows : Bool
+movedRows = same (rowsIn (relay 1 aBase table aNew)) joinedRows && same (rowsIn (relay 2 aBase table aNew)) joinedRows
 
 -- each room at its bound and one less: 14 for rows or words comes before 16
 abbrev rooms : List Case
@@ -98,7 +127,9 @@ tables =
 abbrev order : List Case
 order =
     refusing 0 [] [] 0 0 0 1 0 0 ∷ refusing 3 aBase table 60 16 99 1 0 0 ∷ refusing 1 [] [] 0 0 0 2 0 0 ∷ refusing 2 (baseWith 0x0f 0x20 []) [] 60 16 99 2 14 0 ∷
-    refusing 1 (baseWith 0x0f 0x21 (hex 0x1_01)) [] 60 16 99 9 14 0 ∷ refusing 2 (hex 0x1_fc) [] 60 16 99 3 0 0 ∷ []
+    refusing 1 (baseWith 0x0f 0x21 (hex 0x1_01)) [] 60 16 99 9 14 0 ∷ refusing 2 (hex 0x1_fc) [] 60 16 99 3 0 0 ∷
+    -- "Old headers are read strictly"
+    refusing 1 (baseWith 0x13 0x20 (hex 0x1_0b_17_00_00_01)) table 60 16 99 11 15 0 ∷ refusing 2 (aNew ++ baseWith 0x15 0x20 (hex 0x1_0b_19_00_00_00_00_01)) table 60 16 99 11 32 0 ∷ []
 
 -- n relays of X, the first in front of M
 abbrev bytesIn : Relayed → List ℕ
@@ -117,7 +148,9 @@ stacked (suc n) = aNew ++ stacked n
 abbrev chains : Bool
 chains =
     same (chain 1 15) (stacked 15) && same (chain 2 15) (stacked 15) &&
-    every relays (refusing 1 (stacked 15) table 0 0 0 5 0 0 ∷ refusing 2 (stacked 15) table 999 16 999 5 0 0 ∷ refusing 1 (stacked 15) [] 0 0 0 15 0 0 ∷ refusing 2 (stacked 16) table 0 0 0 5 272 0 ∷ [])
+    every relays (refusing 1 (stacked 15) table 0 0 0 5 0 0 ∷ refusing 2 (stacked 15) table 999 16 999 5 0 0 ∷ refusing 1 (stacked 15) [] 0 0 0 15 0 0 ∷ refusing 2 (stacked 16) table 0 0 0 5 272 0 ∷
+    -- a wrong skip number is a fault of the table, and so before 5
+    refusing 2 (stacked 15) (1 ∷ 0 ∷ 0 ∷ 0 ∷ 3 ∷ 8 ∷ 0 ∷ 3 ∷ 1 ∷ 3 ∷ 5 ∷ 1 ∷ 6 ∷ 9 ∷ 4 ∷ []) 0 0 0 15 2 0 ∷ [])
 
 abbrev pub relaying : Bool
-relaying = every relays accepted && every relays rooms && every relays tables && every relays order && chains
+relaying = every relays accepted && movedRows && every relays rooms && every relays tables && every relays order && chains

@@ -5,7 +5,7 @@ use mathlib.Core.Bool.{Bool, _&&_}
 use lib.Dec.{eqb}
 use Rattle.meaning.specs.Basics.{every}
 use Rattle.meaning.specs.Memory.{Reply, readRows, readWords}
-use Rattle.meaning.specs.Which.{Sorted, whichAnswer, whichRows, whichWords}
+use Rattle.meaning.specs.Which.{editionsOf, Sorted, whichAnswer, whichRows, whichWords}
 use Rattle.meaning.specs.Cases.{same, hex, aDate, baseWith, replyIs}
 use Rattle.meaning.specs.Accepting.{withParameters, anExtension}
 
@@ -74,13 +74,23 @@ byNone =
     sorting (baseWith 0x10 0x21 (hex 0x1_00_01)) 3 16 8 15 0 0 ∷
     sorting (withParameters (hex 0x1_08_02)) 4 16 7 14 0 0 ∷
     sorting (baseWith 0x0f 0x23 (hex 0x1_01)) 3 16 9 4 0 0 ∷
+    -- both read strictly: 11 where a length is wider than it needs
+    sorting (withParameters (hex 0x1_0b_17_00_00)) 5 16 11 15 0 0 ∷
+    sorting (baseWith 0x15 0x21 (hex 0x1_5a_0b_19_00_00_00_00_01)) 5 16 7 14 0 0 ∷
     sorting plain 2 16 14 15 3 0 ∷
     sorting plain 3 15 14 15 3 0 ∷
     sorting designated 2 16 14 16 3 0 ∷
     sorting encrypted 4 0 14 17 4 0 ∷
     sorting forward 3 15 14 15 3 0 ∷ []
 
+-- the editions that allow the bytes, whatever is lent
+abbrev allowed : Bool
+allowed =
+    eqb (editionsOf []) 0 && eqb (editionsOf (withParameters (hex 0x1_08_02))) 0 && eqb (editionsOf (withParameters (hex 0x1_0b_17_00_00))) 0 && eqb (editionsOf plain) 3 && eqb (editionsOf designated) 1 &&
+    eqb (editionsOf encrypted) 1 && eqb (editionsOf forward) 2 && eqb (editionsOf (anExtension ++ forward)) 2
+
 abbrev pub sortings : Bool
 sortings =
+    allowed &&
     every sorts byBoth && every (fillsAs 1) byBoth && every (fillsAs 2) byBoth && every sorts byFirst && every (fillsAs 1) byFirst && every sorts bySecond && every (fillsAs 2) bySecond &&
     every sorts byNone && every leaves byNone

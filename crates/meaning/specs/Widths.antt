@@ -6,9 +6,10 @@ use lib.Dec.{leb}
 use lib.ListN.{length, replicate}
 use Rattle.meaning.specs.Basics.{pick, every}
 use Rattle.meaning.specs.Told.{Strictness, strict, tolerant}
-use Rattle.meaning.specs.Headers.{readBy}
-use Rattle.meaning.specs.Memory.{tableOf, readReply, write}
+use Rattle.meaning.specs.Headers.{readBy, readTolerant}
+use Rattle.meaning.specs.Memory.{tableOf, readReply, answerBy, rowsBy, wordsBy, write}
 use Rattle.meaning.specs.Cases.{same, hex, aDate, replyIs, rowsIn, viewsFrom, bytesAre}
+use Rattle.meaning.specs.Accepting.{anExtension}
 
 -- a base with these parameters, in the length form that its size asks for
 abbrev pub sizedBase : List ℕ → List ℕ
@@ -101,5 +102,31 @@ lengthForms =
 abbrev unknownEdition : Bool
 unknownEdition = answerIs tolerant (at 3 [] []) (hex 0x1_fe) 1 0 && answerIs tolerant (at 0 [] []) [] 1 0
 
+-- what is lent: the tolerant reading lays its rows and words there, the strict one refuses and changes nothing
+abbrev lent : ℕ → List ℕ
+lent n = replicate n 99
+
+abbrev memory : ℕ → Bool
+memory e =
+    let input = sizedBase (hex 0x1_0b_17_00_01_7f) in
+    replyIs 0 20 5 (answerBy tolerant e input (lent 26) (lent 17)) && same (wordsBy tolerant e input (lent 26) (lent 17)) (2064 ∷ lent 16) &&
+    same (rowsBy tolerant e input (lent 26) (lent 17)) (2 ∷ 0 ∷ 0 ∷ 0 ∷ 5 ∷ 3 ∷ 0 ∷ 3 ∷ 1 ∷ 2 ∷ 5 ∷ 0 ∷ 5 ∷ 9 ∷ 3 ∷ 29 ∷ 0 ∷ 14 ∷ 0 ∷ 5 ∷ 21 ∷ 0 ∷ 18 ∷ 1 ∷ 5 ∷ 99 ∷ []) &&
+    replyIs 11 15 0 (answerBy strict e input (lent 26) (lent 17)) && same (rowsBy strict e input (lent 26) (lent 17)) (lent 26) && same (wordsBy strict e input (lent 26) (lent 17)) (lent 17)
+
+-- a wide length in an extension, in a later envelope, and in both
+abbrev wideExtension : List ℕ
+wideExtension = hex 0x1_fd_00_17_61_00_20 ++ (aDate ++ hex 0x1_01_0b_19_00_00_00_00_01)
+
+abbrev wideBase : List ℕ
+wideBase = sizedBase (hex 0x1_0b_17_00_01_7f)
+
+abbrev laterIs : List ℕ → ℕ → ℕ → Bool
+laterIs input rows place =
+    replyIs 0 (length input) rows (readReply 64 (readTolerant 1 input)) && replyIs 0 (length input) rows (readReply 64 (readTolerant 2 input)) &&
+    replyIs 11 place 0 (readReply 64 (readBy strict 1 input)) && replyIs 11 place 0 (readReply 64 (readBy strict 2 input))
+
+abbrev later : Bool
+later = laterIs (anExtension ++ wideBase) 8 32 && laterIs (wideExtension ++ wideBase) 10 17 && laterIs (anExtension ++ (wideExtension ++ wideBase)) 13 34
+
 abbrev pub widths : Bool
-widths = forms && faults && lengthForms && unknownEdition
+widths = memory 1 && memory 2 && later && forms && faults && lengthForms && unknownEdition
