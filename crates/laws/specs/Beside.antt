@@ -1,4 +1,4 @@
--- Rows that were read, put and given their skip numbers: what the passes over them may take for granted. By what their header's ranks are.
+-- Rows that were read and put: what the pass over them may take for granted. By what their header's ranks are.
 use Prim.Native.Nat.{ℕ, zero, suc, _+_, _-_, _≤_, _<_}
 use mathlib.Core.List.{List, [], _∷_, _++_}
 use mathlib.Core.Bool.{Bool}
@@ -13,8 +13,8 @@ use Rattle.meaning.specs.Headers.{Placed}
 use Rattle.meaning.specs.Memory.{roomOf}
 use Rattle.laws.specs.Logic.{left-of, right-of}
 use Rattle.laws.specs.Rows.{putAll, fourOf, put-all-over}
-use Rattle.laws.specs.Hopping.{rankAt, ranksFor, ranksAt, ranks-length, givenAt, skipAt, AllRight}
-use Rattle.laws.specs.Skipping.{skipsLaid, laid-length, laid-skip, laid-ranks, laid-same, ranks-over}
+use Rattle.laws.specs.Hopping.{rankAt, ranksFor, ranks-length}
+use Rattle.laws.specs.Skipping.{ranks-over}
 use Rattle.laws.specs.Tabled.{isInner}
 use Rattle.laws.specs.AllTabled.{ranksRead}
 use Rattle.laws.specs.Wording.{top, inner-three, Split, nothing, first}
@@ -46,7 +46,7 @@ each-standing m (r ∷ ranks) i q h j a b =
     at (suc d) e ih = ih (omega arith) (omega arith)
 
 module _ (rs : List Placed) (m mid : List ℕ) (n : ℕ) (put : putAll rs 0 m ≡ mid) (count : length rs ≡ n) (room : n ≤ roomOf m) where
-  put-ranks : ranksFor mid 0 n ≡ ranksRead rs
+  pub put-ranks : ranksFor mid 0 n ≡ ranksRead rs
   put-ranks = ap (λ (x : List ℕ). ranksFor x 0 n) (sym put ∙ put-all-over rs m (omega arith)) ∙ ap (ranksFor (fourOf rs m) 0) (sym count) ∙ ranks-over rs 0 [] m refl
 
   long : length (ranksRead rs) ≡ n
@@ -54,13 +54,3 @@ module _ (rs : List Placed) (m mid : List ℕ) (n : ℕ) (put : putAll rs 0 m �
 
   pub put-stands : {k : ℕ} → Split k (ranksRead rs) → (j : ℕ) → j < n → Standing (rankAt mid j)
   put-stands s j l = each-standing mid (ranksRead rs) 0 (ap (ranksFor mid 0) long ∙ put-ranks) (split-standing s) j (omega arith) (omega (arith, long))
-
-  module _ (left : List ℕ) (laid : left ≡ skipsLaid mid n n) (same : length mid ≡ length m) where
-    pub beside-ranks : ranksAt left n 0 ≡ ranksRead rs
-    beside-ranks = let q : n - 0 ≡ n = omega arith in ap (λ (x : List ℕ). ranksAt x n 0) laid ∙ ap (ranksFor (skipsLaid mid n n) 0) q ∙ laid-ranks mid n n 0 n ∙ put-ranks
-
-    pub beside-right : AllRight left n 0
-    beside-right j a b = ap (λ (x : List ℕ). givenAt x j) laid ∙ laid-skip mid n n j (omega arith) (omega arith) b ∙ sym (laid-same mid n n j) ∙ ap (λ (x : List ℕ). skipAt x n j) (sym laid)
-
-    pub beside-room : n ≤ roomOf left
-    beside-room = omega (arith, ap length laid, laid-length mid n n)

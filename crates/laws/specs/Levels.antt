@@ -188,6 +188,10 @@ go-level st agentEnds k l = by (st .single && eqb (st .level) 1)
     by true = refl
     by false = sym (is-true (isInner (st .room)) k) ∙ l
 
+-- .. behind every move
+pub move-level : (e : Edition) (st : State) {m : Move} → In m (moves e (st .room)) → AtLevel st → AtLevel (go (m .next) st)
+move-level e st {m} i l = go-level st (m .next) (kept e (st .room) i .levels) l
+
 -- only what raises leads deeper
 go-most : (st : State) (n : Next) → raises n ≡ false → go n st .level ≤ st .level
 go-most st (outer t) q = omega arith

@@ -55,6 +55,8 @@ pub mod BothEditions
 pub mod Walks
 pub mod Levels
 pub mod Ranked
+pub mod Neighbours
+pub mod Adjoining
 pub mod Lacking
 pub mod PassedOver
 pub mod Looking

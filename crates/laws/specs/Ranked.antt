@@ -58,7 +58,7 @@ rows-ranked e dates (row ∷ rows) table st st′ bs q l h more =
     not-opening : (kind : ℕ) → 3 ≤ kind → isEnvelope kind ≡ false
     not-opening kind l = rw (ne-eqb kind 1 (λ x. omega arith), ne-eqb kind 2 (λ x. omega arith)) refl
 
-map-both : (rows table : List Row) → map standing (rows ++ table) ≡ map standing rows ++ map standing table
+pub map-both : (rows table : List Row) → map standing (rows ++ table) ≡ map standing rows ++ map standing table
 map-both [] table = refl
 map-both (row ∷ rows) table = ap (λ (x : List Rank). standing row ∷ x) (map-both rows table)
 

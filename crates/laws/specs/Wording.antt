@@ -1,5 +1,4 @@
--- The words of a table, envelope by envelope: one for each, with the bit of its fixed head. And what hops may pass over: rows that belong to a row
--- inside an envelope have no parameter's value.
+-- The words of a table, envelope by envelope: one for each, with the bit of its fixed head.
 use Prim.Native.Nat.{ℕ, zero, suc, _/_, _%_, _≤_}
 use mathlib.Core.List.{List, [], _∷_, _++_, append-nil}
 use mathlib.Core.Bool.{Bool, true, false, _&&_, not}
@@ -127,57 +126,3 @@ head-bits (the-last head inner h t) =
     subst HeadBits (sym q) (bit-four (head ∷ inner) (head-occurs 4 head inner h))
 head-bits (one-more head inner rest n h t more) =
     subst HeadBits (sym (first-word false (head ∷ inner) rest t (ends-at false more))) (head-behind (wordOf (head ∷ inner)) (wordsOf rest) (bit-ten (head ∷ inner) (head-occurs 10 head inner h)) (head-bits more))
-
--- Hops
-
--- no value of a parameter: deeper, or of a kind that has none
-deeper-silent : (code : ℕ) (r : Rank) → (r .level ≡ 0 → ⊥) → hasValue code r ≡ false
-deeper-silent code r h = rw (ne-eqb (r .level) 0 h) refl
-
-and-false : (b : Bool) → b && false ≡ false
-and-false true = refl
-and-false false = refl
-
-kind-silent : (code kind : ℕ) (r : Rank) → (code ≡ 1 → ⊥) → codeOf kind ≡ 1 → r .kind ≡ kind → hasValue code r ≡ false
-kind-silent code kind r h c q = ap (λ (k : ℕ). eqb (r .level) 0 && eqb (codeOf k) code) q ∙ ap (λ (k : ℕ). eqb (r .level) 0 && eqb k code) c ∙ ap (λ (b : Bool). eqb (r .level) 0 && b) (ne-eqb 1 code (λ x. h (sym x))) ∙ and-false (eqb (r .level) 0)
-
-module _ (code : ℕ) (h : code ≡ 1 → ⊥) where
-  pub owned-silent : (r s : Rank) → T (isInner r) → belongs r s ≡ true → hasValue code s ≡ false
-  owned-silent r s t q = by (belongs-how r s q)
-    where
-      three : 3 ≤ r .kind
-      three = inner-three r t
-
-      not-agent : r .kind ≡ 15 → r .level ≡ 0 → ⊥
-      not-agent k l =
-          let n = right-of (leb 3 (r .kind)) (not (eqb (r .kind) agentName && eqb (r .level) 0)) t in
-          let f : eqb (r .kind) agentName && eqb (r .level) 0 ≡ false = is-false (eqb (r .kind) agentName && eqb (r .level) 0) n in
-          let g : eqb (r .kind) agentName && eqb (r .level) 0 ≡ true = rw (eq-eqb (r .kind) agentName k, eq-eqb (r .level) 0 l) refl in
-          let x : _≡_ {A = Bool} false true = sym f ∙ g in let z : _≡_ {A = ℕ} 0 1 = cc x in absurd (omega arith)
-
-      beside-silent : s .level ≡ r .level → beside (r .kind) (s .kind) ≡ true → hasValue code s ≡ false
-      beside-silent l =
-          by-beside (λ f. f (s .kind) ≡ true → hasValue code s ≡ false) (r .kind) (λ k i. absurd (omega (arith, three))) (λ k i. absurd (omega (arith, three))) (λ k i. deeper-silent code s (λ x. not-agent k (sym l ∙ x)))
-          (λ k i. kind-silent code 17 s h refl (eqb-true (s .kind) 17 i))
-          (λ k i. value-is (s .kind) i (kind-silent code 20 s h refl) (kind-silent code 21 s h refl))
-          (λ k i. value-is (s .kind) i (kind-silent code 20 s h refl) (kind-silent code 21 s h refl))
-          (λ k i. kind-silent code 26 s h refl (eqb-true (s .kind) 26 i)) (λ k i. kind-silent code 28 s h refl (eqb-true (s .kind) 28 i))
-          (λ i. let z : _≡_ {A = ℕ} 0 1 = cc i in absurd (omega arith))
-
-      by : Belongs r s → hasValue code s ≡ false
-      by (inl (d, l)) = deeper-silent code s (λ x. omega arith)
-      by (inr (l, i)) = beside-silent l i
-
-  -- none among the rows that belong to a row inside an envelope
-  pub run-silent : (r : Rank) → T (isInner r) → (rest : List Rank) → occurs code (take (belonging r rest) rest) ≡ false
-  unfolding occurs
-  run-silent r t [] = none-occurs (belonging r [])
-    where
-      none-occurs : (n : ℕ) → occurs code (take n []) ≡ false
-      none-occurs zero = refl
-      none-occurs (suc n) = refl
-  run-silent r t (s ∷ rest) = by (belongs r s) refl (run-silent r t rest)
-    where
-      by : (b : Bool) → belongs r s ≡ b → occurs code (take (belonging r rest) rest) ≡ false → occurs code (take (belonging r (s ∷ rest)) (s ∷ rest)) ≡ false
-      by true q ih = ap (λ (n : ℕ). occurs code (take n (s ∷ rest))) (belonging-on r s rest q) ∙ rw (owned-silent r s t q, ih) refl
-      by false q ih = ap (λ (n : ℕ). occurs code (take n (s ∷ rest))) (belonging-ends r s rest q)

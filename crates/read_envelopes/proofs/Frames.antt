@@ -1,13 +1,18 @@
 -- An envelope's frame: the laws of its identifier and length, as its stages answer them.
 use Prim.Native.Nat.{ℕ, _+_, _-_, _≤_}
 use mathlib.Core.List.{List}
-use mathlib.Core.Bool.{Bool}
-use mathlib.Core.Path.{_≡_, ap, _∙_}
+use mathlib.Core.Bool.{Bool, true, false, _||_}
+use mathlib.Core.Path.{_≡_, refl, ap, _∙_}
 use native.Mathlib.Omega.{arith}
-use lib.ListN.{length}
+use lib.Dec.{eqb}
+use lib.ListN.{length, getD}
+use borrow.Author.Tests.{eqb-true}
+use Rattle.meaning.specs.Basics.{pick}
 use Rattle.meaning.specs.Told.{Told}
-use Rattle.meaning.specs.Headers.{Answer, refused, envelopeMost, Onward, header}
+use Rattle.meaning.specs.Headers.{Answer, refused, envelopeMost, Onward, neither, identifierOf, header}
+use Rattle.meaning.specs.Headers as meaning
 use Rattle.laws.specs.From.{from}
+use Rattle.laws.specs.Frames.{Identified, identifierIs}
 use Rattle.laws.specs.Finishing.{finish, opened}
 use Rattle.read_envelopes.specs.declared.frame.Frame.{Frame}
 use Rattle.read_envelopes.specs.declared.frame.Frame.the-variants.{Opens, Refused}
@@ -15,6 +20,25 @@ use Rattle.read_envelopes.specs.declared.envelope.Envelope.{Envelope}
 use Rattle.read_envelopes.specs.declared.envelope.Envelope.the-variants as answer
 use Rattle.read_envelopes.specs.Frames.{framed, FrameFits, FrameRead, MayCome, HeaderFramed}
 use Rattle.read_envelopes.specs.Envelopes.{behindEnvelope, EnvelopeEnds, EnvelopeFits, OthersCome, EnvelopeOpened, EnvelopeRead}
+
+-- the identifier by one test of the byte, and which of the two it is by another
+by-tests : (b : ℕ) (x y : Bool) → eqb b 0xfd ≡ x → eqb b 0xfe ≡ y → x || y ≡ true → pick x meaning.extension (pick y meaning.base neither) ≡ identifierIs y
+by-tests b true true p q h = absurd (omega (arith, eqb-true b 0xfd p, eqb-true b 0xfe q))
+by-tests b true false p q h = refl
+by-tests b false true p q h = refl
+by-tests b false false p q h = let z : _≡_ {A = ℕ} 0 1 = cc h in absurd (omega arith)
+
+pub identified-by : (s : List ℕ) (at : ℕ) → eqb (getD s at 0) 0xfd || eqb (getD s at 0) 0xfe ≡ true → Identified s at (eqb (getD s at 0) 0xfe)
+unfolding Identified
+identified-by s at h = by-tests (getD s at 0) (eqb (getD s at 0) 0xfd) (eqb (getD s at 0) 0xfe) refl refl h
+
+pub identified-none : (b : ℕ) → eqb b 0xfd || eqb b 0xfe ≡ false → identifierOf b ≡ neither
+identified-none b h = none (eqb b 0xfd) (eqb b 0xfe) h
+  where
+    none : (x y : Bool) → x || y ≡ false → pick x meaning.extension (pick y meaning.base neither) ≡ neither
+    none true y h = let z : _≡_ {A = ℕ} 0 1 = cc h in absurd (omega arith)
+    none false true h = let z : _≡_ {A = ℕ} 0 1 = cc h in absurd (omega arith)
+    none false false h = refl
 
 -- a stage's answer
 pub frame-refused : {answer : Told → Onward → Answer} {s : List ℕ} {at refusal p : ℕ} → ((t : Told) (more : Onward) → answer t more ≡ refused refusal p) → FrameRead answer s at (Refused refusal p)

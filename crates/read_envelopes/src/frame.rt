@@ -8,7 +8,10 @@ use table::refusals::INPUT_ENDS;
 use table::refusals::LENGTH_WRONG;
 use values::bytes::four_bytes;
 use values::bytes::two_bytes;
+ghost use mathlib.Core.Path.{_≡_};
+ghost use mathlib.Core.Bool.{_||_};
 ghost use Prim.Native.Nat.{suc, _+_, _≤_, _<_};
+ghost use lib.Dec.{eqb};
 ghost use lib.ListN.{length};
 ghost use Rattle.meaning.specs.Bytes.{highFirst};
 ghost use Rattle.meaning.specs.Headers.{envelope, sized};
@@ -47,16 +50,20 @@ pub fn frame_at(s: &[u8], at: usize, left: u32) -> Frame
         };
     }
     let b = s[at];
-    if b == 0xfd {
-        return counted(s, at, left, false);
-    }
-    if b == 0xfe {
-        return counted(s, at, left, true);
+    if is_identifier(b) {
+        return counted(s, at, left, b == 0xfe);
     }
     Frame::Refused {
         refusal: IDENTIFIER_WRONG,
         at: at,
     }
+}
+
+// "identifier .. FD or FE".
+fn is_identifier(b: u8) -> bool
+    ensures { λ r. ⌜ r ≡ (eqb b 0xfd || eqb b 0xfe) ⌝ }
+{
+    (b == 0xfd) | (b == 0xfe)
 }
 
 // Takes an envelope whose identifier is known. "5: 17th envelope, identifier."

@@ -30,7 +30,7 @@ ghost use Prim.Native.Nat.{_<_};
 ghost use Rattle.meaning.specs.Bytes.{line};
 ghost use Rattle.meaning.specs.Kinds.{ownKey, fromOpens, behaviourOpens, encryptedOpens};
 ghost use Rattle.meaning.specs.Told as meaning;
-ghost use Rattle.meaning.specs.Editions.{state, parameters, ownText, agentList, oneAgent, behaviourValue, encryptedTexts, closed};
+ghost use Rattle.meaning.specs.Editions.{state, parameters, ownText, agentList, oneAgent, receivedBegins, behaviourValue, encryptedTexts, closed};
 ghost use Rattle.laws.specs.Pouring.{Ready, Peeked};
 ghost use Rattle.laws.specs.Shapes.{NoCode};
 ghost use Rattle.table.specs.Told.{toldOf};
@@ -88,10 +88,18 @@ fn read_parameter(
         0x06 => rows::number(s, end, at + 1, rows, n),
         0x07 => rows::text(s, end, at + 1, rows, n, PAYLOAD_ENCODING, Rule::Line, 0),
         0x09 => open_list(s, end, at, rows, n, RECEIVER_OPENS, told),
-        0x0a => in_parts(read_received(s, end, at + 1, rows, n, told)),
+        0x0a => received_object(s, end, at + 1, rows, n, told),
         0x0b => open_behaviour(s, end, at, rows, n, told),
         _ => encrypted_in_b(s, end, at, rows, n, b, told),
     }
+}
+
+// "0A received object", after the code. A function of its own, so that only this parameter's way hands the input on to a call through memory.
+fn received_object(s: &[u8], end: usize, at: usize, rows: &mut [u32], n: usize, told: Told) -> Stage
+    requires { ⌜ Ready (now s) end at n ⌝ }
+    ensures { λ r. ⌜ StateRead (toldOf told) (now (s .entry)) end (state receivedBegins 0 false) at n (now (rows .entry)) r (state parameters 0 false) (now (rows .exit)) ⌝ }
+{
+    in_parts(read_received(s, end, at, rows, n, told))
 }
 
 // "00 own key text, value text", after the code: the key a line, the value a note.

@@ -17,15 +17,15 @@ use Rattle.meaning.specs.Memory.{reply, tableOf, roomOf, laidOver, roomWith, an
 use Rattle.meaning.specs.Payload.{partStart, partEnd, partBytes, payloadStart, payloadEnd, payloadBytes}
 use Rattle.laws.specs.Logic.{areBytes}
 use Rattle.laws.specs.Rows.{putAll}
-use Rattle.laws.specs.Hopping.{rankAt, ranksAt, ranks-next}
-use Rattle.laws.specs.Skipping.{skipsLaid, laid-kind, laid-level, all-laid-over}
+use Rattle.laws.specs.Hopping.{ranksFor, ranksAt, ranks-next}
+use Rattle.laws.specs.Skipping.{skipsLaid, all-laid-over}
 use Rattle.laws.specs.AllTabled.{ranksRead, AtMost, accepted-tabled, some-row}
-use Rattle.laws.specs.Wording.{Split, nothing, first, tabled-split}
-use Rattle.laws.specs.Beside.{put-stands, beside-ranks, beside-right, beside-room}
+use Rattle.laws.specs.Wording.{top, Split, nothing, first, tabled-split}
+use Rattle.laws.specs.Beside.{put-ranks, put-stands}
+use Rattle.laws.specs.Adjoining.{read-neighbours, neighbours-at}
 use Rattle.laws.specs.Pouring.{filled, stopped, headerMost}
 use Rattle.laws.specs.Finishing.{finish}
-use Rattle.skips.specs.Laying.{IsTop, Stands}
-use Rattle.words.specs.Laying.{WordsFit}
+use Rattle.skips.specs.Laying.{IsTop, Finishable, Finished}
 use Rattle.table.specs.declared.reply.Reply.{Reply}
 use Rattle.table.specs.Reply.{replyOf}
 use Rattle.table.specs.declared.told.Edition.{Edition}
@@ -139,35 +139,36 @@ module _ (w : Strictness) (edition : ℕ) (input m words : List ℕ) (place n : 
     kept : putAll (a .rows) 0 m ≡ mid
     kept = filled-by mid r (ap (λ (x : Answer). finish x 0 m) (sym (a .is)) ∙ f .is)
 
-    -- the first row is an envelope's own
-    first-row : length mid ≡ length m → 0 < n → IsTop (rankAt mid 0)
-    first-row same some =
-        let left = skipsLaid mid n n in
-        let ranks = beside-ranks (a .rows) m mid n kept (a .count) (enough h .0) left refl same in
-        subst IsTop (rw (laid-kind mid n n 0, laid-level mid n n 0) refl) (begins-with (tabled-split (tabled .2)) (sym (ranks-next left n 0 some) ∙ ranks))
+    ranks : ranksFor mid 0 n ≡ ranksRead (a .rows)
+    ranks = put-ranks (a .rows) m mid n kept (a .count) (enough h .0)
 
-    pub filled-stands : length mid ≡ length m → Stands mid n
-    filled-stands same = record { opens = first-row same; each = put-stands (a .rows) m mid n kept (a .count) (enough h .0) (tabled-split (tabled .2)) }
+    ranks-from : ranksAt mid n 0 ≡ ranksRead (a .rows)
+    ranks-from = let q : n - 0 ≡ n = omega arith in ap (ranksFor mid 0) q ∙ ranks
 
-    module _ (same : length mid ≡ length m) (left : List ℕ) (l : left ≡ skipsLaid mid n n) where
-      pub words-fit : WordsFit left n words
-      words-fit = record {
-        room = beside-room (a .rows) m mid n kept (a .count) (enough h .0) left l same;
-        right = beside-right (a .rows) m mid n kept (a .count) (enough h .0) left l same;
-        count = tabled .0;
-        split = subst (Split (tabled .0)) (sym (beside-ranks (a .rows) m mid n kept (a .count) (enough h .0) left l same)) (tabled-split (tabled .2));
-        few = omega (arith, tabled .1, enough h .1);
-      }
+    -- what the third pass is told
+    pub finishable : T (areBytes input) → length mid ≡ length m → Finishable mid n words
+    finishable t same = record {
+      stands = record {
+        room = omega (arith, same, enough h .0);
+        most = omega (arith, a .few);
+        opens = λ some. begins-with (tabled-split (tabled .2)) (sym (ranks-next mid n 0 some) ∙ ranks-from);
+        each = put-stands (a .rows) m mid n kept (a .count) (enough h .0) (tabled-split (tabled .2));
+        beside = neighbours-at mid n (top true) (ranksRead (a .rows)) ranks (read-neighbours w edition input place (a .rows) t (a .is) (top true));
+      };
+      count = tabled .0;
+      split = subst (Split (tabled .0)) (sym ranks-from) (tabled-split (tabled .2));
+      few = omega (arith, tabled .1, enough h .1);
+    }
 
-      -- the rows, then their skip numbers, then the words
-      pub all-filled : T (areBytes input) → (words′ : List ℕ) → words′ ≡ laidOver words (wordsOf (ranksAt left n 0)) → ReadsBy w edition input m words (record { answer = 0; place = place; rows = n }) left words′
-      unfolding answerBy rowsBy wordsBy
-      all-filled t words′ d =
-          let c = a .count in
-          let q : leb (length (a .rows)) (roomWith m words) ≡ true = le-leb (length (a .rows)) (roomWith m words) (omega arith) in
-          let laid : left ≡ laidOver m (tableOf (a .rows))
-          = l ∙ ap (λ (x : List ℕ). skipsLaid x n n) (sym kept) ∙ ap (λ (x : ℕ). skipsLaid (putAll (a .rows) 0 m) x x) (sym c) ∙ all-laid-over (a .rows) m (omega (arith, enough h .0)) in
-          record { bytes = t; answers = rw (a .is, q, c) refl; rows = rw (a .is, q) laid; carries = rw (a .is, q) (d ∙ ap (λ (x : List Rank). laidOver words (wordsOf x)) (beside-ranks (a .rows) m mid n kept c (enough h .0) left l same)) }
+    -- the rows, then their skip numbers and the words
+    pub all-filled : T (areBytes input) → (left words′ : List ℕ) → Finished mid words n left words′ → ReadsBy w edition input m words (record { answer = 0; place = place; rows = n }) left words′
+    unfolding answerBy rowsBy wordsBy
+    all-filled t left words′ d =
+        let c = a .count in
+        let q : leb (length (a .rows)) (roomWith m words) ≡ true = le-leb (length (a .rows)) (roomWith m words) (omega arith) in
+        let laid : left ≡ laidOver m (tableOf (a .rows))
+        = d .rows-are ∙ ap (λ (x : List ℕ). skipsLaid x n n) (sym kept) ∙ ap (λ (x : ℕ). skipsLaid (putAll (a .rows) 0 m) x x) (sym c) ∙ all-laid-over (a .rows) m (omega (arith, enough h .0)) in
+        record { bytes = t; answers = rw (a .is, q, c) refl; rows = rw (a .is, q) laid; carries = rw (a .is, q) (d .words-are ∙ ap (λ (x : List Rank). laidOver words (wordsOf x)) ranks-from) }
 
 -- lent no rows, the first pass leaves them as they are
 pub nothing-lent : (w : Strictness) (edition : ℕ) (input m words : List ℕ) (none : List ℕ) (r : Reply) (left words′ : List ℕ) → length none ≡ 0 → ReadsBy w edition input (none ++ m) words r left words′ → ReadsBy w edition input m words r left words′

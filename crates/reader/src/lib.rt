@@ -1,7 +1,7 @@
 // The reader: a header as rows and words in lent memory, and the payload behind it.
 use read_envelopes::header::read_header;
 use read_rows::Stage;
-use skips::lay::lay_skips;
+use skips::lay::finish;
 use table::refusals::EDITION_UNKNOWN;
 use table::refusals::ROWS_SHORT;
 use table::reply::Reply;
@@ -12,7 +12,6 @@ use table::told::Strictness;
 use table::told::Told;
 use table::told::label_of;
 use words::WORDS_BORROWED;
-use words::lay_words;
 ghost use mathlib.Core.Path.{_≡_};
 ghost use Prim.Native.Nat.{_/_};
 ghost use lib.Dec.{leb};
@@ -45,7 +44,7 @@ pub fn read_tolerant(edition: u32, input: &[u8], rows: &mut [u32], words: &mut [
 }
 
 // Either of the two. Two passes of the same functions: the first, over no rows, validates and counts; the second fills. A third, over the
-// rows, lays their skip numbers, and a fourth, by these, the words.
+// rows, lays their skip numbers and the words.
 fn read_by(
     edition: u32,
     strictness: Strictness,
@@ -112,8 +111,7 @@ pub fn fill(
         };
     }
     survey(edition, strictness, input, rows);
-    lay_skips(rows, n);
-    lay_words(rows, n, words);
+    finish(rows, n, words);
     Reply {
         answer: 0,
         place: place,

@@ -1,4 +1,9 @@
 pub mod Owning
+pub mod Holding
 pub mod Hops
 pub mod Passes
-pub mod Envelopes
+pub mod Running
+pub mod Classing
+pub mod Turning
+pub mod Pushing
+pub mod Finishing

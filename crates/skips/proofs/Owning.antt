@@ -9,7 +9,7 @@ use Rattle.meaning.specs.Skips.{Rank, rank, beside, holdsDeeper, belongs}
 use Rattle.skips.specs.Owners.{aboveTest, besideTest, owns}
 use Rattle.skips.specs.declared.owner.Owner.{Owner}
 
-or-none : (a b : Bool) → a || b && false ≡ a
+pub or-none : (a b : Bool) → a || b && false ≡ a
 or-none true b = refl
 or-none false true = refl
 or-none false false = refl

@@ -1,2 +1,3 @@
 pub mod Owners
+pub mod Classes
 pub mod Laying

@@ -50,8 +50,7 @@ fn all_right(rows: &[u32], n: usize) -> bool
     true
 }
 
-// Takes row i of n, behind which the skip numbers are right. Answers its own right one. `lay` has the same function: called from one place only,
-// the compiler puts it there.
+// Takes row i of n, behind which the skip numbers are right. Answers its own right one.
 fn behind(rows: &[u32], n: usize, i: usize) -> usize
     requires { ⌜ Hoppable (now rows) n i ⌝ }
     ensures { λ r. ⌜ (r ≡ skipAt (now (rows .entry)) n i) × (r ≤ n) ⌝ }

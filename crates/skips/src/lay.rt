@@ -1,74 +1,145 @@
-// Skip numbers laid over rows that were read.
+// What is laid over rows once they are all read: their skip numbers, and a word for each envelope. One pass, from the last row to the first.
+use crate::class::BITS;
+use crate::class::CLASSES;
+use crate::class::FOLLOWS;
+use crate::class::HOLDS_DEEPER;
+use crate::class::IS_AGENT;
+use crate::class::IS_ENVELOPE;
+use crate::class::class_of;
 use crate::hop::above_end;
-use crate::hop::beside_end;
 use crate::hop::deeper_end;
-use crate::owner::Owner;
-use crate::owner::is_envelope;
-use crate::owner::owner_of;
-use table::kinds::ADDRESS;
 use table::kinds::AGENT_NAME;
-use table::kinds::ANY_BYTES;
-use table::kinds::ANY_TEXT;
-use table::kinds::BASE_OPENS;
-use table::kinds::ENCRYPTED_ITEM;
-use table::kinds::OWN_VALUE;
 use table::rows::kind_at;
 use table::rows::put_skip;
+ghost use mathlib.Core.List.{List, _∷_};
 ghost use mathlib.Core.Path.{_≡_};
-ghost use Prim.Native.Nat.{_≤_};
-ghost use Rattle.meaning.specs.Memory.{roomOf};
-ghost use Rattle.laws.specs.Hopping.{skipAt};
-ghost use Rattle.laws.specs.Skipping.{skipsLaid};
-ghost use Rattle.table.specs.Rows.{u32Most};
-ghost use Rattle.skips.specs.Owners.{Hoppable};
-ghost use Rattle.skips.specs.Laying.{Stands, LaidFrom, InsideLaid};
+ghost use Prim.Native.Nat.{ℕ, _<_};
+ghost use lib.ListN.{length};
+ghost use Rattle.meaning.specs.Memory.{laidOver};
+ghost use Rattle.skips.specs.Classes.{ClassesAre};
+ghost use Rattle.skips.specs.Laying.{LaidFrom, LaidBack, InsideLaid, Turned, RunBefore, RunLaid, Finishable, Finished};
 
-// Lays the skip numbers of the first n rows, from the last to the first; nothing else changes. An envelope's is the next envelope's row, or n.
-pub fn lay_skips(rows: &mut [u32], n: usize)
-    requires { ⌜ (n ≤ roomOf (now rows)) × (n ≤ u32Most) × Stands (now rows) n ⌝ }
-    ensures { λ _. ⌜ now (rows .exit) ≡ skipsLaid (now (rows .entry)) n n ⌝ }
+// What one turn of the pass came to: the first row laid, with what was seen of the envelope's word; or the envelope's own row, and its word.
+pub enum Turn {
+    Row { row: usize, word: u32 },
+    Envelope { row: usize, word: u32 },
+}
+
+// An envelope's own row, and its word.
+pub struct Inside {
+    pub row: usize,
+    pub word: u32,
+}
+
+// Takes n rows of a header that was read. Lays their skip numbers, and the words of their envelopes over the front of `words`; nothing else changes.
+pub fn finish(rows: &mut [u32], n: usize, words: &mut [u32])
+    requires { ⌜ Finishable (now rows) n (now words) ⌝ }
+    ensures { λ _. ⌜ Finished (now (rows .entry)) (now (words .entry)) n (now (rows .exit)) (now (words .exit)) ⌝ }
 {
+    let classes = CLASSES;
     let mut next = n;
+    let mut k: usize = 0;
     while 0 < next {
-        let i = lay_inside(rows, n, next);
+        let inside = lay_inside(rows, n, next, &classes);
+        let i = inside.row;
+        let word = inside.word;
         put_skip(rows, i, next);
+        put_first(words, k, word);
+        k += 1;
         next = i;
     }
 }
 
-// Takes n rows that have their skip numbers from row `end` on, which is an envelope's or n. Lays those of the rows before it that are inside an
-// envelope, and answers that envelope's own row.
-fn lay_inside(rows: &mut [u32], n: usize, end: usize) -> usize
-    requires { ⌜ LaidFrom (now rows) n end ⌝ }
-    ensures { λ r. ⌜ InsideLaid (now (rows .entry)) (now (rows .exit)) n end r ⌝ }
+// Takes words of which the first k are an envelope's each. Puts the word of the envelope before them in front; the words behind them stay.
+fn put_first(words: &mut [u32], k: usize, word: u32)
+    requires { ⌜ k < length (now words) ⌝ }
+    ensures { λ _. ⌜ ((lent own : List ℕ) → now (words .entry) ≡ laidOver lent own → length own ≡ k → now (words .exit) ≡ laidOver lent (word ∷ own)) ⌝ }
 {
-    let mut i = end;
-    loop {
-        i -= 1;
-        let owner = owner_of(kind_at(rows, i));
-        if is_envelope(owner) {
-            return i;
-        }
-        let skip = behind(rows, n, i);
-        put_skip(rows, i, skip);
+    let mut held = word;
+    let mut i: usize = 0;
+    while i <= k {
+        let next = words[i];
+        words[i] = held;
+        held = next;
+        i += 1;
     }
 }
 
-// Takes row i of n, behind which the skip numbers are right. Answers its own. `hold` has the same function: called from one place only,
-// the compiler puts it there.
-fn behind(rows: &[u32], n: usize, i: usize) -> usize
-    requires { ⌜ Hoppable (now rows) n i ⌝ }
-    ensures { λ r. ⌜ (r ≡ skipAt (now (rows .entry)) n i) × (r ≤ n) ⌝ }
+// Takes n rows that have their skip numbers from row `end` on, which is an envelope's or n. Lays those of the rows before it that are inside an
+// envelope, and answers that envelope's own row and its word.
+fn lay_inside(rows: &mut [u32], n: usize, end: usize, classes: &[u16; 30]) -> Inside
+    requires { ⌜ ((m : List ℕ) × LaidFrom m n (now rows) end) × ClassesAre (now classes) ⌝ }
+    ensures { λ r. ⌜ ((m : List ℕ) → LaidFrom m n (now (rows .entry)) end → InsideLaid m n end (now (rows .exit)) (r .row) (r .word)) ⌝ }
 {
-    let owner = owner_of(kind_at(rows, i));
-    match owner {
-        Owner::Nothing => i + 1,
-        Owner::Deeper => deeper_end(rows, n, i),
-        Owner::Envelope => above_end(rows, n, i, BASE_OPENS),
-        Owner::Agent => above_end(rows, n, i, AGENT_NAME),
-        Owner::Addresses => beside_end(rows, n, i, ADDRESS, ADDRESS),
-        Owner::Valued => beside_end(rows, n, i, ANY_TEXT, ANY_BYTES),
-        Owner::Encrypted => beside_end(rows, n, i, ENCRYPTED_ITEM, ENCRYPTED_ITEM),
-        Owner::OwnKey => beside_end(rows, n, i, OWN_VALUE, OWN_VALUE),
+    let mut next = end;
+    let mut word: u32 = 0;
+    loop {
+        let t = lay_row(rows, n, next, classes, word);
+        match t {
+            Turn::Row { row, word: seen } => {
+                next = row;
+                word = seen;
+            }
+            Turn::Envelope { row, word: all } => return Inside {
+                row: row,
+                word: all,
+            },
+        }
     }
+}
+
+// Takes n rows that have their skip numbers from row `next` on, and what was seen of the word. Lays that of the row before it; where that row follows
+// another, those of all its run and of the row that opens the run.
+fn lay_row(rows: &mut [u32], n: usize, next: usize, classes: &[u16; 30], word: u32) -> Turn
+    requires { ⌜ ((m : List ℕ) × (end : ℕ) × LaidBack m n end (now rows) next word) × ClassesAre (now classes) ⌝ }
+    ensures { λ r. ⌜ ((m : List ℕ) (end : ℕ) → LaidBack m n end (now (rows .entry)) next word → Turned m n end next (now (rows .exit)) r) ⌝ }
+{
+    let i = next - 1;
+    let kind = kind_at(rows, i);
+    let class = class_of(classes, kind);
+    let seen = word | class;
+    if class < HOLDS_DEEPER {
+        put_skip(rows, i, next);
+        return Turn::Row { row: i, word: seen };
+    }
+    if class < IS_AGENT {
+        let skip = deeper_end(rows, n, i);
+        put_skip(rows, i, skip);
+        return Turn::Row { row: i, word: seen };
+    }
+    if class < FOLLOWS {
+        let skip = above_end(rows, n, i, AGENT_NAME);
+        put_skip(rows, i, skip);
+        return Turn::Row { row: i, word: seen };
+    }
+    if class < IS_ENVELOPE {
+        let first = lay_run(rows, i, kind);
+        let opener = class_of(classes, kind_at(rows, first));
+        return Turn::Row {
+            row: first,
+            word: seen | opener,
+        };
+    }
+    Turn::Envelope {
+        row: i,
+        word: seen % BITS,
+    }
+}
+
+// Takes row `last`, of a kind that follows another. Lays the skip numbers of it, of the rows of its kind right before it, and of the row that opens
+// them, which it answers.
+fn lay_run(rows: &mut [u32], last: usize, kind: u32) -> usize
+    requires { ⌜ ((m : List ℕ) × (n : ℕ) × RunBefore m n (now rows) last kind) ⌝ }
+    ensures { λ r. ⌜ ((m : List ℕ) (n : ℕ) → RunBefore m n (now (rows .entry)) last kind → RunLaid m n (now (rows .exit)) r last kind) ⌝ }
+{
+    let end = last + 1;
+    let mut next = end;
+    let mut i = last;
+    while kind_at(rows, i) == kind {
+        put_skip(rows, i, next);
+        next = i;
+        i -= 1;
+    }
+    put_skip(rows, i, end);
+    i
 }

@@ -58,22 +58,6 @@ pub fn owner_of(kind: u32) -> Owner
     }
 }
 
-// Takes what a row has among its rows. Answers whether that is all of an envelope.
-pub fn is_envelope(owner: Owner) -> bool
-    ensures { λ r. ⌜ r ≡ owns owner 0 (rank 3 0) ⌝ }
-{
-    match owner {
-        Owner::Nothing => false,
-        Owner::Deeper => false,
-        Owner::Envelope => true,
-        Owner::Agent => false,
-        Owner::Addresses => false,
-        Owner::Valued => false,
-        Owner::Encrypted => false,
-        Owner::OwnKey => false,
-    }
-}
-
 // Takes an owner's level, and the kind and level of a row. Answers whether it is deeper, or beside the owner and of a kind above this one.
 pub fn is_above(above: u32, at: u32, kind: u32, level: u32) -> bool
     ensures { λ r. ⌜ r ≡ (ltb at level || eqb level at && ltb above kind) ⌝ }

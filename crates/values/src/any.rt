@@ -67,7 +67,38 @@ pub fn take_in_place(s: &[u8], end: usize, at: usize, told: Told) -> Value
             return block(s, end, at, 2, told);
         }
     }
-    take(s, end, at, told)
+    take_called(s, end, at, told)
+}
+
+// The same behind a call. A function of its own, so that bytes behind a short length are never handed through memory.
+fn take_called(s: &[u8], end: usize, at: usize, told: Told) -> Value
+    requires { ⌜ Inside (now s) end at ⌝ }
+    ensures { λ r. ⌜ Coded (toldOf told) anyValues 7 (now (s .entry)) end at r ⌝ }
+{
+    in_parts(take(s, end, at, told))
+}
+
+// Takes a value's answer. Answers the same, put together again from its parts: what a call left in memory goes on in registers.
+fn in_parts(v: Value) -> Value
+    ensures { λ same. ⌜ same ≡ v ⌝ }
+{
+    match v {
+        Value::Is {
+            kind,
+            start,
+            length,
+            after,
+        } => Value::Is {
+            kind: kind,
+            start: start,
+            length: length,
+            after: after,
+        },
+        Value::Refused { refusal, at } => Value::Refused {
+            refusal: refusal,
+            at: at,
+        },
+    }
 }
 
 // Bytes behind a length of so many bytes. "11 comes after the length bytes, before the block", at the code.

@@ -67,12 +67,12 @@ fn ended(s: &[u8], end: usize, at: usize, i: usize, kind: u32) -> Value
     }
 }
 
-// As `run`, for a reading, in which most texts stop before the end: an empty note is found without a call, and a line's stop by marks.
+// As `run`, for a reading, in which most texts stop before the end: an empty text is found at one look, and a line's stop by marks.
 fn stop(s: &[u8], end: usize, at: usize, rule: Rule) -> usize
     requires { ⌜ Inside (now s) end at ⌝ }
     ensures { λ r. ⌜ Run (ruleOf rule) (now (s .entry)) end at r ⌝ }
 {
-    if empty_note(s, end, at, rule) {
+    if empty(s, end, at) {
         return at;
     }
     match rule {
@@ -81,20 +81,15 @@ fn stop(s: &[u8], end: usize, at: usize, rule: Rule) -> usize
     }
 }
 
-// Whether the text is a note of no byte. An empty line is not looked for: its run is short.
-fn empty_note(s: &[u8], end: usize, at: usize, rule: Rule) -> bool
+// Whether the text has no byte.
+fn empty(s: &[u8], end: usize, at: usize) -> bool
     requires { ⌜ Inside (now s) end at ⌝ }
     ensures { λ r. ⌜ (r ≡ true → getD (now (s .entry)) at 0 ≡ 0) ⌝ }
 {
-    match rule {
-        Rule::Line => false,
-        Rule::Note => {
-            if at < end {
-                return s[at] == 0;
-            }
-            false
-        }
+    if at < end {
+        return s[at] == 0;
     }
+    false
 }
 
 // The first place whose byte the rule does not allow, or the end.

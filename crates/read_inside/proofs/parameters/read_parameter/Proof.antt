@@ -54,14 +54,11 @@ text-requires-2 c κs = ready-next (c .before .before .before .before .pre .0) (
 open-list-requires-2 : tie.Need-open-list-requires-2
 open-list-requires-2 c κs = (c .before .before .before .before .pre .0, c .before .before .before .before .pre .1 .inside (rw (c .before .match .keys8) (omega arith)))
 
-add-read-received : tie.Need-add-read-received
-add-read-received c = let h = ready-next (c .before .before .before .pre .0) (c .before .before .before .pre .1 .inside (rw (c .match .keys9) (omega arith))) in omega (arith, h .before, h .small)
+add-received-object : tie.Need-add-received-object
+add-received-object c = let h = ready-next (c .before .before .before .pre .0) (c .before .before .before .pre .1 .inside (rw (c .match .keys9) (omega arith))) in omega (arith, h .before, h .small)
 
-read-received-requires : tie.Need-read-received-requires
-read-received-requires c κs = (ready-next (c .before .before .before .before .pre .0) (c .before .before .before .before .pre .1 .inside (rw (c .before .match .keys9) (omega arith))))
-
-in-parts-requires : tie.Need-in-parts-requires
-in-parts-requires c κs = search needs
+received-object-requires : tie.Need-received-object-requires
+received-object-requires c κs = (ready-next (c .before .before .before .before .pre .0) (c .before .before .before .before .pre .1 .inside (rw (c .before .match .keys9) (omega arith))))
 
 open-behaviour-requires : tie.Need-open-behaviour-requires
 open-behaviour-requires c κs = (c .before .before .before .before .pre .0, c .before .before .before .before .pre .1 .inside (rw (c .before .match .keys10) (omega arith)))
@@ -163,11 +160,10 @@ same-length-9 c = search needs
 returns-9 : tie.Need-returns-9
 unfolding look find moves shared own
 returns-9 c =
-    let a = c .before .before .before .before .before .before .before .before .args in
-    rw (c .in-parts .ensures)
-    (begun (omega arith)
-    (passed-at (source (toldOf (a .told)) (a .s .now) (a .end)) (a .at) (a .n) (a .rows .now) (a .b) (c .before .before .before .before .before .before .before .before .pre .1) 0x0a (c .before .before .before .before .before .match .keys9) (omega arith) (state parameters 0 false) (outer receivedBegins) refl)
-    (c .before .before .before .read-received .ensures))
+    let a = c .before .before .before .before .before .before .before .args in
+    begun (omega arith)
+    (passed-at (source (toldOf (a .told)) (a .s .now) (a .end)) (a .at) (a .n) (a .rows .now) (a .b) (c .before .before .before .before .before .before .before .pre .1) 0x0a (c .before .before .before .before .match .keys9) (omega arith) (state parameters 0 false) (outer receivedBegins) refl)
+    (c .before .before .received-object .ensures)
 
 same-length-10 : tie.Need-same-length-10
 same-length-10 c = search needs
@@ -203,9 +199,8 @@ read-parameter-spec =
     add-text-2
     text-requires-2
     open-list-requires-2
-    add-read-received
-    read-received-requires
-    in-parts-requires
+    add-received-object
+    received-object-requires
     open-behaviour-requires
     encrypted-in-b-requires
     same-length

@@ -1,48 +1,43 @@
--- `lay::lay_inside`: the invariant says that the rows from i up to `end` are inside an envelope and have their skip numbers.
+-- `lay::lay_inside`: the invariant says that the rows from `next` up to `end` are inside an envelope, have their skip numbers, and what is seen of its word.
+use Prim.Native.Nat.{ℕ}
+use mathlib.Core.List.{List}
+use mathlib.Core.Path.{sym, _∙_}
 use native.Mathlib.Omega.{arith}
 use borrow.Author.Needs.{needs}
-use Rattle.skips.proofs.Envelopes.{LaidBack, from-end, row-inside, back-hoppable, reaches-own, back-again}
+use Rattle.skips.specs.Laying.{LaidFrom, LaidBack}
+use Rattle.skips.proofs.Turning.{back-begins, turned-on, turned-out, from-long, inside-long}
 use Rattle.skips.proofs.lay.lay_inside.Statement.{statement}
 use Rattle.skips.proofs.lay.lay_inside.Tie as tie
 
 abbrev Inv-loop : tie.InvT-loop
-Inv-loop rows₀ n end i₀ rows i = LaidBack rows₀ n end rows i
+Inv-loop rows₀ n end classes next₀ word₀ rows next word = (m : List ℕ) → LaidFrom m n rows₀ end → LaidBack m n end rows next word
 
 abbrev μ-loop : tie.MeasureT-loop
-μ-loop rows₀ n end i₀ rows i = i
+μ-loop rows₀ n end classes next₀ word₀ rows next word = next
 
 loop-holds : tie.Need-loop-holds Inv-loop μ-loop
-loop-holds c = from-end (c .before .pre)
+loop-holds c m f = back-begins f
 
-sub-i : tie.Need-sub-i Inv-loop μ-loop
-sub-i c = omega (arith, c .loop .inv .some)
+lay-row-requires : tie.Need-lay-row-requires Inv-loop μ-loop
+lay-row-requires c κs = let (m, f) = c .before .before .before .pre .0 in ((m, c .before .before .before .args .end, c .before .loop .inv m f), c .before .before .before .pre .1)
 
-kind-at-requires : tie.Need-kind-at-requires Inv-loop μ-loop
-kind-at-requires c κs = row-inside (c .before .loop .inv)
-
-owner-of-requires : tie.Need-owner-of-requires Inv-loop μ-loop
-owner-of-requires c κs = search needs
-
-is-envelope-requires : tie.Need-is-envelope-requires Inv-loop μ-loop
-is-envelope-requires c κs = search needs
-
-same-length : tie.Need-same-length Inv-loop μ-loop
-same-length c = c .before .before .before .before .before .loop .inv .long
-
-returns : tie.Need-returns Inv-loop μ-loop
-returns c = reaches-own (c .before .before .before .before .before .loop .inv) (c .before .before .owner-of .result) (c .before .before .before .kind-at .ensures) (c .before .before .owner-of .ensures) (c .before .is-envelope .ensures) (c .if1 .taken)
-
-behind-requires : tie.Need-behind-requires Inv-loop μ-loop
-behind-requires c κs = back-hoppable (c .before .before .before .before .before .before .loop .inv)
-
-put-skip-requires : tie.Need-put-skip-requires Inv-loop μ-loop
-put-skip-requires c κs = (row-inside (c .before .before .before .before .before .before .before .before .loop .inv), omega (arith, c .before .behind .ensures .1, c .before .before .before .before .before .before .before .before .before .before .pre .most))
+enum-known-t : tie.Need-enum-known-t Inv-loop μ-loop
+enum-known-t c = search needs
 
 loop-less : tie.Need-loop-less Inv-loop μ-loop
-loop-less c = omega (arith, c .before .before .before .before .before .before .before .before .before .before .before .loop .inv .some)
+loop-less c = let (m, f) = c .before .before .before .before .before .before .before .before .before .pre .0 in turned-on (c .before .t .given .1) (c .before .before .before .before .before .lay-row .ensures m (c .before .before .before .before .before .before .before .before .before .args .end) (c .before .before .before .before .before .before .before .loop .inv m f)) .1
 
 loop-again : tie.Need-loop-again Inv-loop μ-loop
-loop-again c = back-again (c .before .before .before .before .before .before .before .before .before .before .before .loop .inv) (c .before .before .before .before .before .before .before .before .owner-of .result) (c .before .before .before .before .before .before .before .before .before .kind-at .ensures) (c .before .before .before .before .before .before .before .before .owner-of .ensures) (c .before .before .before .before .before .before .before .is-envelope .ensures) (c .before .before .before .before .before .before .if1 .left) (c .before .before .before .before .behind .ensures .0) (c .before .before .put-skip .ensures) (c .before .before .put-skip .kept .0)
+loop-again c m f = turned-on (c .before .t .given .1) (c .before .before .before .before .before .lay-row .ensures m (c .before .before .before .before .before .before .before .before .before .args .end) (c .before .before .before .before .before .before .before .loop .inv m f)) .0
+
+enum-known-t-2 : tie.Need-enum-known-t-2 Inv-loop μ-loop
+enum-known-t-2 c = search needs
+
+same-length : tie.Need-same-length Inv-loop μ-loop
+same-length c = let (m, f) = c .before .before .before .before .before .before .before .before .before .pre .0 in inside-long (turned-out (c .before .before .before .before .before .before .before .loop .next) (c .before .t2 .given .1) (c .before .before .before .before .before .lay-row .ensures m (c .before .before .before .before .before .before .before .before .before .args .end) (c .before .before .before .before .before .before .before .loop .inv m f))) ∙ sym (from-long f)
+
+returns : tie.Need-returns Inv-loop μ-loop
+returns c m f = turned-out (c .before .before .before .before .before .before .before .loop .next) (c .before .t2 .given .1) (c .before .before .before .before .before .lay-row .ensures m (c .before .before .before .before .before .before .before .before .before .args .end) (c .before .before .before .before .before .before .before .loop .inv m f))
 
 pub lay-inside-spec : {M : Type 1} → statement M
 lay-inside-spec =
@@ -51,13 +46,10 @@ lay-inside-spec =
     Inv-loop
     μ-loop
     loop-holds
-    sub-i
-    kind-at-requires
-    owner-of-requires
-    is-envelope-requires
-    same-length
-    returns
-    behind-requires
-    put-skip-requires
+    lay-row-requires
+    enum-known-t
     loop-less
-    loop-again)
+    loop-again
+    enum-known-t-2
+    same-length
+    returns)

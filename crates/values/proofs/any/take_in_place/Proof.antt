@@ -29,8 +29,8 @@ returns-2 : tie.Need-returns-2
 unfolding takeValue look find
 returns-2 c = code-before (c .before .before .before .before .before .if1 .taken) (sym (c .before .if3 .taken)) (block twoBytes) (record { coded = refl; rowed = refl; flat = refl }) (λ n. refl) (c .block2 .ensures twoBytes refl)
 
-take-requires : tie.Need-take-requires
-take-requires c κs = search needs
+take-called-requires : tie.Need-take-called-requires
+take-called-requires c κs = search needs
 
 returns-3 : tie.Need-returns-3
 returns-3 c = search needs
@@ -45,5 +45,5 @@ take-in-place-spec =
     shared-slice-read-if3
     block-requires-2
     returns-2
-    take-requires
+    take-called-requires
     returns-3)

@@ -5,15 +5,15 @@ use Rattle.values.proofs.Texts.{line-runs, skipped-none, zero-stops}
 use Rattle.values.proofs.text.stop.Statement.{statement}
 use Rattle.values.proofs.text.stop.Tie as tie
 
-empty-note-requires : tie.Need-empty-note-requires
-empty-note-requires c κs = search needs
+empty-requires : tie.Need-empty-requires
+empty-requires c κs = search needs
 
 returns : tie.Need-returns
 returns c =
     let a = c .before .before .before .args in
     record {
       skipped = skipped-none (a .s .now) (a .end) (a .at) (c .before .before .before .pre .before) (ruleOf (a .rule));
-      stops = λ h. zero-stops (ruleOf (a .rule)) _ (c .before .empty-note .ensures (c .if1 .taken));
+      stops = λ h. zero-stops (ruleOf (a .rule)) _ (c .before .empty .ensures (c .if1 .taken));
     }
 
 enum-told : tie.Need-enum-told
@@ -35,4 +35,4 @@ returns-3 : tie.Need-returns-3
 returns-3 c = c .run .ensures
 
 pub stop-spec : {M : Type 1} → statement M
-stop-spec = tie.close (tie.spec empty-note-requires returns enum-told line-stop-requires enum-told-2 run-requires returns-2 returns-3)
+stop-spec = tie.close (tie.spec empty-requires returns enum-told line-stop-requires enum-told-2 run-requires returns-2 returns-3)
