@@ -3,9 +3,9 @@
 use Prim.Native.Nat.{ℕ, zero, suc, _≤_}
 use mathlib.Core.List.{List, [], _∷_, _++_, append-nil, map}
 use mathlib.Core.Bool.{Bool, true, false, _&&_, _||_, not}
-use mathlib.Core.Path.{_≡_, refl, ap, sym, _∙_, subst}
+use mathlib.Core.Path.{_≡_, refl, sym, _∙_, subst}
 use native.Mathlib.Omega.{arith}
-use lib.Dec.{T, eqb, ltb, leb, leb→le}
+use lib.Dec.{T, eqb, leb, leb→le}
 use borrow.Author.Tests.{eqb-true, ltb-false}
 use Rattle.meaning.specs.Basics.{pick, every, In}
 use Rattle.meaning.specs.Kinds.{addressesOpen, address, extraKey, anyText, anyBytes, encryptedOpens, encryptedItem, ownKey, ownValue, behaviourOpens}
@@ -16,7 +16,7 @@ use Rattle.meaning.specs.Skips.{Rank, rank}
 use Rattle.meaning.specs.Codes.{dateCode, codeOf}
 use Rattle.meaning.specs.Headers.{start}
 use Rattle.meaning.specs.Writing.{fits, fitRow}
-use Rattle.laws.specs.Logic.{left-of, right-of, is-true, is-false, either}
+use Rattle.laws.specs.Logic.{left-of, right-of, is-true, is-false}
 use Rattle.laws.specs.Tables.{every-in, allRooms, each-room}
 use Rattle.laws.specs.Fits.{Placing, fit-holds}
 use Rattle.laws.specs.WrittenRead.{fitAll, then-inv}

@@ -1,22 +1,21 @@
 -- The words of a table, envelope by envelope: one for each, with the bit of its fixed head.
-use Prim.Native.Nat.{ℕ, zero, suc, _/_, _%_, _≤_}
+use Prim.Native.Nat.{ℕ, suc, _/_, _%_, _≤_}
 use mathlib.Core.List.{List, [], _∷_, _++_, append-nil}
 use mathlib.Core.Bool.{Bool, true, false, _&&_, not}
-use mathlib.Core.Logic.{inl, inr}
 use mathlib.Core.Path.{_≡_, refl, ap, sym, _∙_, subst}
 use native.Mathlib.Omega.{arith}
 use lib.Dec.{T, eqb, leb, leb→le}
-use lib.ListN.{length, take}
+use lib.ListN.{length}
 use lib.Seq.{take-append-seam}
-use borrow.Author.Tests.{eqb-true, eqb-false, ne-eqb, eq-eqb, lt-ltb}
+use borrow.Author.Tests.{eqb-true, eqb-false, ne-eqb, lt-ltb}
 use Rattle.meaning.specs.Basics.{every}
 use Rattle.meaning.specs.Kinds.{agentName}
-use Rattle.meaning.specs.Skips.{Rank, rank, beside, belongs, belonging}
-use Rattle.meaning.specs.Codes.{codeOf, hasValue}
+use Rattle.meaning.specs.Skips.{Rank, rank, belongs, belonging}
+use Rattle.meaning.specs.Codes.{hasValue}
 use Rattle.meaning.specs.Words.{occurs, wordOf, wordsOf}
 use Rattle.meaning.specs.Headers.{opening}
-use Rattle.laws.specs.Logic.{left-of, right-of, is-true, is-false}
-use Rattle.laws.specs.Nesting.{by-beside, value-is, Belongs, belongs-how, deeper-belongs, beside-belongs, belonging-on, belonging-ends, belonging-none}
+use Rattle.laws.specs.Logic.{left-of, right-of, is-true}
+use Rattle.laws.specs.Nesting.{deeper-belongs, beside-belongs, belonging-on, belonging-ends, belonging-none}
 use Rattle.laws.specs.Presence.{bit-four, bit-ten}
 use Rattle.laws.specs.Tabled.{isInner, Tabled, the-last, one-more}
 

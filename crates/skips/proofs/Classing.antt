@@ -1,8 +1,8 @@
 -- A kind's class: what its number says of how the row's own rows are found, and the word's bits below.
-use Prim.Native.Nat.{ℕ, _+_, _*_, _%_, _≤_, _<_}
-use mathlib.Core.List.{List, [], _∷_, _++_}
-use mathlib.Core.Bool.{Bool, true, false, _&&_, _||_}
-use mathlib.Core.Path.{_≡_, refl, ap, sym, _∙_, subst}
+use Prim.Native.Nat.{ℕ, _+_, _%_, _≤_, _<_}
+use mathlib.Core.List.{List, [], _∷_}
+use mathlib.Core.Bool.{Bool, true, false, _||_}
+use mathlib.Core.Path.{_≡_, refl, ap, sym, _∙_}
 use native.Mathlib.Omega.{arith}
 use lib.Bits.{bitOr, or-mod, or-comm, or-zero-r}
 use lib.Dec.{T, eqb, ltb}
@@ -17,7 +17,7 @@ use Rattle.laws.specs.Presence.{or-words, no-other-bit}
 use Rattle.laws.specs.Neighbours.{isFollower, isSilent, Flat}
 use Rattle.skips.specs.Classes.{bitOf, wayOf, classOf}
 use Rattle.skips.proofs.Owning.{of-received, of-to, of-from, of-receiver, of-resolvers}
-use Rattle.skips.proofs.Holding.{by-follower, Light}
+use Rattle.skips.proofs.Belonging.{by-follower, Light}
 
 -- What the number says
 

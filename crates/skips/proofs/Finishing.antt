@@ -6,7 +6,7 @@ use mathlib.Core.Path.{_≡_, refl, ap, sym, _∙_, subst}
 use native.Mathlib.Omega.{arith}
 use lib.Dec.{T, eqb}
 use lib.ListN.{length, getD, set, take, drop, length-append, length-drop}
-use borrow.Author.Tests.{eqb-true, eqb-false, ne-eqb}
+use borrow.Author.Tests.{eqb-true, ne-eqb}
 use Rattle.meaning.specs.Basics.{pick}
 use Rattle.meaning.specs.Skips.{Rank, isEnvelope, belongs, belonging}
 use Rattle.meaning.specs.Words.{occurs, wordOf, wordsOf}
@@ -14,10 +14,9 @@ use Rattle.meaning.specs.Memory.{rowWidth, roomOf, laidOver}
 use Rattle.laws.specs.Hopping.{rankAt, ranksFor, ranksAt, ranks-length, ranks-next, skipAt, HopsTo}
 use Rattle.laws.specs.Skipping.{skipsLaid, laid-none}
 use Rattle.laws.specs.Wording.{top, three-belongs, top-not, words-count, no-words}
-use Rattle.laws.specs.Neighbours.{kindMost}
 use Rattle.table.specs.Rows.{u32Most}
 use Rattle.skips.specs.Classes.{classOf, ClassesAre}
-use Rattle.skips.specs.Laying.{IsTop, Stands, LaidFrom, InsideLaid, Finishable, Finished}
+use Rattle.skips.specs.Laying.{IsTop, LaidFrom, InsideLaid, Finishable, Finished}
 use Rattle.skips.proofs.Running.{stays-long, run-ends, runs-to, lays}
 
 -- Classes looked up

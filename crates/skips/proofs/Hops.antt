@@ -2,17 +2,14 @@
 use Prim.Native.Nat.{ℕ, _+_, _-_, _*_, _≤_, _<_}
 use mathlib.Core.List.{List}
 use mathlib.Core.Bool.{Bool, true, false}
-use mathlib.Core.Path.{_≡_, refl, ap, sym, _∙_, subst}
+use mathlib.Core.Path.{_≡_, ap, sym, _∙_, subst}
 use native.Mathlib.Omega.{arith}
-use lib.Dec.{ltb}
-use borrow.Author.Tests.{ltb-true, ltb-false}
 use lib.ListN.{getD}
 use Rattle.meaning.specs.Skips.{Rank, rank, belongs}
 use Rattle.meaning.specs.Memory.{rowWidth}
-use Rattle.laws.specs.Hopping.{rankAt, givenAt, skipAt, skip-forward, HopsTo, hop-begins, hop-on, hop-ends, hop-stops, step-on}
+use Rattle.laws.specs.Hopping.{rankAt, givenAt, skipAt, skip-forward, HopsTo, hop-on, hop-ends, hop-stops, step-on}
 use Rattle.skips.specs.Owners.{Hoppable, Owned, owns}
 use Rattle.skips.specs.declared.owner.Owner.{Owner}
-use Rattle.skips.specs.declared.owner.Owner.the-variants.{Nothing}
 
 module _ (m : List ℕ) (n i : ℕ) (test : ℕ → Rank → Bool) (o : Owned m i test) where
   -- what the code tested is whether row j belongs to row i
@@ -33,14 +30,6 @@ module _ (m : List ℕ) (n i : ℕ) (test : ℕ → Rank → Bool) (o : Owned m 
 -- what row i has among its rows, as the code was told
 pub owned-as : (m : List ℕ) (i : ℕ) {kind : ℕ} {o o′ : Owner} → kind ≡ getD m (i * rowWidth) 0 → ((level : ℕ) (s : Rank) → belongs (rank kind level) s ≡ owns o level s) → o ≡ o′ → Owned m i (owns o′)
 owned-as m i q f e = λ s. let at = getD m (i * rowWidth + 1) 0 in ap (λ (k : ℕ). belongs (rank k at) s) (sym q) ∙ f at s ∙ ap (λ (x : Owner). owns x at s) e
-
--- a row that has nothing
-pub nothing-behind : (m : List ℕ) (n i : ℕ) → i < n → Owned m i (owns Nothing) → (i + 1 ≡ skipAt m n i) × (i + 1 ≤ n)
-nothing-behind m n i l o = at (ltb (i + 1) n) refl
-  where
-    at : (b : Bool) → ltb (i + 1) n ≡ b → (i + 1 ≡ skipAt m n i) × (i + 1 ≤ n)
-    at true q = (sym (hop-stops m n i (hop-begins m n i l) (ltb-true (i + 1) n q) (o (rankAt m (i + 1)))), omega arith)
-    at false q = (sym (hop-ends m n i (hop-begins m n i l) (ltb-false (i + 1) n q)), omega arith)
 
 pub hop-falls : {m : List ℕ} {n i j next : ℕ} → HopsTo m n i j → j < n → Hoppable m n i → next ≡ givenAt m j → n - next < n - j
 hop-falls {m} {n} {i} {j} h l g e = omega (arith, e, g .behind j (omega (arith, h .behind)) l, skip-forward m n j)

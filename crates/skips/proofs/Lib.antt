@@ -1,5 +1,5 @@
 pub mod Owning
-pub mod Holding
+pub mod Belonging
 pub mod Hops
 pub mod Passes
 pub mod Running
@@ -7,3 +7,4 @@ pub mod Classing
 pub mod Turning
 pub mod Pushing
 pub mod Finishing
+pub mod Holdings

@@ -1,17 +1,15 @@
--- One turn of each pass over the rows: laid from the last row to the first, held likewise, and held from the first row on.
-use Prim.Native.Nat.{ℕ, suc, _+_, _-_, _*_, _≤_, _<_}
+-- What a pass over the rows stands on: the rows behind are right, from the last row to the first, and from the first row on.
+use Prim.Native.Nat.{ℕ, _+_, _-_, _≤_, _<_}
 use mathlib.Core.List.{List}
-use mathlib.Core.Bool.{Bool, true, false}
-use mathlib.Core.Path.{_≡_, refl, ap, sym, _∙_, subst}
+use mathlib.Core.Bool.{Bool}
+use mathlib.Core.Path.{_≡_, ap, sym, _∙_, subst}
 use native.Mathlib.Omega.{arith}
-use lib.Dec.{eqb}
-use lib.ListN.{set}
-use borrow.Author.Tests.{eqb-true, eqb-false, lt-ltb, le-ltb}
+use borrow.Author.Tests.{lt-ltb, le-ltb}
 use Rattle.meaning.specs.Basics.{pick}
 use Rattle.meaning.specs.Skips.{right, wrongAt}
-use Rattle.meaning.specs.Memory.{rowWidth, roomOf, skipsHeld}
+use Rattle.meaning.specs.Memory.{roomOf, skipsHeld}
 use Rattle.laws.specs.Hopping.{givenAt, skipAt, heldAt, held-end, held-next, held-wrong, AllRight, all-held, held-are}
-use Rattle.laws.specs.Skipping.{skipsLaid, laid-none, laid-more, laid-length, laid-skip, laid-same}
+use Rattle.laws.specs.Skipping.{skipsLaid, laid-length, laid-skip, laid-same}
 use Rattle.skips.specs.Owners.{Hoppable, heldAs}
 
 -- From the last row to the first
@@ -23,18 +21,6 @@ module _ (m : List ℕ) (n i : ℕ) (h : 0 < i) (l : i ≤ n) where
   pub hoppable : n ≤ roomOf m → AllRight m n i → Hoppable m n (i - 1)
   hoppable r a = record { inside = omega arith; room = r; behind = λ j x y. a j (omega arith) y }
 
-  -- one row more that is right
-  pub right-more : AllRight m n i → givenAt m (i - 1) ≡ skipAt m n (i - 1) → AllRight m n (i - 1)
-  right-more a q j x y = at (eqb j (i - 1)) refl
-    where
-      at : (b : Bool) → eqb j (i - 1) ≡ b → givenAt m j ≡ skipAt m n j
-      at true e = let u = eqb-true j (i - 1) e in ap (givenAt m) u ∙ q ∙ ap (skipAt m n) (sym u)
-      at false e = let u = eqb-false j (i - 1) e in a j (omega arith) y
-
-  -- one row more whose skip number is laid
-  laid-on : set (skipsLaid m n (n - i)) ((i - 1) * rowWidth + 4) (skipAt m n (i - 1)) ≡ skipsLaid m n (n - (i - 1))
-  laid-on = let q : suc (n - i) ≡ n - (i - 1) = omega arith in sym (laid-more m n (n - i) (i - 1) (omega arith)) ∙ ap (skipsLaid m n) q
-
   module _ (rows : List ℕ) (q : rows ≡ skipsLaid m n (n - i)) where
     -- the rows behind have theirs
     pub laid-hoppable : n ≤ roomOf m → Hoppable rows n (i - 1)
@@ -44,16 +30,6 @@ module _ (m : List ℕ) (n i : ℕ) (h : 0 < i) (l : i ≤ n) where
       where
         hoppable-in : (x : List ℕ) → n ≤ roomOf x → AllRight x n i → Hoppable x n (i - 1)
         hoppable-in x r a = record { inside = omega arith; room = r; behind = λ j u y. a j (omega arith) y }
-
-    pub laid-again : {skip : ℕ} {after : List ℕ} → skip ≡ skipAt rows n (i - 1) → after ≡ set rows ((i - 1) * rowWidth + 4) skip → after ≡ skipsLaid m n (n - (i - 1))
-    laid-again {skip} {after} e a =
-        a ∙ ap (λ (x : List ℕ). set x ((i - 1) * rowWidth + 4) skip) q ∙ ap (set (skipsLaid m n (n - i)) ((i - 1) * rowWidth + 4)) (e ∙ ap (λ (x : List ℕ). skipAt x n (i - 1)) q ∙ laid-same m n (n - i) (i - 1)) ∙ laid-on
-
-pub laid-begins : (m : List ℕ) (n : ℕ) → m ≡ skipsLaid m n (n - n)
-laid-begins m n = let q : 0 ≡ n - n = omega arith in sym (laid-none m n) ∙ ap (skipsLaid m n) q
-
-pub laid-ends : (m rows : List ℕ) (n i : ℕ) → i ≤ 0 → rows ≡ skipsLaid m n (n - i) → rows ≡ skipsLaid m n n
-laid-ends m rows n i h q = let e : n - i ≡ n = omega arith in q ∙ ap (skipsLaid m n) e
 
 -- From the first row on
 

@@ -6,7 +6,7 @@ use mathlib.Core.Path.{_≡_, refl, ap, sym, _∙_, subst}
 use native.Mathlib.Omega.{arith}
 use lib.Dec.{T, eqb, ltb}
 use lib.ListN.{length, getD, set}
-use borrow.Author.Tests.{eqb-true, eqb-false, ne-eqb, ltb-true, ltb-false}
+use borrow.Author.Tests.{eqb-true, eqb-false, ltb-true, ltb-false}
 use Rattle.meaning.specs.Skips.{Rank, belongs, beside}
 use Rattle.meaning.specs.Memory.{rowWidth, roomOf}
 use Rattle.laws.specs.Logic.{is-true}
@@ -16,8 +16,8 @@ use Rattle.laws.specs.Skipping.{skipsLaid, laid-more, laid-length, laid-kind, l
 use Rattle.laws.specs.Wording.{top}
 use Rattle.laws.specs.Neighbours.{isFollower, leads, mayStandBefore}
 use Rattle.table.specs.Rows.{u32Most}
-use Rattle.skips.specs.Laying.{IsTop, Stands, RunBefore, RunLaid}
-use Rattle.skips.proofs.Holding.{follower-alone, Light, light-belongs, Leader, is-leader}
+use Rattle.skips.specs.Laying.{RunBefore, RunLaid}
+use Rattle.skips.proofs.Belonging.{follower-alone, light-belongs, Leader, is-leader}
 
 -- One row laid
 

@@ -25,10 +25,10 @@ use Rattle.skips.specs.Laying.{IsTop, LaidFrom, LaidBack, InsideLaid, Tu
 use Rattle.skips.specs.declared.lay.Turn.{Turn}
 use Rattle.skips.specs.declared.lay.Turn.the-variants.{Envelope, Row}
 use Rattle.skips.proofs.Owning.{of-agent}
-use Rattle.skips.proofs.Holding.{Light, light-belongs}
+use Rattle.skips.proofs.Belonging.{Light, light-belongs}
 use Rattle.skips.proofs.Passes.{laid-hoppable}
 use Rattle.skips.proofs.Running.{ranks-stay, stays-long, alone, lays, top-alone}
-use Rattle.skips.proofs.Classing.{is-plain, is-deeper, is-agent, is-follower, is-envelope, Deeper, deeper-owns, one-seen, follower-unseen, envelope-unseen}
+use Rattle.skips.proofs.Classing.{is-plain, is-deeper, is-agent, is-follower, is-envelope, deeper-owns, one-seen, follower-unseen, envelope-unseen}
 
 top-opens : (c : Bool) → isEnvelope (top c .kind) ≡ true
 top-opens true = refl

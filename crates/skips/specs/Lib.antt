@@ -1,3 +1,4 @@
 pub mod Owners
 pub mod Classes
 pub mod Laying
+pub mod Holding

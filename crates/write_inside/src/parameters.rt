@@ -26,7 +26,7 @@ use write_rows::advance::needed;
 use write_rows::ahead::number;
 use write_rows::ahead::opened;
 use write_rows::ahead::text;
-use write_rows::any::any;
+use write_rows::any::any_on_top;
 use write_rows::lay::put;
 use write_rows::representation::representation;
 use write_rows::texts::texts;
@@ -125,7 +125,7 @@ fn behaviour(rows: &[u32], pool: &[u8], i: usize, output: &mut [u8], at: usize) 
         return Parameter::Last;
     };
     let k = i + 1;
-    begun(needed(any(rows, pool, k, 0, output, p), k))
+    begun(needed(any_on_top(rows, pool, k, output, p), k))
 }
 
 // "08 encrypted, texts then 01 (B only)": lays the parameter that row i opens in B. None begins there if row i does not open it.

@@ -12,7 +12,7 @@ use write_rows::advance::Advance;
 use write_rows::advance::Tried;
 use write_rows::ahead::text;
 use write_rows::dates::date;
-use write_rows::extras::extras;
+use write_rows::extras::some_extras;
 use write_rows::lay::put;
 use write_rows::texts::optional;
 ghost use mathlib.Core.Bool.{false};
@@ -43,7 +43,7 @@ fn behind_date(
             row: row,
             at: put(output, p, CLOSING),
         },
-        Edition::D => extras(rows, pool, row, 1, received_extra(edition), output, p),
+        Edition::D => some_extras(rows, pool, row, 1, received_extra(edition), output, p),
     }
 }
 

@@ -89,6 +89,12 @@ text-wants rule n (b ∷ v) = at (eqb b 0) refl (textByte rule b) refl (text-wan
     at false q true e i = wants-more b n (takeText rule v) ∙ i
     at false q false e i = ne-eqb (suc (length v)) 0 (λ x. omega arith)
 
+-- a text of no byte
+pub none-ok : (rule : Rule) (v : List ℕ) → length v ≡ 0 → true ≡ textOk rule v
+unfolding textOk
+none-ok rule [] h = refl
+none-ok rule (b ∷ v) h = absurd (omega arith)
+
 pub text-run : (rule : Rule) (v : List ℕ) {place : ℕ} → Run rule v (length v) 0 place → leb (length v) place ≡ textOk rule v
 unfolding textOk
 text-run rule v {place} r =

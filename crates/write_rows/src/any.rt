@@ -53,3 +53,17 @@ pub fn any(rows: &[u32], pool: &[u8], i: usize, level: u32, output: &mut [u8], a
     let end = r.end;
     Tried::To(block(&pool[start..end], output, at))
 }
+
+// The same of a transport behaviour, whose value has level 0: called from one place each, both are put in place.
+pub fn any_on_top(rows: &[u32], pool: &[u8], i: usize, output: &mut [u8], at: usize) -> Tried
+    requires { ⌜ StageRequires (now rows) i (now output) at ⌝ }
+    ensures { λ r. ⌜ ((n : Next) → TriedIs (anyValues n) 0 (now (pool .entry)) (now (rows .entry)) i (now (output .entry)) at r (now (output .exit))) ⌝ }
+{
+    let r = look_for(rows, pool, i, ANY_BYTES, 0);
+    if r.kind == 0 {
+        return text(rows, pool, i, ANY_TEXT, Rule::Note, 0, 0x14, output, at);
+    }
+    let start = r.start;
+    let end = r.end;
+    Tried::To(block(&pool[start..end], output, at))
+}

@@ -41,8 +41,8 @@ pub fn extras(
     some_extras(rows, pool, from, level, code, output, at)
 }
 
-// .. extra by extra.
-fn some_extras(
+// The same, extra by extra, for whoever looks for no row ahead. That there are two callers keeps it out of both.
+pub fn some_extras(
     rows: &[u32],
     pool: &[u8],
     from: usize,

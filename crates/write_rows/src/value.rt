@@ -14,6 +14,9 @@ pub fn text_ok(bytes: &[u8], rule: Rule) -> bool
     ensures { λ r. ⌜ r ≡ textOk (ruleOf rule) (now (bytes .entry)) ⌝ }
 {
     let end = bytes.len();
+    if end == 0 {
+        return true;
+    }
     end <= values::text::run(bytes, end, 0, rule)
 }
 

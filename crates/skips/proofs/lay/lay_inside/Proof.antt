@@ -2,7 +2,6 @@
 use Prim.Native.Nat.{ℕ}
 use mathlib.Core.List.{List}
 use mathlib.Core.Path.{sym, _∙_}
-use native.Mathlib.Omega.{arith}
 use borrow.Author.Needs.{needs}
 use Rattle.skips.specs.Laying.{LaidFrom, LaidBack}
 use Rattle.skips.proofs.Turning.{back-begins, turned-on, turned-out, from-long, inside-long}

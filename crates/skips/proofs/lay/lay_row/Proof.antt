@@ -1,8 +1,7 @@
 -- `lay::lay_row`: the row before those that are laid, by its class; a run as a whole.
-use mathlib.Core.Path.{sym, _∙_}
 use native.Mathlib.Omega.{arith}
 use borrow.Author.Needs.{needs}
-use Rattle.skips.proofs.Turning.{back-long, back-inside, back-small, back-hoppable, kind-known, plain-turn, deeper-owned, deeper-turn, agent-owned, agent-turn, run-before, run-inside, opener-known, run-turn, envelope-turn}
+use Rattle.skips.proofs.Turning.{back-inside, back-small, back-hoppable, kind-known, plain-turn, deeper-owned, deeper-turn, agent-owned, agent-turn, run-before, run-inside, opener-known, run-turn, envelope-turn}
 use Rattle.skips.proofs.lay.lay_row.Statement.{statement}
 use Rattle.skips.proofs.lay.lay_row.Tie as tie
 

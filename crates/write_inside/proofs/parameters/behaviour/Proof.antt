@@ -32,8 +32,8 @@ returns c edition = tried-as _ _ _ _ _ _ _ _ (c .enum-told .given .1) (c .before
 add-k : tie.Need-add-k
 add-k c = search needs
 
-any-requires : tie.Need-any-requires
-any-requires c κs =
+any-on-top-requires : tie.Need-any-on-top-requires
+any-on-top-requires c κs =
     let first = tried-as _ _ _ _ _ _ _ _ (c .before .before .t .given .1) (c .before .before .before .before .before .before .opened .ensures (outer behaviourValue)) in
     record { inside = omega (arith, first .ahead .within); layable = laid-layable (first .laid) (c .before .before .before .before .before .before .before .before .before .before .before .pre .layable) }
 
@@ -53,7 +53,7 @@ returns-2 : tie.Need-returns-2
 returns-2 c edition =
     let first = tried-as _ _ _ _ _ _ _ _ (c .before .before .before .before .before .before .before .t .given .1) (c .before .before .before .before .before .before .before .before .before .before .before .opened .ensures (outer behaviourValue)) in
     after-first edition _ (c .before .before .before .before .before .before .before .before .before .before .before .before .before .before .before .before .pre .layable .small) (parameter-row edition _ _ (on 0x0b ▸ behaviourOpens ▸ opens ▸ outer behaviourValue) (behaviour-first edition) refl first) (c .before .needed .result) _
-    (needed-is edition _ _ _ (state behaviourValue 0 false) (behaviour-value edition) _ _ (c .before .before .before .before .any .result) _ (c .before .before .before .before .any .ensures (outer parameters)) (c .before .needed .ensures)) (c .begun .ensures)
+    (needed-is edition _ _ _ (state behaviourValue 0 false) (behaviour-value edition) _ _ (c .before .before .before .before .any-on-top .result) _ (c .before .before .before .before .any-on-top .ensures (outer parameters)) (c .before .needed .ensures)) (c .begun .ensures)
 
 pub behaviour-spec : {M : Type 1} → statement M
 behaviour-spec =
@@ -65,7 +65,7 @@ behaviour-spec =
     same-length
     returns
     add-k
-    any-requires
+    any-on-top-requires
     needed-requires
     begun-requires
     same-length-2

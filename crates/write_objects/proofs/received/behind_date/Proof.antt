@@ -44,8 +44,8 @@ enum-told-2 c = search needs
 received-extra-requires : tie.Need-received-extra-requires
 received-extra-requires c κs = search needs
 
-extras-requires : tie.Need-extras-requires
-extras-requires c κs =
+some-extras-requires : tie.Need-some-extras-requires
+some-extras-requires c κs =
     let d = editionOf (c .before .before .before .before .before .before .before .before .before .before .before .before .before .before .before .before .before .before .before .args .edition) in
     let a = c .before .before .before .before .before .before .before .before .before .before .before .before .before .before .optional .ensures d afterDate afterFrom false (received-from d) in
     let b = c .before .before .before .before .before .before .before .before .before .before .optional2 .ensures d afterFrom afterId false (received-id d) in
@@ -74,7 +74,7 @@ returns-2 c =
     let b = c .before .before .before .before .before .before .before .before .before .before .before .before .before .optional2 .ensures d afterFrom afterId false (received-id d) in
     let v = c .before .before .before .before .before .before .before .before .before .optional3 .ensures d afterId afterVia false (received-via d) in
     let small = c .before .before .before .before .before .before .before .before .before .before .before .before .before .before .before .before .before .before .before .before .before .before .pre .layable .small in
-    advance-then small (onward-then small (onward-then small a b) v) (state parameters 0 false) _ (c .before .before .extras .result) (c .before .before .extras .ensures d afterVia false (state parameters 0 false) (extras-when (ap editionOf (c .before .before .before .before .before .enum-told2 .given .1)) (c .before .before .before .before .received-extra .ensures)))
+    advance-then small (onward-then small (onward-then small a b) v) (state parameters 0 false) _ (c .before .before .some-extras .result) (c .before .before .some-extras .ensures d afterVia false (state parameters 0 false) (extras-when (ap editionOf (c .before .before .before .before .before .enum-told2 .given .1)) (c .before .before .before .before .received-extra .ensures)))
 
 pub behind-date-spec : {M : Type 1} → statement M
 behind-date-spec =
@@ -87,7 +87,7 @@ behind-date-spec =
     put-requires
     enum-told-2
     received-extra-requires
-    extras-requires
+    some-extras-requires
     same-length
     returns
     same-length-2

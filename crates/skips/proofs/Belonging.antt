@@ -1,5 +1,5 @@
 -- What belongs to a row, by what its kind is: to one that follows another nothing, to one that holds nothing deeper only rows that follow it.
-use Prim.Native.Nat.{ℕ}
+use Prim.Native.Nat.{ℕ, _≤_}
 use mathlib.Core.Bool.{Bool, true, false, _||_}
 use mathlib.Core.Logic.{inl, inr}
 use mathlib.Core.Path.{_≡_, refl, ap, sym, _∙_, subst}
@@ -22,6 +22,9 @@ by-follower P p₁₇ p₂₀ p₂₁ p₂₆ p₂₈ k h = at (eqb k 17) (eqb k
     at false false false true e qa qb qc qd qe z = subst P (sym (eqb-true k 26 qd)) p₂₆
     at false false false false true qa qb qc qd qe z = subst P (sym (eqb-true k 28 qe)) p₂₈
     at false false false false false qa qb qc qd qe z = false-not z
+
+pub follower-inner : (k : ℕ) → isFollower k ≡ true → 3 ≤ k
+follower-inner = by-follower (λ k. 3 ≤ k) (omega arith) (omega arith) (omega arith) (omega arith) (omega arith)
 
 alone : (level : ℕ) (s : Rank) (k : ℕ) → holdsDeeper k ≡ false → beside k (s .kind) ≡ false → belongs (rank k level) s ≡ false
 unfolding belongs
@@ -55,14 +58,15 @@ light-belongs r s l q = by (belongs-how r s q)
 -- the row that opens a run
 pub record Leader (first kind : ℕ) : Type 0 where
   pub light : Light first
+  pub inner : 3 ≤ first
   pub follows-none : isFollower first ≡ false
   pub has : beside first kind ≡ true
 
 pub is-leader : (first kind : ℕ) → isFollower kind ≡ true → leads first kind ≡ true → Leader first kind
-is-leader first kind h = by-follower (λ k. leads first k ≡ true → Leader first k) (one 16 17 (well refl refl refl refl refl)) (value 20 refl) (value 21 refl) (one 25 26 (well refl refl refl refl refl)) (one 27 28 (well refl refl refl refl refl)) kind h
+is-leader first kind h = by-follower (λ k. leads first k ≡ true → Leader first k) (one 16 17 (well (omega arith) refl refl refl refl refl)) (value 20 refl) (value 21 refl) (one 25 26 (well (omega arith) refl refl refl refl refl)) (one 27 28 (well (omega arith) refl refl refl refl refl)) kind h
   where
-    well : {f k : ℕ} → isEnvelope f ≡ false → eqb f 15 ≡ false → holdsDeeper f ≡ false → isFollower f ≡ false → beside f k ≡ true → Leader f k
-    well a b c d e = record { light = record { no-envelope = a; no-agent = b; shallow = c }; follows-none = d; has = e }
+    well : {f k : ℕ} → 3 ≤ f → isEnvelope f ≡ false → eqb f 15 ≡ false → holdsDeeper f ≡ false → isFollower f ≡ false → beside f k ≡ true → Leader f k
+    well z a b c d e = record { inner = z; light = record { no-envelope = a; no-agent = b; shallow = c }; follows-none = d; has = e }
 
     one : (f k : ℕ) → Leader f k → eqb first f ≡ true → Leader first k
     one f k l q = subst (λ (x : ℕ). Leader x k) (sym (eqb-true first f q)) l
@@ -71,6 +75,6 @@ is-leader first kind h = by-follower (λ k. leads first k ≡ true → Leader fi
     value k v q = at (eqb first 19) (eqb first 29) refl refl q
       where
         at : (a b : Bool) → eqb first 19 ≡ a → eqb first 29 ≡ b → a || b ≡ true → Leader first k
-        at true b x y z = one 19 k (well refl refl refl refl v) x
-        at false true x y z = one 29 k (well refl refl refl refl v) y
+        at true b x y z = one 19 k (well (omega arith) refl refl refl refl v) x
+        at false true x y z = one 29 k (well (omega arith) refl refl refl refl v) y
         at false false x y z = false-not z
