@@ -22,16 +22,16 @@ use Rattle.skips.proofs.Belonging.{by-follower, Light}
 -- What the number says
 
 pub data Way (kind : ℕ) : ℕ → Type 0 where
-  envelope : isEnvelope kind ≡ true → Way kind 0xf000
-  follower : isFollower kind ≡ true → Way kind 0xa000
-  agent : kind ≡ 15 → Way kind 0x9000
-  deeper : isEnvelope kind ≡ false → isFollower kind ≡ false → eqb kind 15 ≡ false → holdsDeeper kind ≡ true → Way kind 0x8000
+  envelope : isEnvelope kind ≡ true → Way kind 0x4000
+  follower : isFollower kind ≡ true → Way kind 0x3000
+  agent : kind ≡ 15 → Way kind 0x2000
+  deeper : isEnvelope kind ≡ false → isFollower kind ≡ false → eqb kind 15 ≡ false → holdsDeeper kind ≡ true → Way kind 0x1000
   plain : Light kind → isFollower kind ≡ false → Way kind 0
 
 way-is : (kind : ℕ) → Way kind (wayOf kind)
 way-is kind = at (isEnvelope kind) (isFollower kind) (eqb kind 15) (holdsDeeper kind) refl refl refl refl
   where
-    at : (a b c d : Bool) → isEnvelope kind ≡ a → isFollower kind ≡ b → eqb kind 15 ≡ c → holdsDeeper kind ≡ d → Way kind (pick a 0xf000 (pick b 0xa000 (pick c 0x9000 (pick d 0x8000 0))))
+    at : (a b c d : Bool) → isEnvelope kind ≡ a → isFollower kind ≡ b → eqb kind 15 ≡ c → holdsDeeper kind ≡ d → Way kind (pick a 0x4000 (pick b 0x3000 (pick c 0x2000 (pick d 0x1000 0))))
     at true b c d p q r s = envelope p
     at false true c d p q r s = follower q
     at false false true d p q r s = agent (eqb-true kind 15 r)
@@ -45,50 +45,50 @@ bit-small : (kind : ℕ) → bitOf kind < 4096
 bit-small kind = no-other-bit (rank kind 0 ∷ []) .0
 
 module _ (kind class : ℕ) (is : class ≡ classOf kind) where
-  pub is-plain : class < 0x8000 → Light kind × (isFollower kind ≡ false)
+  pub is-plain : class < 0x1000 → Light kind × (isFollower kind ≡ false)
   is-plain h = at (wayOf kind) (way-is kind) (omega arith)
     where
-      at : (w : ℕ) → Way kind w → w < 0x8000 → Light kind × (isFollower kind ≡ false)
+      at : (w : ℕ) → Way kind w → w < 0x1000 → Light kind × (isFollower kind ≡ false)
       at w (envelope p) u = absurd (omega arith)
       at w (follower p) u = absurd (omega arith)
       at w (agent p) u = absurd (omega arith)
       at w (deeper p q r s) u = absurd (omega arith)
       at w (plain l f) u = (l, f)
 
-  pub is-deeper : 0x8000 ≤ class → class < 0x9000 → Deeper kind
+  pub is-deeper : 0x1000 ≤ class → class < 0x2000 → Deeper kind
   is-deeper g h = at (wayOf kind) (way-is kind) (omega arith) (omega (arith, bit-small kind))
     where
-      at : (w : ℕ) → Way kind w → w < 0x9000 → 0x8000 < w + 4096 → Deeper kind
+      at : (w : ℕ) → Way kind w → w < 0x2000 → 0x1000 < w + 4096 → Deeper kind
       at w (envelope p) u v = absurd (omega arith)
       at w (follower p) u v = absurd (omega arith)
       at w (agent p) u v = absurd (omega arith)
       at w (deeper p q r s) u v = (p, q, r, s)
       at w (plain l f) u v = absurd (omega arith)
 
-  pub is-agent : 0x9000 ≤ class → class < 0xa000 → kind ≡ 15
+  pub is-agent : 0x2000 ≤ class → class < 0x3000 → kind ≡ 15
   is-agent g h = at (wayOf kind) (way-is kind) (omega arith) (omega (arith, bit-small kind))
     where
-      at : (w : ℕ) → Way kind w → w < 0xa000 → 0x9000 < w + 4096 → kind ≡ 15
+      at : (w : ℕ) → Way kind w → w < 0x3000 → 0x2000 < w + 4096 → kind ≡ 15
       at w (envelope p) u v = absurd (omega arith)
       at w (follower p) u v = absurd (omega arith)
       at w (agent p) u v = p
       at w (deeper p q r s) u v = absurd (omega arith)
       at w (plain l f) u v = absurd (omega arith)
 
-  pub is-follower : 0xa000 ≤ class → class < 0xf000 → isFollower kind ≡ true
+  pub is-follower : 0x3000 ≤ class → class < 0x4000 → isFollower kind ≡ true
   is-follower g h = at (wayOf kind) (way-is kind) (omega arith) (omega (arith, bit-small kind))
     where
-      at : (w : ℕ) → Way kind w → w < 0xf000 → 0xa000 < w + 4096 → isFollower kind ≡ true
+      at : (w : ℕ) → Way kind w → w < 0x4000 → 0x3000 < w + 4096 → isFollower kind ≡ true
       at w (envelope p) u v = absurd (omega arith)
       at w (follower p) u v = p
       at w (agent p) u v = absurd (omega arith)
       at w (deeper p q r s) u v = absurd (omega arith)
       at w (plain l f) u v = absurd (omega arith)
 
-  pub is-envelope : 0xf000 ≤ class → isEnvelope kind ≡ true
+  pub is-envelope : 0x4000 ≤ class → isEnvelope kind ≡ true
   is-envelope g = at (wayOf kind) (way-is kind) (omega (arith, bit-small kind))
     where
-      at : (w : ℕ) → Way kind w → 0xf000 < w + 4096 → isEnvelope kind ≡ true
+      at : (w : ℕ) → Way kind w → 0x4000 < w + 4096 → isEnvelope kind ≡ true
       at w (envelope p) v = p
       at w (follower p) v = absurd (omega arith)
       at w (agent p) v = absurd (omega arith)

@@ -184,7 +184,7 @@ module _ {m : List ℕ} {n next end : ℕ} (f : HeldFrom m n next end) (some : 0
             at j x y true z = subst (λ (u : ℕ). 3 ≤ rankAt m u .kind) (sym (eqb-true j (next - 1) z)) (omega (arith, k, not-envelope kind known e))
             at j x y false z = let d = eqb-false j (next - 1) z in f .inner j (omega (arith, some)) y
 
-    pub plain-held : {h : Held} → class < 0x8000 → h ≡ heldIf (givenAt m (next - 1)) next (next - 1) → HeldTurn m n next end h
+    pub plain-held : {h : Held} → class < 0x1000 → h ≡ heldIf (givenAt m (next - 1)) next (next - 1) → HeldTurn m n next end h
     plain-held u q = let (l, o) = is-plain kind class c u in one-turn (l .no-envelope) o (sym (skip l ∙ next-is)) q
       where
         ends : Light (rankAt m (next - 1) .kind) → (z : Bool) → belongs (rankAt m (next - 1)) (rankAt m (suc (next - 1))) ≡ z → suc (next - 1) < n → belongs (rankAt m (next - 1)) (rankAt m (suc (next - 1))) ≡ false
@@ -195,7 +195,7 @@ module _ {m : List ℕ} {n next end : ℕ} (f : HeldFrom m n next end) (some : 0
         skip : Light kind → skipAt m n (next - 1) ≡ suc (next - 1)
         skip l = alone m n (next - 1) at-hand (ends (subst Light k l) (belongs (rankAt m (next - 1)) (rankAt m (suc (next - 1)))) refl)
 
-    module _ (g : 0x8000 ≤ class) (u : class < 0x9000) where
+    module _ (g : 0x1000 ≤ class) (u : class < 0x2000) where
       pub deeper-owned : Owned m (next - 1) deeperTest
       deeper-owned s =
           let (p, q, r, d) = is-deeper kind class c g u in
@@ -205,21 +205,21 @@ module _ {m : List ℕ} {n next end : ℕ} (f : HeldFrom m n next end) (some : 0
       pub deeper-held : {right : ℕ} {h : Held} → right ≡ skipAt m n (next - 1) → h ≡ heldIf (givenAt m (next - 1)) right (next - 1) → HeldTurn m n next end h
       deeper-held v q = let (p, o, r, d) = is-deeper kind class c g u in one-turn p o v q
 
-    module _ (g : 0x9000 ≤ class) (u : class < 0xa000) where
+    module _ (g : 0x2000 ≤ class) (u : class < 0x3000) where
       pub agent-owned : Owned m (next - 1) (aboveTest 15)
       agent-owned s = of-agent (rankAt m (next - 1) .level) s (sym k ∙ is-agent kind class c g u)
 
       pub agent-held : {right : ℕ} {h : Held} → right ≡ skipAt m n (next - 1) → h ≡ heldIf (givenAt m (next - 1)) right (next - 1) → HeldTurn m n next end h
       agent-held v q = let e = is-agent kind class c g u in one-turn (ap isEnvelope e) (ap isFollower e) v q
 
-    module _ (g : 0xa000 ≤ class) (u : class < 0xf000) where
+    module _ (g : 0x3000 ≤ class) (u : class < 0x4000) where
       pub run-to-hold : RunToHold m n (next - 1) kind end
       run-to-hold = record { from = subst (λ (x : ℕ). HeldFrom m n x end) (sym next-is) f; kind-is = k; follower = is-follower kind class c g u }
 
       pub run-turned : (h : Held) → HeldTurn m n (suc (next - 1)) end h → HeldTurn m n next end h
       run-turned h t = subst (λ (x : ℕ). HeldTurn m n x end h) next-is t
 
-    pub envelope-held : (h : Held) → 0xf000 ≤ class → EnvelopeHeld m (next - 1) end h → HeldTurn m n next end h
+    pub envelope-held : (h : Held) → 0x4000 ≤ class → EnvelopeHeld m (next - 1) end h → HeldTurn m n next end h
     unfolding HeldTurn EnvelopeHeld
     envelope-held (Row j) g t = absurd t
     envelope-held Wrong g t = tt

@@ -119,7 +119,7 @@ module _ {m : List ℕ} {n end : ℕ} {rows : List ℕ} {next word : ℕ} (b : L
           at j x y true z = subst (λ (i : ℕ). 3 ≤ rankAt m i .kind) (sym (eqb-true j (next - 1) z)) (inner-at (next - 1) here (ap isEnvelope kind-here ∙ e))
           at j x y false z = let d = eqb-false j (next - 1) z in b .inner j (omega (arith, b .some)) y
 
-      pub plain-turn : {after : List ℕ} → class < 0x8000 → after ≡ set rows ((next - 1) * rowWidth + 4) next → Turned m n end next after (Row (next - 1) (bitOr word class))
+      pub plain-turn : {after : List ℕ} → class < 0x1000 → after ≡ set rows ((next - 1) * rowWidth + 4) next → Turned m n end next after (Row (next - 1) (bitOr word class))
       plain-turn h s = let (l, f) = is-plain kind class c h in turned (l .no-envelope) f (sym (skip l ∙ next-is)) s
         where
           ends : Light (rankAt m (next - 1) .kind) → (z : Bool) → belongs (rankAt m (next - 1)) (rankAt m (suc (next - 1))) ≡ z → suc (next - 1) < n → belongs (rankAt m (next - 1)) (rankAt m (suc (next - 1))) ≡ false
@@ -130,7 +130,7 @@ module _ {m : List ℕ} {n end : ℕ} {rows : List ℕ} {next word : ℕ} (b : L
           skip : Light kind → skipAt m n (next - 1) ≡ suc (next - 1)
           skip l = alone m n (next - 1) here (ends (subst Light (sym kind-here) l) (belongs (rankAt m (next - 1)) (rankAt m (suc (next - 1)))) refl)
 
-      module _ (g : 0x8000 ≤ class) (h : class < 0x9000) where
+      module _ (g : 0x1000 ≤ class) (h : class < 0x2000) where
         pub deeper-owned : Owned rows (next - 1) deeperTest
         deeper-owned s =
             let (p, q, r, d) = is-deeper kind class c g h in
@@ -140,14 +140,14 @@ module _ {m : List ℕ} {n end : ℕ} {rows : List ℕ} {next word : ℕ} (b : L
         pub deeper-turn : {skip : ℕ} {after : List ℕ} → skip ≡ skipAt rows n (next - 1) → after ≡ set rows ((next - 1) * rowWidth + 4) skip → Turned m n end next after (Row (next - 1) (bitOr word class))
         deeper-turn e s = let (p, q, r, d) = is-deeper kind class c g h in turned p q (right-here e) s
 
-      module _ (g : 0x9000 ≤ class) (h : class < 0xa000) where
+      module _ (g : 0x2000 ≤ class) (h : class < 0x3000) where
         pub agent-owned : Owned rows (next - 1) (aboveTest 15)
         agent-owned s = of-agent (rankAt rows (next - 1) .level) s (sym k ∙ is-agent kind class c g h)
 
         pub agent-turn : {skip : ℕ} {after : List ℕ} → skip ≡ skipAt rows n (next - 1) → after ≡ set rows ((next - 1) * rowWidth + 4) skip → Turned m n end next after (Row (next - 1) (bitOr word class))
         agent-turn e s = let q = is-agent kind class c g h in turned (ap isEnvelope q) (ap isFollower q) (right-here e) s
 
-      module _ (g : 0xa000 ≤ class) (h : class < 0xf000) where
+      module _ (g : 0x3000 ≤ class) (h : class < 0x4000) where
         pub run-before : RunBefore m n rows (next - 1) kind
         run-before = record {
           stands = b .stands;
@@ -217,7 +217,7 @@ module _ {m : List ℕ} {n end : ℕ} {rows : List ℕ} {next word : ℕ} (b : L
                 at j x y true z = subst (λ (i : ℕ). 3 ≤ rankAt m i .kind) (sym (eqb-true j first z)) (inner-at first first-here (r .inside))
                 at j x y false z = let d = eqb-false j first z in later j (omega arith) y (eqb (next - j) 0) refl
 
-      pub envelope-turn : 0xf000 ≤ class → Turned m n end next rows (Envelope (next - 1) (bitOr word class % 4096))
+      pub envelope-turn : 0x4000 ≤ class → Turned m n end next rows (Envelope (next - 1) (bitOr word class % 4096))
       unfolding Turned
       envelope-turn g =
           let e = is-envelope kind class c g in

@@ -1,4 +1,4 @@
--- What a row's kind is to the pass over rows that were read: the bit of its parameter, and above the bits how its own rows are found.
+-- What a row's kind is to a pass over a whole table: the bit of its parameter, and above the bits how its own rows are found.
 use Prim.Native.Nat.{ℕ, _+_, _≤_}
 use mathlib.Core.List.{List, [], _∷_}
 use mathlib.Core.Path.{_≡_}
@@ -16,7 +16,7 @@ bitOf kind = wordOf (rank kind 0 ∷ [])
 
 -- an envelope's own row, one that follows another, an agent's, one to which deeper rows belong; or one that has no rows when the pass comes to it
 abbrev pub wayOf : ℕ → ℕ
-wayOf kind = pick (isEnvelope kind) 0xf000 (pick (isFollower kind) 0xa000 (pick (eqb kind agentName) 0x9000 (pick (holdsDeeper kind) 0x8000 0)))
+wayOf kind = pick (isEnvelope kind) 0x4000 (pick (isFollower kind) 0x3000 (pick (eqb kind agentName) 0x2000 (pick (holdsDeeper kind) 0x1000 0)))
 
 abbrev pub classOf : ℕ → ℕ
 classOf kind = wayOf kind + bitOf kind

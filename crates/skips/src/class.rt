@@ -1,19 +1,19 @@
-// What a row's kind is to the pass over rows that were read: the bit of the parameter that such a row opens or holds, and above the bits how its
-// own rows are found.
+// What a row's kind is to a pass over a whole table, from the last row to the first: the bit of the parameter that such a row opens or holds, and above
+// the bits how its own rows are found.
 ghost use mathlib.Core.Path.{_≡_};
 ghost use Prim.Native.Nat.{_≤_};
 ghost use Rattle.laws.specs.Neighbours.{kindMost};
 ghost use Rattle.skips.specs.Classes.{classOf, ClassesAre};
 
 // All classes below this one have no rows when the pass comes to them.
-pub const HOLDS_DEEPER: u32 = 0x8000;
+pub const HOLDS_DEEPER: u32 = 0x1000;
 
-pub const IS_AGENT: u32 = 0x9000;
+pub const IS_AGENT: u32 = 0x2000;
 
 // An address, an item of an encrypted list, a value behind its key.
-pub const FOLLOWS: u32 = 0xa000;
+pub const FOLLOWS: u32 = 0x3000;
 
-pub const IS_ENVELOPE: u32 = 0xf000;
+pub const IS_ENVELOPE: u32 = 0x4000;
 
 // The bits of a word are below this one.
 pub const BITS: u32 = 0x1000;
@@ -21,34 +21,34 @@ pub const BITS: u32 = 0x1000;
 // The class of each kind, from 0 on: how its rows are found, and bit n of the parameter with code n.
 pub const CLASSES: [u16; 30] = [
     0x0000, // no kind
-    0xf000, // extension
-    0xf000, // base
+    0x4000, // extension
+    0x4000, // base
     0x0010, // standard representation
     0x0010, // own representation
     0x0000, // date
     0x0000, // date forward
     0x0000, // date backward
-    0x8400, // received by
+    0x1400, // received by
     0x0000, // received from
     0x0000, // received id
     0x0000, // received via
-    0x8004, // to
-    0x8008, // from
-    0x8200, // intended receiver
-    0x9000, // agent name
+    0x1004, // to
+    0x1008, // from
+    0x1200, // intended receiver
+    0x2000, // agent name
     0x0000, // addresses
-    0xa000, // address
-    0x8000, // resolvers
+    0x3000, // address
+    0x1000, // resolvers
     0x0000, // extra key
-    0xa000, // any text
-    0xa000, // any bytes
+    0x3000, // any text
+    0x3000, // any bytes
     0x0020, // comments
     0x0040, // payload length
     0x0080, // payload encoding
     0x0100, // encrypted
-    0xa000, // encrypted item
+    0x3000, // encrypted item
     0x0001, // own key
-    0xa000, // own value
+    0x3000, // own value
     0x0800, // transport behaviour
 ];
 

@@ -57,12 +57,13 @@ fn put_first(words: &mut [u32], k: usize, word: u32)
 {
     let mut held = word;
     let mut i: usize = 0;
-    while i <= k {
+    while i < k {
         let next = words[i];
         words[i] = held;
         held = next;
         i += 1;
     }
+    words[k] = held;
 }
 
 // Takes n rows that have their skip numbers from row `end` on, which is an envelope's or n. Lays those of the rows before it that are inside an

@@ -1,4 +1,5 @@
-// Which rows belong to a row, by kinds and levels alone. What each kind has is said here and nowhere else in the code.
+// Which rows belong to a row, by kinds and levels alone, as `belongs` says it: for any rows, one by one. The passes over a whole table go by classes
+// of kinds instead.
 use table::kinds::ADDRESS;
 use table::kinds::ADDRESSES_OPEN;
 use table::kinds::AGENT_NAME;

@@ -72,22 +72,29 @@ fn stop(s: &[u8], end: usize, at: usize, rule: Rule) -> usize
     requires { ⌜ Inside (now s) end at ⌝ }
     ensures { λ r. ⌜ Run (ruleOf rule) (now (s .entry)) end at r ⌝ }
 {
-    if empty(s, end, at) {
-        return at;
-    }
     match rule {
-        Rule::Line => line_stop(s, end, at),
-        Rule::Note => run(s, end, at, rule),
+        Rule::Line => {
+            if stands_below(s, end, at, FIRST_TEXT) {
+                return at;
+            }
+            line_stop(s, end, at)
+        }
+        Rule::Note => {
+            if stands_below(s, end, at, 1) {
+                return at;
+            }
+            run(s, end, at, rule)
+        }
     }
 }
 
-// Whether the text has no byte.
-fn empty(s: &[u8], end: usize, at: usize) -> bool
+// Whether a byte below this one stands there, before the end.
+fn stands_below(s: &[u8], end: usize, at: usize, bound: u8) -> bool
     requires { ⌜ Inside (now s) end at ⌝ }
-    ensures { λ r. ⌜ (r ≡ true → getD (now (s .entry)) at 0 ≡ 0) ⌝ }
+    ensures { λ r. ⌜ (r ≡ true → getD (now (s .entry)) at 0 < bound) ⌝ }
 {
     if at < end {
-        return s[at] == 0;
+        return s[at] < bound;
     }
     false
 }

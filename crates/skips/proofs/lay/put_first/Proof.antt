@@ -4,16 +4,16 @@ use mathlib.Core.List.{List}
 use mathlib.Core.Path.{_≡_, refl, ap, _∙_}
 use native.Mathlib.Omega.{arith}
 use borrow.Author.Needs.{needs}
-use lib.ListN.{length, getD, set}
+use lib.ListN.{length, getD, set, length-set}
 use Rattle.skips.proofs.Pushing.{pushed, inHand, begins-pushed, pushed-length, pushes, takes-up, first-laid}
 use Rattle.skips.proofs.lay.put_first.Statement.{statement}
 use Rattle.skips.proofs.lay.put_first.Tie as tie
 
 abbrev Inv-loop : tie.InvT-loop
-Inv-loop words₀ k word held₀ i₀ words held i = (words ≡ pushed word words₀ i) × (held ≡ inHand word words₀ i) × (i ≤ suc k)
+Inv-loop words₀ k word held₀ i₀ words held i = (words ≡ pushed word words₀ i) × (held ≡ inHand word words₀ i) × (i ≤ k)
 
 abbrev μ-loop : tie.MeasureT-loop
-μ-loop words₀ k word held₀ i₀ words held i = suc k - i
+μ-loop words₀ k word held₀ i₀ words held i = k - i
 
 loop-holds : tie.Need-loop-holds Inv-loop μ-loop
 loop-holds c = (begins-pushed (c .args .word) (c .args .words .now), refl, omega arith)
@@ -53,14 +53,30 @@ loop-again c =
       omega (arith, c .before .loop-test .taken),
     )
 
+mul-words-2 : tie.Need-mul-words-2 Inv-loop μ-loop
+mul-words-2 c = search needs
+
+slice-write-words-2 : tie.Need-slice-write-words-2 Inv-loop μ-loop
+slice-write-words-2 c =
+    let a = c .before .before .args in
+    let l = c .before .loop in
+    omega (arith, ap length (l .inv .0), pushed-length (a .word) (a .words .now) (l .i), c .before .before .pre)
+
 same-length : tie.Need-same-length Inv-loop μ-loop
-same-length c = ap length (c .before .loop .inv .0) ∙ pushed-length (c .before .before .args .word) (c .before .before .args .words .now) (c .before .loop .i)
+same-length c =
+    let a = c .before .before .args in
+    let l = c .before .loop in
+    length-set (l .words) (a .k) (l .held) ∙ ap length (l .inv .0) ∙ pushed-length (a .word) (a .words .now) (l .i)
 
 returns : tie.Need-returns Inv-loop μ-loop
 returns c lent own q h =
     let a = c .before .before .args in
     let l = c .before .loop in
-    l .inv .0 ∙ first-laid lent own (a .words .now) (a .k) (a .word) (l .i) q h (c .before .before .pre) (omega (arith, c .loop-test .left, l .inv .2))
+    let last : l .i ≡ a .k = omega (arith, c .loop-test .left, l .inv .2) in
+    ap (λ (x : List ℕ). set x (a .k) (l .held)) (l .inv .0) ∙ ap (set (pushed (a .word) (a .words .now) (l .i)) (a .k)) (l .inv .1)
+    ∙ ap (λ (x : ℕ). set (pushed (a .word) (a .words .now) x) (a .k) (inHand (a .word) (a .words .now) x)) last
+    ∙ pushes (a .word) (a .words .now) (a .k) (c .before .before .pre)
+    ∙ first-laid lent own (a .words .now) (a .k) (a .word) (suc (a .k)) q h (c .before .before .pre) refl
 
 pub put-first-spec : {M : Type 1} → statement M
 put-first-spec =
@@ -76,5 +92,7 @@ put-first-spec =
     add-i
     loop-less
     loop-again
+    mul-words-2
+    slice-write-words-2
     same-length
     returns)
