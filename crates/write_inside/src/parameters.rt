@@ -28,21 +28,21 @@ use write_rows::ahead::opened;
 use write_rows::ahead::text;
 use write_rows::any::any_on_top;
 use write_rows::lay::put;
-use write_rows::representation::representation;
+use write_rows::representation::standard;
 use write_rows::texts::texts;
 ghost use mathlib.Core.Path.{_≡_};
 ghost use mathlib.Core.List.{[], _∷_};
 ghost use mathlib.Core.Bool.{false};
 ghost use Prim.Native.Nat.{_≤_};
 ghost use Rattle.meaning.specs.Bytes.{line};
-ghost use Rattle.meaning.specs.Kinds.{ownKey, behaviourOpens};
+ghost use Rattle.meaning.specs.Kinds.{receivedBy, ownKey, behaviourOpens};
 ghost use Rattle.meaning.specs.Editions.{state, ownText, behaviourValue, closed, outer, opens, on_▸_▸_▸_};
 ghost use Rattle.meaning.specs.Told;
 ghost use Rattle.meaning.specs.Told.{B};
 ghost use Rattle.laws.specs.Rows.{cellsAt};
 ghost use Rattle.table.specs.Told.{editionOf};
-ghost use Rattle.write_rows.specs.Stages.{StageRequires, TakeRequires, AdvanceIs, atParameters};
-ghost use Rattle.write_inside.specs.Parameters.{agentsNext, AgentsIn, afterOne, afterAdvance, encryptedIn, ParameterIs, WayAhead, FoundIs};
+ghost use Rattle.write_rows.specs.Stages.{StageRequires, AdvanceIs, atParameters};
+ghost use Rattle.write_inside.specs.Parameters.{Names, namingCode, namingMove, Represents, KindAhead, afterOne, afterAdvance, encryptedIn, ParameterIs, FoundIs};
 
 // The row ahead and the place behind a parameter; none begins here; or the row that fits nowhere.
 pub enum Parameter {
@@ -90,28 +90,38 @@ fn own_parameter(rows: &[u32], pool: &[u8], i: usize, output: &mut [u8], at: usi
     ))
 }
 
-// "02 `to`, agent list; 03 `from`, one agent; 09 intended receiver, agent list": lays the parameter of this kind and code, naming agents, that row i opens.
+// "02 `to`; 03 `from`; 09 intended receiver". Takes the kind that opens such a parameter. Answers its code.
+fn naming_code(kind: u32) -> u32
+    ensures { λ r. ⌜ r ≡ namingCode kind ⌝ }
+{
+    match kind {
+        TO_OPENS => 0x02,
+        FROM_OPENS => 0x03,
+        _ => 0x09,
+    }
+}
+
+// "02 `to`, agent list; 03 `from`, one agent; 09 intended receiver, agent list": lays the parameter of this kind, naming agents, that row i opens.
 // None begins there if row i does not open it. Stuck where its agents are.
 fn naming(
     rows: &[u32],
     pool: &[u8],
     i: usize,
     kind: u32,
-    code: u32,
-    one: bool,
     edition: Edition,
     output: &mut [u8],
     at: usize,
 ) -> Parameter
-    requires { ⌜ TakeRequires (now rows) i kind code (now output) at ⌝ }
-    ensures { λ r. ⌜ (AgentsIn (editionOf edition) kind code one → ParameterIs (editionOf edition) (on code ▸ kind ▸ opens ▸ agentsNext one ∷ []) (now (pool .entry)) (now (rows .entry)) i (now (output .entry)) at r (now (output .exit))) ⌝ }
+    requires { ⌜ StageRequires (now rows) i (now output) at × Names kind ⌝ }
+    ensures { λ r. ⌜ ParameterIs (editionOf edition) (namingMove kind ∷ []) (now (pool .entry)) (now (rows .entry)) i (now (output .entry)) at r (now (output .exit)) ⌝ }
 {
+    let code = naming_code(kind);
     let t = opened(rows, pool, i, kind, 0, code, output, at);
     let Tried::To(p) = t else {
         return Parameter::Last;
     };
     let k = i + 1;
-    begun(agents(rows, pool, k, one, edition, output, p))
+    begun(agents(rows, pool, k, kind == FROM_OPENS, edition, output, p))
 }
 
 // "0B transport behaviour, an any-value": lays the parameter that row i opens. None begins there if row i does not open it.
@@ -163,14 +173,36 @@ fn encrypted(
     }
 }
 
-// "04 representation": lays the code and row i, whose kind is a representation's. Stuck at row i if it is none.
-fn represented(rows: &[u32], pool: &[u8], i: usize, output: &mut [u8], at: usize) -> Parameter
-    requires { ⌜ StageRequires (now rows) i (now output) at ⌝ }
-    ensures { λ r. ⌜ ((edition : Told.Edition) → WayAhead edition 0x04 (cellsAt (now (pool .entry)) (now (rows .entry)) i) →
-        FoundIs edition (now (pool .entry)) (now (rows .entry)) i (now (output .entry)) at r (now (output .exit))) ⌝ }
+// "04 representation": lays the code and row i, which is of this kind, a representation's. Stuck at row i if it is none.
+fn represented(
+    rows: &[u32],
+    pool: &[u8],
+    i: usize,
+    kind: u32,
+    output: &mut [u8],
+    at: usize,
+) -> Parameter
+    requires { ⌜ StageRequires (now rows) i (now output) at × Represents kind × KindAhead kind (cellsAt (now pool) (now rows) i) ⌝ }
+    ensures { λ r. ⌜ ((edition : Told.Edition) → FoundIs edition (now (pool .entry)) (now (rows .entry)) i (now (output .entry)) at r (now (output .exit))) ⌝ }
 {
     let p = put(output, at, 0x04);
-    begun(needed(representation(rows, pool, i, output, p), i))
+    if kind == STANDARD_REPRESENTATION {
+        return begun(needed(standard(rows, pool, i, output, p), i));
+    }
+    begun(needed(
+        text(
+            rows,
+            pool,
+            i,
+            OWN_REPRESENTATION,
+            Rule::Line,
+            0,
+            0x00,
+            output,
+            p,
+        ),
+        i,
+    ))
 }
 
 // "0A received object": lays the code and the object from row i on, whose kind is a `by`'s. Stuck where the object is.
@@ -182,9 +214,8 @@ fn received_in(
     output: &mut [u8],
     at: usize,
 ) -> Parameter
-    requires { ⌜ StageRequires (now rows) i (now output) at ⌝ }
-    ensures { λ r. ⌜ (WayAhead (editionOf edition) 0x0a (cellsAt (now (pool .entry)) (now (rows .entry)) i) →
-        FoundIs (editionOf edition) (now (pool .entry)) (now (rows .entry)) i (now (output .entry)) at r (now (output .exit))) ⌝ }
+    requires { ⌜ StageRequires (now rows) i (now output) at × KindAhead receivedBy (cellsAt (now pool) (now rows) i) ⌝ }
+    ensures { λ r. ⌜ FoundIs (editionOf edition) (now (pool .entry)) (now (rows .entry)) i (now (output .entry)) at r (now (output .exit)) ⌝ }
 {
     let p = put(output, at, 0x0a);
     begun(received(rows, pool, i, edition, output, p))
@@ -205,22 +236,16 @@ fn by_kind(
     let r = look_ahead(rows, pool, i);
     let kind = r.kind;
     match kind {
-        STANDARD_REPRESENTATION => represented(rows, pool, i, output, at),
-        OWN_REPRESENTATION => represented(rows, pool, i, output, at),
-        RECEIVED_BY => received_in(rows, pool, i, edition, output, at),
-        TO_OPENS => naming(rows, pool, i, TO_OPENS, 0x02, false, edition, output, at),
-        FROM_OPENS => naming(rows, pool, i, FROM_OPENS, 0x03, true, edition, output, at),
-        RECEIVER_OPENS => naming(
+        STANDARD_REPRESENTATION | OWN_REPRESENTATION => represented(
             rows,
             pool,
             i,
-            RECEIVER_OPENS,
-            0x09,
-            false,
-            edition,
+            kind,
             output,
             at,
         ),
+        RECEIVED_BY => received_in(rows, pool, i, edition, output, at),
+        TO_OPENS | FROM_OPENS | RECEIVER_OPENS => naming(rows, pool, i, kind, edition, output, at),
         COMMENTS => single(
             text(rows, pool, i, COMMENTS, Rule::Note, 0, 0x05, output, at),
             i,
