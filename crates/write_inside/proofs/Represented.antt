@@ -18,7 +18,7 @@ use Rattle.write_rows.specs.Stages.{TriedIs, afterNeeded, atParameters}
 use Rattle.write_rows.specs.declared.advance.Tried.{Tried}
 use Rattle.write_rows.specs.declared.advance.Advance.{Advance}
 use Rattle.write_inside.specs.Parameters.{afterAdvance, KindAhead, FoundIs}
-use Rattle.write_inside.specs.declared.parameters.Parameter.{Parameter}
+use Rattle.write_inside.specs.declared.parameter.Parameter.{Parameter}
 use Rattle.write_inside.proofs.Choosing.{WayAhead, beyond-one, found-advance, pass-on, way-ahead}
 use Rattle.write_inside.proofs.Rooms.{pass-represents, parameter-representation}
 

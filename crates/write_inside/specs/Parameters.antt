@@ -17,8 +17,8 @@ use Rattle.write_rows.specs.declared.advance.Tried.{Tried}
 use Rattle.write_rows.specs.declared.advance.Tried.the-variants.{To, Other}
 use Rattle.write_rows.specs.declared.advance.Advance.{Advance}
 use Rattle.write_rows.specs.declared.advance.Advance.the-variants as advance
-use Rattle.write_inside.specs.declared.parameters.Parameter.{Parameter}
-use Rattle.write_inside.specs.declared.parameters.Parameter.the-variants.{Go, Last, Stuck}
+use Rattle.write_inside.specs.declared.parameter.Parameter.{Parameter}
+use Rattle.write_inside.specs.declared.parameter.Parameter.the-variants.{Go, Last, Stuck}
 
 abbrev pub afterOne : ℕ → Tried → Parameter
 afterOne i (To p) = Go (i + 1) p

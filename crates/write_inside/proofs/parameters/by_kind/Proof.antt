@@ -5,7 +5,7 @@ use Rattle.meaning.specs.Kinds.{behaviourOpens, comments, encryptedOpens, ownKe
 use Rattle.table.specs.Told.{editionOf}
 use Rattle.write_inside.proofs.Others.{closes-other, none-other, other-kind}
 use Rattle.write_inside.proofs.Rooms.{behaviour-first, comments-first, encoding-first, length-first, encrypted-is, names-first, own-first}
-use Rattle.write_inside.proofs.Choosing.{after-single, found-kind, found-none, kind-ahead}
+use Rattle.write_inside.proofs.Choosing.{found-kind, found-none, kind-ahead}
 use Rattle.write_inside.specs.Parameters.{encryptedIn, namingMove}
 use mathlib.Core.List.{[], _∷_}
 use mathlib.Core.Path.{_∙_, refl, sym}
@@ -20,23 +20,14 @@ look-ahead-requires c κs = search needs
 received-in-requires : tie.Need-received-in-requires
 received-in-requires c κs = (c .before .before .before .before .before .before .pre, kind-ahead (c .before .before .look-ahead .ensures) (c .before .match .keys1) (omega arith))
 
-text-requires : tie.Need-text-requires
-text-requires c κs = search needs
+comments-requires : tie.Need-comments-requires
+comments-requires c κs = search needs
 
-single-requires : tie.Need-single-requires
-single-requires c κs = search needs
+payload-length-requires : tie.Need-payload-length-requires
+payload-length-requires c κs = search needs
 
-number-requires : tie.Need-number-requires
-number-requires c κs = search needs
-
-single-requires-2 : tie.Need-single-requires-2
-single-requires-2 c κs = search needs
-
-text-requires-2 : tie.Need-text-requires-2
-text-requires-2 c κs = search needs
-
-single-requires-3 : tie.Need-single-requires-3
-single-requires-3 c κs = search needs
+payload-encoding-requires : tie.Need-payload-encoding-requires
+payload-encoding-requires c κs = search needs
 
 encrypted-requires : tie.Need-encrypted-requires
 encrypted-requires c κs = search needs
@@ -67,48 +58,48 @@ same-length-2 c = search needs
 
 returns-2 : tie.Need-returns-2
 returns-2 c =
-    let a = c .before .before .before .before .before .before .before .before .before .before .args in
-    found-kind (editionOf (a .edition)) _ _ _ comments (c .before .before .before .before .before .before .look-ahead .ensures) (c .before .before .before .before .before .match .keys2) refl _ _ ((on 0x05 ▸ comments ▸ text note ▸ outer parameters) ∷ []) (comments-first (editionOf (a .edition))) (c .single .result) _ (after-single (editionOf (a .edition)) _ _ _ (on 0x05 ▸ comments ▸ text note ▸ outer parameters) _ _ (c .before .before .before .text .result) _ (comments-first (editionOf (a .edition))) refl refl (c .before .before .before .text .ensures (outer parameters)) (c .single .ensures))
+    let d = editionOf (c .before .before .before .before .before .before .before .before .before .args .edition) in
+    found-kind d _ _ _ comments (c .before .before .before .before .before .look-ahead .ensures) (c .before .before .before .before .match .keys2) refl _ _ (on 0x05 ▸ comments ▸ text note ▸ outer parameters ∷ []) (comments-first d) (c .before .before .comments .result) _ (c .before .before .comments .ensures d)
 
 same-length-3 : tie.Need-same-length-3
 same-length-3 c = search needs
 
 returns-3 : tie.Need-returns-3
 returns-3 c =
-    let a = c .before .before .before .before .before .before .before .before .before .before .args in
-    found-kind (editionOf (a .edition)) _ _ _ payloadLength (c .before .before .before .before .before .before .look-ahead .ensures) (c .before .before .before .before .before .match .keys3) refl _ _ ((on 0x06 ▸ payloadLength ▸ number ▸ outer parameters) ∷ []) (length-first (editionOf (a .edition))) (c .single2 .result) _ (after-single (editionOf (a .edition)) _ _ _ (on 0x06 ▸ payloadLength ▸ number ▸ outer parameters) _ _ (c .before .before .before .number .result) _ (length-first (editionOf (a .edition))) refl refl (c .before .before .before .number .ensures (outer parameters)) (c .single2 .ensures))
+    let d = editionOf (c .before .before .before .before .before .before .before .before .before .args .edition) in
+    found-kind d _ _ _ payloadLength (c .before .before .before .before .before .look-ahead .ensures) (c .before .before .before .before .match .keys3) refl _ _ (on 0x06 ▸ payloadLength ▸ number ▸ outer parameters ∷ []) (length-first d) (c .before .before .payload-length .result) _ (c .before .before .payload-length .ensures d)
 
 same-length-4 : tie.Need-same-length-4
 same-length-4 c = search needs
 
 returns-4 : tie.Need-returns-4
 returns-4 c =
-    let a = c .before .before .before .before .before .before .before .before .before .before .args in
-    found-kind (editionOf (a .edition)) _ _ _ payloadEncoding (c .before .before .before .before .before .before .look-ahead .ensures) (c .before .before .before .before .before .match .keys4) refl _ _ ((on 0x07 ▸ payloadEncoding ▸ text line ▸ outer parameters) ∷ []) (encoding-first (editionOf (a .edition))) (c .single3 .result) _ (after-single (editionOf (a .edition)) _ _ _ (on 0x07 ▸ payloadEncoding ▸ text line ▸ outer parameters) _ _ (c .before .before .before .text2 .result) _ (encoding-first (editionOf (a .edition))) refl refl (c .before .before .before .text2 .ensures (outer parameters)) (c .single3 .ensures))
+    let d = editionOf (c .before .before .before .before .before .before .before .before .before .args .edition) in
+    found-kind d _ _ _ payloadEncoding (c .before .before .before .before .before .look-ahead .ensures) (c .before .before .before .before .match .keys4) refl _ _ (on 0x07 ▸ payloadEncoding ▸ text line ▸ outer parameters ∷ []) (encoding-first d) (c .before .before .payload-encoding .result) _ (c .before .before .payload-encoding .ensures d)
 
 same-length-5 : tie.Need-same-length-5
 same-length-5 c = search needs
 
 returns-5 : tie.Need-returns-5
 returns-5 c =
-    let a = c .before .before .before .before .before .before .before .before .before .args in
-    found-kind (editionOf (a .edition)) _ _ _ encryptedOpens (c .before .before .before .before .before .look-ahead .ensures) (c .before .before .before .before .match .keys5) refl _ _ (encryptedIn (editionOf (a .edition))) (encrypted-is (editionOf (a .edition))) (c .before .before .encrypted .result) _ (c .before .before .encrypted .ensures)
+    let d = editionOf (c .before .before .before .before .before .before .before .before .before .args .edition) in
+    found-kind d _ _ _ encryptedOpens (c .before .before .before .before .before .look-ahead .ensures) (c .before .before .before .before .match .keys5) refl _ _ (encryptedIn d) (encrypted-is d) (c .before .before .encrypted .result) _ (c .before .before .encrypted .ensures)
 
 same-length-6 : tie.Need-same-length-6
 same-length-6 c = search needs
 
 returns-6 : tie.Need-returns-6
 returns-6 c =
-    let a = c .before .before .before .before .before .before .before .before .before .args in
-    found-kind (editionOf (a .edition)) _ _ _ ownKey (c .before .before .before .before .before .look-ahead .ensures) (c .before .before .before .before .match .keys6) refl _ _ (on 0x00 ▸ ownKey ▸ text line ▸ outer ownText ∷ []) (own-first (editionOf (a .edition))) (c .before .before .own-parameter .result) _ (c .before .before .own-parameter .ensures (editionOf (a .edition)))
+    let d = editionOf (c .before .before .before .before .before .before .before .before .before .args .edition) in
+    found-kind d _ _ _ ownKey (c .before .before .before .before .before .look-ahead .ensures) (c .before .before .before .before .match .keys6) refl _ _ (on 0x00 ▸ ownKey ▸ text line ▸ outer ownText ∷ []) (own-first d) (c .before .before .own-parameter .result) _ (c .before .before .own-parameter .ensures d)
 
 same-length-7 : tie.Need-same-length-7
 same-length-7 c = search needs
 
 returns-7 : tie.Need-returns-7
 returns-7 c =
-    let a = c .before .before .before .before .before .before .before .before .before .args in
-    found-kind (editionOf (a .edition)) _ _ _ behaviourOpens (c .before .before .before .before .before .look-ahead .ensures) (c .before .before .before .before .match .keys7) refl _ _ (on 0x0b ▸ behaviourOpens ▸ opens ▸ outer behaviourValue ∷ []) (behaviour-first (editionOf (a .edition))) (c .before .before .behaviour .result) _ (c .before .before .behaviour .ensures (editionOf (a .edition)))
+    let d = editionOf (c .before .before .before .before .before .before .before .before .before .args .edition) in
+    found-kind d _ _ _ behaviourOpens (c .before .before .before .before .before .look-ahead .ensures) (c .before .before .before .before .match .keys7) refl _ _ (on 0x0b ▸ behaviourOpens ▸ opens ▸ outer behaviourValue ∷ []) (behaviour-first d) (c .before .before .behaviour .result) _ (c .before .before .behaviour .ensures d)
 
 same-length-8 : tie.Need-same-length-8
 same-length-8 c = search needs
@@ -149,12 +140,9 @@ by-kind-spec =
     (tie.spec
     look-ahead-requires
     received-in-requires
-    text-requires
-    single-requires
-    number-requires
-    single-requires-2
-    text-requires-2
-    single-requires-3
+    comments-requires
+    payload-length-requires
+    payload-encoding-requires
     encrypted-requires
     own-parameter-requires
     behaviour-requires

@@ -1,4 +1,4 @@
--- `parameters::received_in`: the code 0A leads to the received object.
+-- `parameter::received_in`: the code 0A leads to the received object.
 use Rattle.meaning.specs.Kinds.{receivedBy}
 use Rattle.laws.specs.Rows.{cellsAt}
 use Rattle.table.specs.Told.{editionOf}
@@ -9,8 +9,8 @@ use Rattle.write_rows.specs.Onward.{advance-then}
 use Rattle.write_rows.specs.Stages.{atParameters}
 use borrow.Author.Needs.{needs}
 use native.Mathlib.Omega.{arith}
-use Rattle.write_inside.proofs.parameters.received_in.Statement.{statement}
-use Rattle.write_inside.proofs.parameters.received_in.Tie as tie
+use Rattle.write_inside.proofs.parameter.received_in.Statement.{statement}
+use Rattle.write_inside.proofs.parameter.received_in.Tie as tie
 
 put-requires : tie.Need-put-requires
 put-requires c κs = c .before .before .before .before .pre .0 .layable

@@ -1,9 +1,9 @@
--- `parameters::naming_code`: by the kind.
+-- `parameter::naming_code`: by the kind.
 use Rattle.write_inside.specs.Parameters.{namingCode}
 use borrow.Author.Tests.{ne-eqb}
 use mathlib.Core.Path.{ap, refl, sym}
-use Rattle.write_inside.proofs.parameters.naming_code.Statement.{statement}
-use Rattle.write_inside.proofs.parameters.naming_code.Tie as tie
+use Rattle.write_inside.proofs.parameter.naming_code.Statement.{statement}
+use Rattle.write_inside.proofs.parameter.naming_code.Tie as tie
 
 returns : tie.Need-returns
 returns c = sym (ap namingCode (c .match .keys1))

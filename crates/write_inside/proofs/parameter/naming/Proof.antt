@@ -1,4 +1,4 @@
--- `parameters::naming`: its row, and the agents behind it.
+-- `parameter::naming`: its row, and the agents behind it.
 use Rattle.table.specs.Told.{editionOf}
 use Rattle.write_rows.specs.Onward.{tried-as, leading}
 use Rattle.write_rows.specs.Laying.{laid-layable}
@@ -12,8 +12,8 @@ use mathlib.Core.Path.{ap}
 use lib.Dec.{eqb}
 use borrow.Author.Needs.{needs}
 use native.Mathlib.Omega.{arith}
-use Rattle.write_inside.proofs.parameters.naming.Statement.{statement}
-use Rattle.write_inside.proofs.parameters.naming.Tie as tie
+use Rattle.write_inside.proofs.parameter.naming.Statement.{statement}
+use Rattle.write_inside.proofs.parameter.naming.Tie as tie
 
 naming-code-requires : tie.Need-naming-code-requires
 naming-code-requires c κs = search needs

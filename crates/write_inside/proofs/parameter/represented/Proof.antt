@@ -1,4 +1,4 @@
--- `parameters::represented`: the code 04 leads to the representation that it needs, by the kind.
+-- `parameter::represented`: the code 04 leads to the representation that it needs, by the kind.
 use Rattle.meaning.specs.Bytes.{line}
 use Rattle.meaning.specs.Editions.{parameters, outer, text, on_▸_▸_▸_}
 use Rattle.meaning.specs.Kinds.{standardRepresentation, ownRepresentation}
@@ -13,8 +13,8 @@ use borrow.Author.Needs.{needs}
 use mathlib.Core.List.{[], _∷_}
 use mathlib.Core.Path.{_≡_, refl, subst}
 use native.Mathlib.Omega.{arith}
-use Rattle.write_inside.proofs.parameters.represented.Statement.{statement}
-use Rattle.write_inside.proofs.parameters.represented.Tie as tie
+use Rattle.write_inside.proofs.parameter.represented.Statement.{statement}
+use Rattle.write_inside.proofs.parameter.represented.Tie as tie
 
 put-requires : tie.Need-put-requires
 put-requires c κs = c .before .before .before .before .pre .0 .layable
