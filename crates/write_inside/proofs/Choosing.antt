@@ -9,7 +9,7 @@ use lib.ListN.{length}
 use borrow.Author.Tests.{eqb-true}
 use Rattle.meaning.specs.Basics.{pick}
 use Rattle.meaning.specs.Kinds.{agentName}
-use Rattle.meaning.specs.Editions.{State, state, parameters, closed, isQuiet, closing, Move, moves, go, outer, shared, own, pass_▸_}
+use Rattle.meaning.specs.Editions.{State, state, parameters, closed, isQuiet, closing, Next, opens, Move, moves, go, outer, shared, own, on_▸_▸_▸_, pass_▸_}
 use Rattle.meaning.specs.Reading.{levelMost, Row, none, hit, find, tooDeep, Found, orElse}
 use Rattle.meaning.specs.Writing.{atLevel, standsFor, wayTo, isPass, Cell, cell, broken, Opens, envelopeRow, innerRow, opensOf, fitRow}
 use Rattle.meaning.specs.Told.{Edition, B, D}
@@ -22,19 +22,25 @@ use Rattle.laws.specs.Rows.{cellsAt}
 use Rattle.write_rows.specs.Rooms.{ofKind, ownAmong, NotAmong}
 use Rattle.table.specs.Rows.{viewed, rowAhead, AheadIs, ahead-cells, ahead-row}
 use Rattle.write_rows.specs.Stages.{RowTaken, TriedIs, Onward, AdvanceIs, Beyond, afterNeeded, atParameters}
-use Rattle.write_inside.specs.Parameters.{encryptedIn, afterOne, afterAdvance, InParameters, ParameterIs, WayAhead, ClosingAhead, FoundIs}
+use Rattle.write_inside.specs.Parameters.{encryptedIn, afterOne, afterAdvance, InParameters, ParameterIs, KindAhead, ClosingAhead, FoundIs}
 use Rattle.table.specs.declared.rows.Ahead.{Ahead}
 use Rattle.write_rows.specs.declared.advance.Tried.{Tried}
 use Rattle.write_rows.specs.declared.advance.Tried.the-variants.{To, Other}
 use Rattle.write_rows.specs.declared.advance.Advance.{Advance}
 use Rattle.write_rows.specs.declared.advance.Advance.the-variants as advance
-use Rattle.write_inside.specs.declared.parameters.Parameter.{Parameter}
-use Rattle.write_inside.specs.declared.parameters.Parameter.the-variants.{Go, Last, Stuck}
+use Rattle.write_inside.specs.declared.parameter.Parameter.{Parameter}
+use Rattle.write_inside.specs.declared.parameter.Parameter.the-variants.{Go, Last, Stuck}
 use Rattle.write_rows.specs.Among.{find-kind, nothing-among, not-hit, sole-move, same-kind, takes}
 use Rattle.write_rows.specs.Openings.{opens-past}
 use Rattle.write_rows.specs.Onward.{leading, onward-then, onward-stuck, own-on}
 
 -- Before a row that has no move of its own
+
+-- the row ahead is led on by the code of its parameter
+abbrev pub WayAhead : Edition → ℕ → List Cell → Type 0
+WayAhead edition c [] = ⊥
+WayAhead edition c (broken ∷ cs) = ⊥
+WayAhead edition c (cell row ∷ cs) = (wayTo (row .kind) ≡ c) × (opensNumber (opensOf row) ≡ 0) × NotAmong (moves edition parameters) 0 (cell row ∷ cs)
 
 -- the parameters, before a row that has no code of its own there
 pub parameters-close : (e : Edition) (cs : List Cell) (i : ℕ) → ClosingAhead cs → NotAmong (moves e parameters) 0 cs → bodyOf e cs i atParameters ≡ onBody (0x01 ∷ []) (bodyOf e cs i (state closed 0 false))
@@ -97,6 +103,10 @@ parameter-row edition pool rows {i} m {before} {at} {after} {p} q d t =
     subst (λ (x : Move). Onward edition pool rows i atParameters (i + 1) (go (x .next) atParameters) before at after p) (sym same)
     (own-on edition pool rows atParameters t (stands-there edition m q (t .row) (t .stands)) (ap (λ (x : Move). tooDeep x atParameters) (sym same) ∙ ap (λ (b : Bool). b && ltb levelMost 0) d))
 
+-- the same by its code
+pub tried-move : (kind : ℕ) (next : Next) (pool rows : List ℕ) (i : ℕ) (before : List ℕ) (at : ℕ) (t : Tried) (after : List ℕ) {code code₁ : ℕ} → code ≡ code₁ → TriedIs (on code ▸ kind ▸ opens ▸ next ∷ []) 0 pool rows i before at t after → TriedIs (on code₁ ▸ kind ▸ opens ▸ next ∷ []) 0 pool rows i before at t after
+tried-move kind next pool rows i before at t after q x = subst (λ (c : ℕ). TriedIs (on c ▸ kind ▸ opens ▸ next ∷ []) 0 pool rows i before at t after) q x
+
 -- What follows it
 
 module _ (edition : Edition) (l : List Move) {pool rows : List ℕ} {i : ℕ} {st : State} {m : List ℕ} {at : ℕ} {m₁ : List ℕ} {p₁ : ℕ} (small : length m ≤ envelopeMost) (a : Onward edition pool rows i atParameters (i + 1) st m at m₁ p₁) where
@@ -141,12 +151,16 @@ pub encrypted-as : {edition : Edition} (pool rows : List ℕ) (i : ℕ) (before 
 encrypted-as pool rows i before at p after q x = subst (λ (e : Edition). ParameterIs e (encryptedIn e) pool rows i before at p after) (sym q) x
 
 -- a row before which the parameter's code stands
-pub way-ahead : (edition : Edition) (pool rows : List ℕ) (i k : ℕ) {r : Ahead} → AheadIs pool rows i r → r .kind ≡ k → 3 ≤ k → ofKind k (moves edition parameters) ≡ [] → WayAhead edition (wayTo k) (cellsAt pool rows i)
+pub kind-ahead : {pool rows : List ℕ} {i : ℕ} {r : Ahead} → AheadIs pool rows i r → {k : ℕ} → r .kind ≡ k → 3 ≤ k → KindAhead k (cellsAt pool rows i)
+kind-ahead a {k} q h = subst (KindAhead k) (sym (ahead-row a (λ z. omega (arith, sym q ∙ z)) .cells)) q
+
+pub way-ahead : (edition : Edition) (k : ℕ) (cs : List Cell) → KindAhead k cs → 3 ≤ k → ofKind k (moves edition parameters) ≡ [] → WayAhead edition (wayTo k) cs
 unfolding find
-way-ahead edition pool rows i k {r} a q h is =
-    let there = ahead-row a (λ z. omega (arith, sym q ∙ z)) in
-    let none-of : ofKind (r .kind) (moves edition parameters) ≡ [] = ap (λ (n : ℕ). ofKind n (moves edition parameters)) q ∙ is in
-    subst (WayAhead edition (wayTo k)) (sym (there .cells)) (ap wayTo q, sym (opens-past (r .kind) (r .level) (viewed pool r) (omega arith)), ap (atLevel (eqb (r .level) 0)) (same-kind (rowAhead pool r) (moves edition parameters) [] none-of) ∙ level (eqb (r .level) 0))
+way-ahead edition k [] a h is = absurd a
+way-ahead edition k (broken ∷ cs) a h is = absurd a
+way-ahead edition k (cell row ∷ cs) q h is =
+    let none-of : ofKind (row .kind) (moves edition parameters) ≡ [] = ap (λ (n : ℕ). ofKind n (moves edition parameters)) q ∙ is in
+    (ap wayTo q, sym (opens-past (row .kind) (row .level) (row .view) (omega (arith, q))), ap (atLevel (eqb (row .level) 0)) (same-kind row (moves edition parameters) [] none-of) ∙ level (eqb (row .level) 0))
   where
     level : (b : Bool) → atLevel b none ≡ none
     level true = refl

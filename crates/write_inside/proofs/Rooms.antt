@@ -1,17 +1,21 @@
 -- The rooms of both editions, by computation: what a stage asks of its room, one fact for each.
+use Prim.Native.Nat.{ℕ, _≤_}
 use mathlib.Core.List.{[], _∷_}
 use mathlib.Core.Bool.{Bool, true, false}
-use mathlib.Core.Path.{_≡_, refl}
+use mathlib.Core.Path.{_≡_, refl, sym, subst}
+use native.Mathlib.Omega.{arith}
+use lib.Dec.{eqb}
+use borrow.Author.Tests.{eqb-true, eqb-false}
 use Rattle.meaning.specs.Bytes.{line, note}
-use Rattle.meaning.specs.Kinds.{standardRepresentation, ownRepresentation, receivedBy, toOpens, fromOpens, receiverOpens, comments, payloadLength, payloadEncoding, encryptedOpens, encryptedItem, ownKey, ownValue, behaviourOpens}
-use Rattle.meaning.specs.Editions.{state, receivedBegins, headRepresentation, headDate, parameters, ownText, parameterRepresentation, behaviourValue, encryptedTexts, outer, text, number, opens, noCode, moves, shared, own, representations, anyValues, go, on_▸_▸_▸_, pass_▸_}
+use Rattle.meaning.specs.Kinds.{agentName, standardRepresentation, ownRepresentation, receivedBy, toOpens, fromOpens, receiverOpens, comments, payloadLength, payloadEncoding, encryptedOpens, encryptedItem, ownKey, ownValue, behaviourOpens}
+use Rattle.meaning.specs.Editions.{state, receivedBegins, headRepresentation, headDate, parameters, ownText, parameterRepresentation, behaviourValue, encryptedTexts, outer, text, number, opens, noCode, closing, moves, shared, own, representations, anyValues, go, on_▸_▸_▸_, pass_▸_}
 use Rattle.meaning.specs.Reading.{hit, find}
-use Rattle.meaning.specs.Writing.{isPass}
+use Rattle.meaning.specs.Writing.{isPass, wayTo}
 use Rattle.meaning.specs.Told.{Edition, B, D}
 use Rattle.write_rows.specs.Rooms.{ofKind, Needs, TextsIn, dates-lead}
 use Rattle.write_objects.specs.Turns.{agentsAt}
 use Rattle.write_rows.specs.Stages.{atParameters}
-use Rattle.write_inside.specs.Parameters.{encryptedIn, agentsNext, InParameters, AgentsIn}
+use Rattle.write_inside.specs.Parameters.{Names, namingCode, namingMove, encryptedIn, agentsNext, InParameters}
 use Rattle.values.specs.Dates.{datesOf}
 
 -- "Base: FE, length, representation, date"
@@ -38,20 +42,38 @@ unfolding moves shared own find
 own-text D = record { rows = refl; lead = (refl, refl, tt); lost = refl }
 own-text B = record { rows = refl; lead = (refl, refl, tt); lost = refl }
 
-pub to-first : (edition : Edition) → AgentsIn edition toOpens 2 false
-unfolding moves shared own
-to-first D = record { is = refl; shallow = refl }
-to-first B = record { is = refl; shallow = refl }
+-- the only move of a kind that opens agents
+pub record AgentsIn (edition : Edition) (kind : ℕ) : Type 0 where
+  pub is : InParameters edition (namingMove kind)
+  pub alone : ofKind kind (namingMove kind ∷ []) ≡ namingMove kind ∷ []
+  pub shallow : eqb kind agentName ≡ false
+  pub inner : 3 ≤ kind
+  pub coded : namingCode kind ≤ noCode
+  pub led : wayTo kind ≡ closing
 
-pub from-first : (edition : Edition) → AgentsIn edition fromOpens 3 true
+pub names-first : (edition : Edition) {kind : ℕ} → Names kind → AgentsIn edition kind
 unfolding moves shared own
-from-first D = record { is = refl; shallow = refl }
-from-first B = record { is = refl; shallow = refl }
+names-first edition {kind} n = by (eqb kind toOpens) refl (eqb kind fromOpens) refl
+  where
+    to : (edition : Edition) → AgentsIn edition toOpens
+    to D = record { is = refl; alone = refl; shallow = refl; inner = omega arith; coded = omega arith; led = refl }
+    to B = record { is = refl; alone = refl; shallow = refl; inner = omega arith; coded = omega arith; led = refl }
 
-pub receiver-first : (edition : Edition) → AgentsIn edition receiverOpens 9 false
-unfolding moves shared own
-receiver-first D = record { is = refl; shallow = refl }
-receiver-first B = record { is = refl; shallow = refl }
+    from : (edition : Edition) → AgentsIn edition fromOpens
+    from D = record { is = refl; alone = refl; shallow = refl; inner = omega arith; coded = omega arith; led = refl }
+    from B = record { is = refl; alone = refl; shallow = refl; inner = omega arith; coded = omega arith; led = refl }
+
+    receiver : (edition : Edition) → AgentsIn edition receiverOpens
+    receiver D = record { is = refl; alone = refl; shallow = refl; inner = omega arith; coded = omega arith; led = refl }
+    receiver B = record { is = refl; alone = refl; shallow = refl; inner = omega arith; coded = omega arith; led = refl }
+
+    by : (t : Bool) → eqb kind toOpens ≡ t → (f : Bool) → eqb kind fromOpens ≡ f → AgentsIn edition kind
+    by true q f r = subst (AgentsIn edition) (sym (eqb-true kind toOpens q)) (to edition)
+    by false q true r = subst (AgentsIn edition) (sym (eqb-true kind fromOpens r)) (from edition)
+    by false q false r =
+        let x = eqb-false kind toOpens q in
+        let y = eqb-false kind fromOpens r in
+        subst (AgentsIn edition) (omega (arith, n .0, n .1)) (receiver edition)
 
 pub agents-begin : (one : Bool) → go (agentsNext one) atParameters ≡ agentsAt 1 one
 agents-begin true = refl

@@ -1,14 +1,15 @@
 -- What the stages of a parameter promise.
-use Prim.Native.Nat.{ℕ, _+_, _<_}
+use Prim.Native.Nat.{ℕ, _+_, _≤_, _<_}
 use mathlib.Core.List.{List, [], _∷_}
 use mathlib.Core.Bool.{Bool, true, false}
 use mathlib.Core.Path.{_≡_}
 use lib.Dec.{eqb}
-use Rattle.meaning.specs.Kinds.{agentName, encryptedOpens}
+use Rattle.meaning.specs.Basics.{pick}
+use Rattle.meaning.specs.Kinds.{standardRepresentation, ownRepresentation, toOpens, fromOpens, receiverOpens, encryptedOpens}
 use Rattle.meaning.specs.Editions.{outer, encryptedTexts, parameters, agentList, oneAgent, Next, inner, innerOne, opens, Move, moves, closing, on_▸_▸_▸_}
-use Rattle.meaning.specs.Writing.{Cell, cell, broken, wayTo, opensOf}
+use Rattle.meaning.specs.Writing.{Cell, cell, broken, wayTo}
 use Rattle.meaning.specs.Told.{Edition, B, D}
-use Rattle.write_rows.specs.Bodies.{halt, opensNumber}
+use Rattle.write_rows.specs.Bodies.{halt}
 use Rattle.laws.specs.Rows.{cellsAt}
 use Rattle.write_rows.specs.Rooms.{ofKind, NotAmong}
 use Rattle.write_rows.specs.Stages.{bodyAt, Onward, atParameters}
@@ -16,8 +17,8 @@ use Rattle.write_rows.specs.declared.advance.Tried.{Tried}
 use Rattle.write_rows.specs.declared.advance.Tried.the-variants.{To, Other}
 use Rattle.write_rows.specs.declared.advance.Advance.{Advance}
 use Rattle.write_rows.specs.declared.advance.Advance.the-variants as advance
-use Rattle.write_inside.specs.declared.parameters.Parameter.{Parameter}
-use Rattle.write_inside.specs.declared.parameters.Parameter.the-variants.{Go, Last, Stuck}
+use Rattle.write_inside.specs.declared.parameter.Parameter.{Parameter}
+use Rattle.write_inside.specs.declared.parameter.Parameter.the-variants.{Go, Last, Stuck}
 
 abbrev pub afterOne : ℕ → Tried → Parameter
 afterOne i (To p) = Go (i + 1) p
@@ -35,9 +36,15 @@ abbrev pub agentsNext : Bool → Next
 agentsNext true = innerOne oneAgent
 agentsNext false = inner agentList
 
-pub record AgentsIn (edition : Edition) (kind code : ℕ) (one : Bool) : Type 0 where
-  pub is : InParameters edition (on code ▸ kind ▸ opens ▸ agentsNext one)
-  pub shallow : eqb kind agentName ≡ false
+-- "02 `to`; 03 `from`; 09 intended receiver"
+abbrev pub Names : ℕ → Type 0
+Names k = (toOpens ≤ k) × (k ≤ receiverOpens)
+
+abbrev pub namingCode : ℕ → ℕ
+namingCode k = pick (eqb k toOpens) 0x02 (pick (eqb k fromOpens) 0x03 0x09)
+
+abbrev pub namingMove : ℕ → Move
+namingMove k = on namingCode k ▸ k ▸ opens ▸ agentsNext (eqb k fromOpens)
 
 -- "08 encrypted .. (B only)"
 abbrev pub encryptedIn : Edition → List Move
@@ -50,11 +57,15 @@ ParameterIs edition l pool rows i before at (Go k p) after = Onward edition pool
 ParameterIs edition l pool rows i before at Last after = (after ≡ before) × NotAmong l 0 (cellsAt pool rows i)
 ParameterIs edition l pool rows i before at (Stuck j) after = bodyAt edition pool rows i atParameters ≡ halt j
 
--- the row ahead is led on by the code of its parameter
-abbrev pub WayAhead : Edition → ℕ → List Cell → Type 0
-WayAhead edition c [] = ⊥
-WayAhead edition c (broken ∷ cs) = ⊥
-WayAhead edition c (cell row ∷ cs) = (wayTo (row .kind) ≡ c) × (opensNumber (opensOf row) ≡ 0) × NotAmong (moves edition parameters) 0 (cell row ∷ cs)
+-- "Representation: 10, 11 or 12, or 00 and a text"
+abbrev pub Represents : ℕ → Type 0
+Represents k = (standardRepresentation ≤ k) × (k ≤ ownRepresentation)
+
+-- a row of this kind is ahead
+abbrev pub KindAhead : ℕ → List Cell → Type 0
+KindAhead k [] = ⊥
+KindAhead k (broken ∷ cs) = ⊥
+KindAhead k (cell row ∷ cs) = row .kind ≡ k
 
 -- the row ahead, if there is one, is led on by the closing alone
 abbrev pub ClosingAhead : List Cell → Type 0

@@ -17,8 +17,9 @@ use write_rows::extras::extras;
 use write_rows::lay::put;
 use write_rows::texts::texts;
 ghost use mathlib.Core.Bool.{Bool, false};
-ghost use Prim.Native.Nat.{_-_};
+ghost use Prim.Native.Nat.{_-_, _≤_};
 ghost use Rattle.meaning.specs.Editions.{state, afterName, afterAddresses, afterResolvers, parameters};
+ghost use Rattle.meaning.specs.Reading.{levelMost};
 ghost use Rattle.meaning.specs.Told;
 ghost use Rattle.laws.specs.Rows.{cellsAt};
 ghost use Rattle.table.specs.Told.{editionOf};
@@ -104,8 +105,39 @@ fn list_ends(
     agent_ends(rows, pool, i, level - 1, single, edition, output, p)
 }
 
-// "Agent: 02, name text, optionally 02 and addresses .., optionally 03 and resolvers": lays the agent that row i names, up to where its
-// resolvers open, or all of it; or the list's end, where row i names none. Stuck at row i if its level is past the limit.
+// "optionally 02 and addresses .., optionally 03 and resolvers": lays what stands behind an agent's name, from row i on, up to where its
+// resolvers open, or all of it. Stuck where the agent's end is.
+fn behind_name(
+    rows: &[u32],
+    pool: &[u8],
+    i: usize,
+    level: u32,
+    single: bool,
+    edition: Edition,
+    output: &mut [u8],
+    at: usize,
+) -> ListTurn
+    requires { ⌜ (ListTurnRequires (now rows) i level (now output) at) × (level ≤ levelMost) ⌝ }
+    ensures { λ r. ⌜ ListTurnIs (editionOf edition) single (now (pool .entry)) (now (rows .entry)) i (state afterName level single) (rowsAndLevels (now (rows .entry)) i level) (now (output .entry)) at r (now (output .exit)) ⌝ }
+{
+    let s = addresses(rows, pool, i, level, output, at);
+    let row = s.row;
+    let p = s.at;
+    let o = opened(rows, pool, row, RESOLVERS_OPEN, level, 0x03, output, p);
+    let Tried::To(behind) = o else {
+        return agent_ends(rows, pool, row, level, single, edition, output, p);
+    };
+    let resolver = row + 1;
+    let deeper = level + 1;
+    ListTurn::On {
+        row: resolver,
+        level: deeper,
+        at: behind,
+    }
+}
+
+// "Agent: 02, name text, ..": lays the agent that row i names, up to where its resolvers open, or all of it; or the list's end, where row i names none.
+// Stuck at row i if its level is past the limit, or where the agent's or the list's end is.
 fn agent(
     rows: &[u32],
     pool: &[u8],
@@ -137,20 +169,7 @@ fn agent(
         return ListTurn::Stuck(i);
     }
     let after_name = i + 1;
-    let s = addresses(rows, pool, after_name, level, output, p);
-    let row = s.row;
-    let q = s.at;
-    let o = opened(rows, pool, row, RESOLVERS_OPEN, level, 0x03, output, q);
-    let Tried::To(behind) = o else {
-        return agent_ends(rows, pool, row, level, single, edition, output, q);
-    };
-    let resolver = row + 1;
-    let deeper = level + 1;
-    ListTurn::On {
-        row: resolver,
-        level: deeper,
-        at: behind,
-    }
+    behind_name(rows, pool, after_name, level, single, edition, output, p)
 }
 
 // "Agent list: agents, then 01"; or the one agent of `from`. Lays it from row `from` on. Answers the row and the place behind it.

@@ -22,14 +22,12 @@ use Rattle.meaning.specs.Told.{Edition, B, D}
 use Rattle.write_rows.specs.Laying.{one, Laid, laid-as}
 use Rattle.laws.specs.Rows.{cellsAt}
 use Rattle.write_rows.specs.Codes.{dateCode, blockBytes}
-use Rattle.write_rows.specs.Rooms.{ofKind, ownAmong, NotAmong}
-use Rattle.write_rows.specs.Stages.{NotOf, SoughtIs, RowTaken, TriedIs}
+use Rattle.write_rows.specs.Rooms.{ofKind, standards, ownAmong, NotAmong}
+use Rattle.write_rows.specs.Stages.{SoughtIs, RowTaken}
 use Rattle.table.specs.declared.rows.Ahead.{Ahead}
-use Rattle.write_rows.specs.declared.advance.Tried.{Tried}
-use Rattle.write_rows.specs.declared.advance.Tried.the-variants.{To, Other}
 use Rattle.write_rows.proofs.Values.{date-length, only-byte, only-other, empty-is}
 use Rattle.write_rows.specs.Openings.{opens-past}
-use Rattle.write_rows.specs.Among.{takes, find-kind, same-kind, row-none, sought-row}
+use Rattle.write_rows.specs.Among.{takes, find-kind, row-none, sought-row}
 
 -- The bytes that a row views
 
@@ -74,26 +72,6 @@ ahead-none l level {pool} {r = r} a f = ahead-cells (NotAmong l level) a tt (λ 
     by : (b : Bool) → eqb (r .level) level ≡ b → atLevel b (find (standsFor (rowAhead pool r)) l) ≡ none
     by true q = find-kind (rowAhead pool r) l ∙ f (eqb-true (r .level) level q)
     by false q = refl
-
--- Moves of a kind that is not ahead change nothing
-
-module _ (k level : ℕ) (l l₁ : List Move) (same : (j : ℕ) → (j ≡ k → ⊥) → ofKind j l ≡ ofKind j l₁) where
-  own-more : (row : Row) → (row .kind ≡ k → row .level ≡ level → ⊥) → ownAmong l₁ level row ≡ ownAmong l level row
-  own-more row h = at (eqb (row .level) level) refl
-    where
-      at : (b : Bool) → eqb (row .level) level ≡ b → atLevel b (find (standsFor row) l₁) ≡ atLevel b (find (standsFor row) l)
-      at true q = sym (same-kind row l l₁ (same (row .kind) (λ z. h z (eqb-true (row .level) level q))))
-      at false q = refl
-
-  cells-more : (cs : List Cell) → NotOf k level cs → NotAmong l level cs → NotAmong l₁ level cs
-  cells-more [] h x = tt
-  cells-more (broken ∷ cs) h x = tt
-  cells-more (cell row ∷ cs) h x = own-more row h ∙ x
-
-  pub taken-more : (pool rows : List ℕ) (i : ℕ) → NotOf k level (cellsAt pool rows i) → (before : List ℕ) (at : ℕ) (after : List ℕ) (t : Tried) → TriedIs l level pool rows i before at t after → TriedIs l₁ level pool rows i before at t after
-  taken-more pool rows i away before at after (To p) x =
-      record { row = x .row; move = x .move; ahead = x .ahead; inner = x .inner; stands = own-more (x .row) (subst (NotOf k level) (x .ahead .cells) away) ∙ x .stands; laid = x .laid }
-  taken-more pool rows i away before at after Other x = (x .0, cells-more (cellsAt pool rows i) away (x .1))
 
 -- "The shortest length form is required": a block is taken in the form of its length
 
@@ -157,15 +135,15 @@ module _ (n : Next) {pool rows : List ℕ} {i : ℕ} {r : Ahead} (s : SoughtIs p
   found-byte : CodeOf n (getD pool (r .start) 0) (find (takes (viewed pool r)) (ofKind standardRepresentation (representations n)))
   found-byte = standard-found n (viewed pool r) (view-length s ∙ k) (view-byte s (omega arith))
 
-  pub standard-taken : {before : List ℕ} {at : ℕ} {after : List ℕ} {p : ℕ} → (leb 0x10 (getD pool (r .start) 0) && leb (getD pool (r .start) 0) 0x12) ≡ true → Laid before at (one (getD pool (r .start) 0)) after p → RowTaken (representations n) 0 pool rows i before at after p
+  pub standard-taken : {before : List ℕ} {at : ℕ} {after : List ℕ} {p : ℕ} → (leb 0x10 (getD pool (r .start) 0) && leb (getD pool (r .start) 0) 0x12) ≡ true → Laid before at (one (getD pool (r .start) 0)) after p → RowTaken (standards n) 0 pool rows i before at after p
   unfolding writeValue
   standard-taken t l =
       let b : ℕ = getD pool (r .start) 0 in
       let small = leb→le b 0x12 (right-of (leb 0x10 b) (leb b 0x12) (subst T (sym t) tt)) in
-      picked (representations n) 0 standardRepresentation 0 (viewed pool r) refl (sought-row s h) (standard n b) (omega arith) (found-byte ∙ ap (λ (x : Bool). pick x (hit (standard n b)) none) t) (laid-as l _ (sym (ap (λ (x : Bool). pick x [] (one b) ++ []) (ne-eqb b 256 (λ q. omega arith)))))
+      picked (standards n) 0 standardRepresentation 0 (viewed pool r) refl (sought-row s h) (standard n b) (omega arith) (found-byte ∙ ap (λ (x : Bool). pick x (hit (standard n b)) none) t) (laid-as l _ (sym (ap (λ (x : Bool). pick x [] (one b) ++ []) (ne-eqb b 256 (λ q. omega arith)))))
 
-  pub standard-other : (leb 0x10 (getD pool (r .start) 0) && leb (getD pool (r .start) 0) 0x12) ≡ false → NotAmong (representations n) 0 (cellsAt pool rows i)
-  standard-other t = unpicked (representations n) 0 standardRepresentation 0 (viewed pool r) refl (sought-row s h) (found-byte ∙ ap (λ (x : Bool). pick x (hit (standard n (getD pool (r .start) 0))) none) t)
+  pub standard-other : (leb 0x10 (getD pool (r .start) 0) && leb (getD pool (r .start) 0) 0x12) ≡ false → NotAmong (standards n) 0 (cellsAt pool rows i)
+  standard-other t = unpicked (standards n) 0 standardRepresentation 0 (viewed pool r) refl (sought-row s h) (found-byte ∙ ap (λ (x : Bool). pick x (hit (standard n (getD pool (r .start) 0))) none) t)
 
 -- "Length 9 or 10 picks the date code"
 

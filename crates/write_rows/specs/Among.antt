@@ -9,14 +9,16 @@ use lib.Dec.{eqb}
 use borrow.Author.Tests.{eq-eqb, eqb-true}
 use Rattle.meaning.specs.Basics.{pick}
 use Rattle.meaning.specs.Editions.{State, Next, Form, text, date, number, block, itself, opens, quiet, isQuiet, Move}
-use Rattle.meaning.specs.Reading.{Row, tooDeep, Found, none, hit, find}
+use Rattle.meaning.specs.Reading.{Row, tooDeep, Found, none, hit, find, orElse}
 use Rattle.meaning.specs.Writing.{atLevel, standsFor, valid, lead, writeValue, Cell, cell, broken}
 use Rattle.table.specs.Rows.{rowWith, RowAhead, viewed}
 use Rattle.write_rows.specs.Laying.{Laid}
 use Rattle.laws.specs.Rows.{cellsAt}
 use Rattle.write_rows.specs.Rooms.{rowsOf, ofKind, ownAmong, NotAmong, AllLead}
-use Rattle.write_rows.specs.Stages.{NotOf, SoughtIs, RowTaken}
+use Rattle.write_rows.specs.Stages.{NotOf, SoughtIs, RowTaken, TriedIs}
 use Rattle.table.specs.declared.rows.Ahead.{Ahead}
+use Rattle.write_rows.specs.declared.advance.Tried.{Tried}
+use Rattle.write_rows.specs.declared.advance.Tried.the-variants.{To, Other}
 use Rattle.write_rows.specs.Openings.{opens-past}
 
 abbrev pub takes : List ℕ → Move → Bool
@@ -158,3 +160,69 @@ nothing-among level (cell row ∷ cs) = at (eqb (row .level) level)
     at : (b : Bool) → atLevel b none ≡ none
     at true = refl
     at false = refl
+
+-- Among moves that are the same for the row ahead
+
+abbrev pub SameAhead : List Move → List Move → ℕ → List Cell → Type 0
+SameAhead l l₁ level [] = Unit {0}
+SameAhead l l₁ level (broken ∷ cs) = Unit {0}
+SameAhead l l₁ level (cell row ∷ cs) = row .level ≡ level → ofKind (row .kind) l ≡ ofKind (row .kind) l₁
+
+module _ (l l₁ : List Move) (level : ℕ) where
+  own-same : (row : Row) → (row .level ≡ level → ofKind (row .kind) l ≡ ofKind (row .kind) l₁) → ownAmong l₁ level row ≡ ownAmong l level row
+  own-same row same = at (eqb (row .level) level) refl
+    where
+      at : (b : Bool) → eqb (row .level) level ≡ b → atLevel b (find (standsFor row) l₁) ≡ atLevel b (find (standsFor row) l)
+      at true q = sym (same-kind row l l₁ (same (eqb-true (row .level) level q)))
+      at false q = refl
+
+  none-same : (cs : List Cell) → SameAhead l l₁ level cs → NotAmong l level cs → NotAmong l₁ level cs
+  none-same [] same x = tt
+  none-same (broken ∷ cs) same x = tt
+  none-same (cell row ∷ cs) same x = own-same row same ∙ x
+
+  pub tried-same : (pool rows : List ℕ) (i : ℕ) → SameAhead l l₁ level (cellsAt pool rows i) → (before : List ℕ) (at : ℕ) (after : List ℕ) (t : Tried) → TriedIs l level pool rows i before at t after → TriedIs l₁ level pool rows i before at t after
+  tried-same pool rows i same before at after (To p) x =
+      record { row = x .row; move = x .move; ahead = x .ahead; inner = x .inner; stands = own-same (x .row) (subst (SameAhead l l₁ level) (x .ahead .cells) same) ∙ x .stands; laid = x .laid }
+  tried-same pool rows i same before at after Other x = (x .0, none-same (cellsAt pool rows i) same (x .1))
+
+-- moves of a kind that is not ahead change nothing
+pub tried-away : (k level : ℕ) (l l₁ : List Move) → ((j : ℕ) → (j ≡ k → ⊥) → ofKind j l ≡ ofKind j l₁) → (pool rows : List ℕ) (i : ℕ) → NotOf k level (cellsAt pool rows i) → (before : List ℕ) (at : ℕ) (after : List ℕ) (t : Tried) → TriedIs l level pool rows i before at t after → TriedIs l₁ level pool rows i before at t after
+tried-away k level l l₁ same pool rows i away = tried-same l l₁ level pool rows i (by (cellsAt pool rows i) away)
+  where
+    by : (cs : List Cell) → NotOf k level cs → SameAhead l l₁ level cs
+    by [] x = tt
+    by (broken ∷ cs) x = tt
+    by (cell row ∷ cs) x = λ q. same (row .kind) (λ z. x z q)
+
+-- Among some moves, and else among others
+
+find-else : (p : Move → Bool) (l l₁ : List Move) → find p (l ++ l₁) ≡ orElse (find p l) (find p l₁)
+unfolding find
+find-else p [] l₁ = refl
+find-else p (m ∷ l) l₁ = at (p m) (find-else p l l₁)
+  where
+    at : (b : Bool) → find p (l ++ l₁) ≡ orElse (find p l) (find p l₁) → pick b (hit m) (find p (l ++ l₁)) ≡ orElse (pick b (hit m) (find p l)) (find p l₁)
+    at true q = refl
+    at false q = q
+
+module _ (l l₁ : List Move) (level : ℕ) where
+  own-else : (row : Row) {o : Found} → ownAmong l level row ≡ o → ownAmong (l ++ l₁) level row ≡ orElse o (ownAmong l₁ level row)
+  own-else row q = at (eqb (row .level) level) ∙ ap (λ (x : Found). orElse x (ownAmong l₁ level row)) q
+    where
+      at : (b : Bool) → atLevel b (find (standsFor row) (l ++ l₁)) ≡ orElse (atLevel b (find (standsFor row) l)) (atLevel b (find (standsFor row) l₁))
+      at true = find-else (standsFor row) l l₁
+      at false = refl
+
+  none-else : (cs : List Cell) → NotAmong l level cs → NotAmong l₁ level cs → NotAmong (l ++ l₁) level cs
+  none-else [] x y = tt
+  none-else (broken ∷ cs) x y = tt
+  none-else (cell row ∷ cs) x y = own-else row x ∙ y
+
+  pub taken-first : {pool rows : List ℕ} {i : ℕ} {before : List ℕ} {at : ℕ} {after : List ℕ} {p : ℕ} → RowTaken l level pool rows i before at after p → RowTaken (l ++ l₁) level pool rows i before at after p
+  taken-first x = record { row = x .row; move = x .move; ahead = x .ahead; inner = x .inner; stands = own-else (x .row) (x .stands); laid = x .laid }
+
+  pub tried-else : (pool rows : List ℕ) (i : ℕ) → NotAmong l level (cellsAt pool rows i) → (before : List ℕ) (at : ℕ) (after : List ℕ) (t : Tried) → TriedIs l₁ level pool rows i before at t after → TriedIs (l ++ l₁) level pool rows i before at t after
+  tried-else pool rows i none-there before at after (To p) x =
+      record { row = x .row; move = x .move; ahead = x .ahead; inner = x .inner; stands = own-else (x .row) (subst (NotAmong l level) (x .ahead .cells) none-there) ∙ x .stands; laid = x .laid }
+  tried-else pool rows i none-there before at after Other x = (x .0, none-else (cellsAt pool rows i) none-there (x .1))

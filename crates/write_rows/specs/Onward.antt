@@ -74,6 +74,9 @@ tried-as l level pool rows i before at after q t = subst (λ (x : Tried). TriedI
 pub laid-from : {before after : List ℕ} {at : ℕ} {bytes m : List ℕ} {p : ℕ} → after ≡ before → Laid after at bytes m p → Laid before at bytes m p
 laid-from {at = at} {bytes = bytes} {m = m} {p = p} q l = subst (λ (x : List ℕ). Laid x at bytes m p) q l
 
+pub tried-from : (l : List Move) (level : ℕ) (pool rows : List ℕ) (i : ℕ) {before after : List ℕ} (at : ℕ) (t : Tried) (m : List ℕ) → after ≡ before → TriedIs l level pool rows i after at t m → TriedIs l level pool rows i before at t m
+tried-from l level pool rows i at t m q x = subst (λ (y : List ℕ). TriedIs l level pool rows i y at t m) q x
+
 pub layable-from : {before after : List ℕ} {at : ℕ} → after ≡ before → Layable before at → Layable after at
 layable-from {at = at} q l = subst (λ (x : List ℕ). Layable x at) (sym q) l
 

@@ -6,9 +6,9 @@ use mathlib.Core.Path.{_≡_, refl}
 use lib.Dec.{eqb}
 use Rattle.meaning.specs.Basics.{pick}
 use Rattle.meaning.specs.Bytes.{line}
-use Rattle.meaning.specs.Kinds.{agentName, extraKey}
+use Rattle.meaning.specs.Kinds.{standardRepresentation, agentName, extraKey}
 use Rattle.meaning.specs.Told.{Edition, B, D}
-use Rattle.meaning.specs.Editions.{State, state, Room, Next, stay, text, isQuiet, noCode, closing, Move, moves, anyValues, go, on_▸_▸_▸_, pass_▸_}
+use Rattle.meaning.specs.Editions.{State, state, Room, Next, stay, text, isQuiet, noCode, closing, Move, moves, representations, anyValues, go, on_▸_▸_▸_, pass_▸_}
 use Rattle.meaning.specs.Reading.{isClosed, tooDeep, Row, Found, none, hit, find}
 use Rattle.meaning.specs.Writing.{atLevel, standsFor, isPass, Cell, cell, broken}
 use Rattle.values.specs.Dates.{datesOf}
@@ -22,6 +22,10 @@ rowsOf (m ∷ l) = pick (isQuiet (m .form)) (rowsOf l) (m ∷ rowsOf l)
 abbrev pub ofKind : ℕ → List Move → List Move
 ofKind k [] = []
 ofKind k (m ∷ l) = pick (not (isQuiet (m .form)) && eqb (m .kind) k) (m ∷ ofKind k l) (ofKind k l)
+
+-- "Representation: 10, 11 or 12"
+abbrev pub standards : Next → List Move
+standards n = ofKind standardRepresentation (representations n)
 
 -- a row's own move among these, at a level
 abbrev pub ownAmong : List Move → ℕ → Row → Found

@@ -1,4 +1,4 @@
--- `parameters::own_parameter`: a key, and the value that it needs.
+-- `parameter::own_parameter`: a key, and the value that it needs.
 use Rattle.meaning.specs.Memory.{roomOf}
 use Rattle.write_rows.specs.Onward.{tried-as, needed-is}
 use Rattle.write_rows.specs.Laying.{laid-layable}
@@ -12,8 +12,8 @@ use mathlib.Core.Bool.{false}
 use mathlib.Core.Path.{refl}
 use Prim.Native.Nat.{_+_, _≤_}
 use native.Mathlib.Omega.{arith}
-use Rattle.write_inside.proofs.parameters.own_parameter.Statement.{statement}
-use Rattle.write_inside.proofs.parameters.own_parameter.Tie as tie
+use Rattle.write_inside.proofs.parameter.own_parameter.Statement.{statement}
+use Rattle.write_inside.proofs.parameter.own_parameter.Tie as tie
 
 text-requires : tie.Need-text-requires
 text-requires c κs = record { inside = c .before .before .before .before .pre .inside; inner = omega arith; coded = omega arith; layable = c .before .before .before .before .pre .layable }

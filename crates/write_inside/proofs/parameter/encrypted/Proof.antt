@@ -1,13 +1,13 @@
--- `parameters::encrypted`: by edition; D has no such parameter.
+-- `parameter::encrypted`: by edition; D has no such parameter.
 use Rattle.table.specs.Told.{editionOf}
 use Rattle.laws.specs.Rows.{cellsAt}
 use Rattle.write_inside.proofs.Choosing.{encrypted-as}
 use Rattle.write_rows.specs.Among.{nothing-among}
-use Rattle.write_inside.specs.declared.parameters.Parameter.the-variants.{Last}
+use Rattle.write_inside.specs.declared.parameter.Parameter.the-variants.{Last}
 use mathlib.Core.Path.{ap, refl}
 use borrow.Author.Needs.{needs}
-use Rattle.write_inside.proofs.parameters.encrypted.Statement.{statement}
-use Rattle.write_inside.proofs.parameters.encrypted.Tie as tie
+use Rattle.write_inside.proofs.parameter.encrypted.Statement.{statement}
+use Rattle.write_inside.proofs.parameter.encrypted.Tie as tie
 
 enum-told : tie.Need-enum-told
 enum-told c = search needs

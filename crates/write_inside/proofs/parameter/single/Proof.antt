@@ -1,9 +1,9 @@
--- `parameters::single`: by the two answers.
+-- `parameter::single`: by the two answers.
 use Rattle.write_inside.specs.Parameters.{afterOne}
 use borrow.Author.Needs.{needs}
 use mathlib.Core.Path.{ap, sym}
-use Rattle.write_inside.proofs.parameters.single.Statement.{statement}
-use Rattle.write_inside.proofs.parameters.single.Tie as tie
+use Rattle.write_inside.proofs.parameter.single.Statement.{statement}
+use Rattle.write_inside.proofs.parameter.single.Tie as tie
 
 enum-known-tried : tie.Need-enum-known-tried
 enum-known-tried c = search needs

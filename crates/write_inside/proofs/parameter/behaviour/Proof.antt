@@ -1,4 +1,4 @@
--- `parameters::behaviour`: its row, and the any-value that it needs.
+-- `parameter::behaviour`: its row, and the any-value that it needs.
 use Rattle.meaning.specs.Memory.{roomOf}
 use Rattle.write_rows.specs.Onward.{tried-as, needed-is}
 use Rattle.write_rows.specs.Laying.{laid-layable}
@@ -11,8 +11,8 @@ use mathlib.Core.Bool.{false}
 use mathlib.Core.Path.{refl}
 use Prim.Native.Nat.{_+_, _≤_}
 use native.Mathlib.Omega.{arith}
-use Rattle.write_inside.proofs.parameters.behaviour.Statement.{statement}
-use Rattle.write_inside.proofs.parameters.behaviour.Tie as tie
+use Rattle.write_inside.proofs.parameter.behaviour.Statement.{statement}
+use Rattle.write_inside.proofs.parameter.behaviour.Tie as tie
 
 opened-requires : tie.Need-opened-requires
 opened-requires c κs = record { inside = c .before .before .before .before .pre .inside; inner = omega arith; coded = omega arith; layable = c .before .before .before .before .pre .layable }

@@ -1,9 +1,9 @@
--- `parameters::begun`: by the two answers.
+-- `parameter::begun`: by the two answers.
 use Rattle.write_inside.specs.Parameters.{afterAdvance}
 use borrow.Author.Needs.{needs}
 use mathlib.Core.Path.{ap, sym}
-use Rattle.write_inside.proofs.parameters.begun.Statement.{statement}
-use Rattle.write_inside.proofs.parameters.begun.Tie as tie
+use Rattle.write_inside.proofs.parameter.begun.Statement.{statement}
+use Rattle.write_inside.proofs.parameter.begun.Tie as tie
 
 enum-known-s : tie.Need-enum-known-s
 enum-known-s c = search needs

@@ -1,4 +1,4 @@
--- `parameters::encrypted_in_b`: its row, and the texts behind it.
+-- `parameter::encrypted_in_b`: its row, and the texts behind it.
 use Rattle.meaning.specs.Told.{B}
 use Rattle.write_rows.specs.Onward.{tried-as, onward-then}
 use Rattle.write_rows.specs.Laying.{laid-layable}
@@ -11,8 +11,8 @@ use borrow.Author.Needs.{needs}
 use mathlib.Core.Bool.{false}
 use mathlib.Core.Path.{refl}
 use native.Mathlib.Omega.{arith}
-use Rattle.write_inside.proofs.parameters.encrypted_in_b.Statement.{statement}
-use Rattle.write_inside.proofs.parameters.encrypted_in_b.Tie as tie
+use Rattle.write_inside.proofs.parameter.encrypted_in_b.Statement.{statement}
+use Rattle.write_inside.proofs.parameter.encrypted_in_b.Tie as tie
 
 opened-requires : tie.Need-opened-requires
 opened-requires c κs = record { inside = c .before .before .before .before .pre .inside; inner = omega arith; coded = omega arith; layable = c .before .before .before .before .pre .layable }
