@@ -36,7 +36,7 @@ abbrev pub agentsNext : Bool → Next
 agentsNext true = innerOne oneAgent
 agentsNext false = inner agentList
 
--- "02 `to`; 03 `from`; 09 intended receiver"
+-- "02 `to`, agent list; 03 `from`, one agent; .. 09 intended receiver, agent list"
 abbrev pub Names : ℕ → Type 0
 Names k = (toOpens ≤ k) × (k ≤ receiverOpens)
 

@@ -84,7 +84,7 @@ pub fn own_parameter(rows: &[u32], pool: &[u8], i: usize, output: &mut [u8], at:
     ))
 }
 
-// "02 `to`; 03 `from`; 09 intended receiver". Takes the kind that opens such a parameter. Answers its code.
+// "02 `to`, ..; 03 `from`, ..; 09 intended receiver, ..". Takes the kind that opens such a parameter. Answers its code.
 fn naming_code(kind: u32) -> u32
     ensures { λ r. ⌜ r ≡ namingCode kind ⌝ }
 {
@@ -95,7 +95,7 @@ fn naming_code(kind: u32) -> u32
     }
 }
 
-// "02 `to`, agent list; 03 `from`, one agent; 09 intended receiver, agent list": lays the parameter of this kind, naming agents, that row i opens.
+// "02 `to`, agent list; 03 `from`, one agent; .. 09 intended receiver, agent list": lays the parameter of this kind, naming agents, that row i opens.
 // None begins there if row i does not open it. Stuck where its agents are.
 pub fn naming(
     rows: &[u32],
@@ -150,7 +150,7 @@ pub fn represented(
     ))
 }
 
-// "05 comments, text": lays the parameter that row i is. None begins there if row i is no such note.
+// "05 comments text": lays the parameter that row i is. None begins there if row i is no such note.
 pub fn comments(rows: &[u32], pool: &[u8], i: usize, output: &mut [u8], at: usize) -> Parameter
     requires { ⌜ StageRequires (now rows) i (now output) at ⌝ }
     ensures { λ r. ⌜ ((edition : Told.Edition) → ParameterIs edition (on 0x05 ▸ Rattle.meaning.specs.Kinds.comments ▸ Rattle.meaning.specs.Editions.text note ▸ outer parameters ∷ []) (now (pool .entry)) (now (rows .entry)) i (now (output .entry)) at r (now (output .exit))) ⌝ }
@@ -159,7 +159,7 @@ pub fn comments(rows: &[u32], pool: &[u8], i: usize, output: &mut [u8], at: usiz
     single(t, i)
 }
 
-// "06 payload length, number": lays the parameter that row i is. None begins there if row i is no such number.
+// "06 payload length": lays the parameter that row i is. None begins there if row i is no such number.
 pub fn payload_length(
     rows: &[u32],
     pool: &[u8],
@@ -174,7 +174,7 @@ pub fn payload_length(
     single(t, i)
 }
 
-// "07 payload encoding, text": lays the parameter that row i is. None begins there if row i is no such line.
+// "07 payload encoding text": lays the parameter that row i is. None begins there if row i is no such line.
 pub fn payload_encoding(
     rows: &[u32],
     pool: &[u8],

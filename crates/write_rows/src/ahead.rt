@@ -89,7 +89,7 @@ pub fn opened(
     Tried::Other
 }
 
-// "06 payload length, number": tries row i as one, and lays the code and its bytes.
+// "06 payload length": tries row i as one, and lays the code and its bytes.
 // Where it is another row, or its bytes are no number, nothing is laid.
 pub fn number(rows: &[u32], pool: &[u8], i: usize, output: &mut [u8], at: usize) -> Tried
     requires { ⌜ StageRequires (now rows) i (now output) at ⌝ }

@@ -25,7 +25,7 @@ ghost use Rattle.table.specs.Told.{editionOf};
 ghost use Rattle.writer.specs.Promise.{WritePromise, WrittenAs, SkipsChecked, unlessWrong, checkIs};
 
 // Takes an edition's number, rows, the pool of bytes that they view, and output. Lays the table's bytes over the front of the output.
-// "Accepted gives 0, bytes written, rows." "It checks 1, then 15 over all rows, then 5, then 16", and order 7 a wrong skip number "after 15's
+// "Accepted gives 0, bytes written, rows." "It checks 1, then 15 over all rows, then 5 .., then 16", and order 7 a wrong skip number "after 15's
 // other faults": a refusal gives its number and place, and changes nothing.
 pub fn write(edition: u32, rows: &[u32], pool: &[u8], output: &mut [u8]) -> Reply
     ensures { λ r. ⌜ WritePromise edition (now (rows .entry)) (now (pool .entry)) (now (output .entry)) r (now (output .exit)) ⌝ }
