@@ -17,7 +17,7 @@ use Rattle.write_rows.specs.Rooms.{ofKind, Needs, TextsIn, dates-lead}
 use Rattle.write_objects.specs.Turns.{agentsAt}
 use Rattle.write_rows.specs.Stages.{atParameters}
 use Rattle.write_inside.specs.Parameters.{Names, namingCode, namingMove, encryptedIn, agentsNext, InParameters}
-use Rattle.values.specs.Dates.{datesOf}
+use Rattle.date.specs.Dates.{datesOf}
 
 -- "Base: FE, length, representation, date"
 
