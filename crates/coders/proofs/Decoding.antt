@@ -23,8 +23,8 @@ use Rattle.coders.specs.declared.Date.{Date}
 use Rattle.values.specs.Stages.{span, spans, misses, Valued}
 use Rattle.values.specs.Answers.{valued-at, valued-refused}
 use Rattle.values.specs.Numbers.{counts, tally, tallied, Counted}
-use Rattle.values.specs.Dates.{reaching, dateLength, checkAt, earlier}
-use Rattle.values.specs.DateSteps.{date-begins, date-over, date-ends, date-wrong, date-goes}
+use Rattle.date.specs.Dates.{reaching, dateLength, checkAt, earlier}
+use Rattle.date.specs.DateSteps.{date-begins, date-over, date-ends, date-wrong, date-goes}
 use Rattle.coders.specs.declared.decode.DecodedDate.{DecodedDate}
 use Rattle.coders.specs.Stepped.{FailsAt, hasDesignator, Behind, TimeRead}
 use Rattle.coders.specs.Plain.{NumberDecodes, DateDecodes, DecodesReach, isDate, plainOf, undecodedAt}

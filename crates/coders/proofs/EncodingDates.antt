@@ -16,7 +16,7 @@ use Rattle.values.specs.declared.Value.the-variants.{Is, Refused}
 use Rattle.coders.specs.declared.encode.Encoded.{Encoded}
 use Rattle.values.specs.Stages.{span, spans, misses, Valued}
 use Rattle.values.specs.Answers.{valued-at, valued-refused}
-use Rattle.values.specs.Dates.{reaching, dateLength}
+use Rattle.date.specs.Dates.{reaching, dateLength}
 use Rattle.coders.specs.Plain.{Fits, tenBytes, DateEncodes, EncodesReach}
 use Rattle.laws.specs.Logic.{both-hold}
 use Rattle.coders.proofs.Decoding.{from-all}

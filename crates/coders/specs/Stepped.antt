@@ -10,8 +10,8 @@ use Rattle.meaning.specs.Bytes.{digitOf, twoDigits, passes, dateChecks, takeDat
 use Rattle.meaning.specs.Plain.{Date}
 use Rattle.laws.specs.From.{from}
 use Rattle.values.specs.Stages.{span}
-use Rattle.values.specs.Dates.{reaching, dateLength, checkAt, earlier}
-use Rattle.values.specs.DateSteps.{dateFrom}
+use Rattle.date.specs.Dates.{reaching, dateLength, checkAt, earlier}
+use Rattle.date.specs.DateSteps.{dateFrom}
 
 -- whether byte j is missing or does not pass its check
 pub record FailsAt (s : List ℕ) (isAbsolute : Bool) (j : ℕ) (r : Bool) : Type 0 where

@@ -2,18 +2,18 @@
 // an early end or a byte left over is refused at that offset."
 use crate::Date;
 use crate::is_date;
+use date::byte_passes;
 use table::kinds::DATE_ABSOLUTE;
 use table::refusals::DATE_WRONG;
 use table::refusals::NUMBER_WRONG;
 use values::bytes::wide;
-use values::date::byte_passes;
 use values::digits::digit;
 use values::digits::pair_at;
 use values::number::Number;
 use values::number::count;
 ghost use mathlib.Core.Path.{_≡_};
 ghost use Rattle.meaning.specs.Plain.{dated};
-ghost use Rattle.values.specs.Dates.{reaching};
+ghost use Rattle.date.specs.Dates.{reaching};
 ghost use Rattle.coders.specs.Plain.{NumberDecodes, DateDecodes, DecodesReach, plainOf, undecodedAt};
 ghost use Rattle.coders.specs.Stepped.{FailsAt, DayRead, TimeRead};
 

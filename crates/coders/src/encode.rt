@@ -3,12 +3,12 @@ use crate::Date;
 use crate::decimal::coded_byte;
 use crate::decimal::digit_count;
 use crate::is_date;
+use date::length_of;
 use table::kinds::DATE_ABSOLUTE;
 use table::refusals::DATE_WRONG;
 use table::refusals::NUMBER_WRONG;
 use table::refusals::OUTPUT_SHORT;
 use values::Value;
-use values::date::length_of;
 use values::digits::pair_byte;
 use values::number::MOST;
 ghost use mathlib.Core.Path.{_≡_};
@@ -17,7 +17,7 @@ ghost use Prim.Native.Nat.{_≤_};
 ghost use lib.ListN.{length};
 ghost use Rattle.meaning.specs.Memory.{laidOver};
 ghost use Rattle.meaning.specs.Plain.{dated};
-ghost use Rattle.values.specs.Dates.{reaching};
+ghost use Rattle.date.specs.Dates.{reaching};
 ghost use Rattle.coders.specs.Plain.{NumberEncodes, DateEncodes, EncodesReach, Fits, tenBytes, plainOf};
 
 // An answer, and the bytes written, or its place.
@@ -94,7 +94,7 @@ fn fitting(date: Date, absolute: bool, output: &mut [u8]) -> Encoded
     let designated = date.designator != 0;
     let many = length_of(designated);
     let bytes = ten_bytes(date);
-    let r = values::date::bytes(&bytes[..many], many, 0, 0, absolute, designated);
+    let r = date::bytes(&bytes[..many], many, 0, 0, absolute, designated);
     let Value::Is {
         kind: _,
         start: _,

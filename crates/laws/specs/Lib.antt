@@ -71,7 +71,7 @@ pub mod FirstFault
 pub mod ReadRefused
 pub mod Deepest
 pub mod Planning
-pub mod Limits
+pub mod PastLimits
 pub mod Stopping
 pub mod WriteRefused
 pub mod Demands

@@ -22,7 +22,7 @@ use Rattle.laws.specs.Stopping.{begins-plan, with-none}
 use Rattle.meaning.specs.Grammar.{Mark, Small, PastLimit}
 use Rattle.meaning.specs.WriterFaults.{AreTable, BeginTable, NoneWithNext, StopsAt, GoodRows, WriterFault, no-edition, no-table, wrong-skip, past-limit, no-room, WritesAs}
 use Rattle.laws.specs.Planning.{markOf, planned-table, table-planned}
-use Rattle.laws.specs.Limits.{LimitIs, limit-is, limit-fine, limit-past}
+use Rattle.laws.specs.PastLimits.{LimitIs, limit-is, limit-fine, limit-past}
 
 -- Where rows stop being a table
 

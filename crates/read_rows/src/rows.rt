@@ -12,7 +12,7 @@ ghost use Rattle.meaning.specs.Editions.{State, anyValues, representations};
 ghost use Rattle.laws.specs.Pouring.{headerMost, Ready};
 ghost use Rattle.laws.specs.Shapes.{Shaped};
 ghost use Rattle.table.specs.Told.{editionOf, toldOf};
-ghost use Rattle.values.specs.Dates.{datesOf};
+ghost use Rattle.date.specs.Dates.{datesOf};
 ghost use Rattle.values.specs.Stages.{ruleOf};
 ghost use Rattle.read_rows.specs.Stages.{goesOn, keeps, Fits, TextRead, NumberRead, StateRead};
 
@@ -93,7 +93,7 @@ pub fn date(
         StateRead (toldOf told) (now (s .entry)) end q at n (now (rows .entry)) r d (now (rows .exit))) ⌝ }
 {
     let edition = told.edition;
-    let v = values::date::take(s, end, at, edition);
+    let v = date::take(s, end, at, edition);
     keep(v, rows, n, level)
 }
 

@@ -25,7 +25,8 @@ use Rattle.laws.specs.Beside.{put-ranks, put-stands}
 use Rattle.laws.specs.Adjoining.{read-neighbours, neighbours-at}
 use Rattle.laws.specs.Pouring.{filled, stopped, headerMost}
 use Rattle.laws.specs.Finishing.{finish}
-use Rattle.skips.specs.Laying.{IsTop, Finishable, Finished}
+use Rattle.skips.specs.Ends.{IsTop}
+use Rattle.lay_skips.specs.Laying.{Finishable, Finished}
 use Rattle.table.specs.declared.reply.Reply.{Reply}
 use Rattle.table.specs.Reply.{replyOf}
 use Rattle.table.specs.declared.told.Edition.{Edition}

@@ -1,7 +1,7 @@
 // The reader: a header as rows and words in lent memory, and the payload behind it.
+use lay_skips::finish;
 use read_envelopes::header::read_header;
 use read_rows::Stage;
-use skips::lay::finish;
 use table::refusals::EDITION_UNKNOWN;
 use table::refusals::ROWS_SHORT;
 use table::reply::Reply;

@@ -1,4 +1,8 @@
 pub mod Owners
 pub mod Classes
-pub mod Laying
-pub mod Holding
+pub mod Owning
+pub mod Belonging
+pub mod Hops
+pub mod Passes
+pub mod Ends
+pub mod Classing

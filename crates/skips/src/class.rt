@@ -19,7 +19,7 @@ pub const IS_ENVELOPE: u32 = 0x4000;
 pub const BITS: u32 = 0x1000;
 
 // The class of each kind, from 0 on: how its rows are found, and bit n of the parameter with code n.
-pub const CLASSES: [u16; 30] = [
+const CLASSES: [u16; 30] = [
     0x0000, // no kind
     0x4000, // extension
     0x4000, // base
@@ -51,6 +51,13 @@ pub const CLASSES: [u16; 30] = [
     0x3000, // own value
     0x0800, // transport behaviour
 ];
+
+// All classes, for a pass to lay down once.
+pub fn all_classes() -> [u16; 30]
+    ensures { λ r. ⌜ ClassesAre r ⌝ }
+{
+    CLASSES
+}
 
 // Takes the classes, lent so that they are laid down once, and a kind. Answers its class.
 pub fn class_of(classes: &[u16; 30], kind: u32) -> u32

@@ -3,12 +3,11 @@ use Prim.Native.Nat.{ℕ, zero, suc, _+_, _-_, _*_, _≤_, _<_}
 use mathlib.Core.List.{List}
 use mathlib.Core.Bool.{Bool, true, false, _&&_}
 use mathlib.Core.Path.{_≡_, refl, ap, sym, _∙_}
-use native.Mathlib.Numerals.{add-one}
 use native.Mathlib.Omega.{arith}
 use borrow.Author.Tests.{ltb-true, ltb-false, le-ltb}
 use lib.Dec.{ltb}
 use lib.ListN.{length, getD}
-use Rattle.meaning.specs.Bytes.{Count, counted, short, highFirst, Width, oneByte, twoBytes, fourBytes, bytesOf, fewest, tooWide, takeBytes, blockOf, takeBlock}
+use Rattle.meaning.specs.Bytes.{highFirst, Width, oneByte, twoBytes, fourBytes, bytesOf, fewest, tooWide, takeBytes, blockOf, takeBlock}
 use Rattle.meaning.specs.Told.{strict, tolerant, Told}
 use Rattle.meaning.specs.Kinds.{anyBytes}
 use Rattle.laws.specs.From.{from, from-length, from-end, from-cons}

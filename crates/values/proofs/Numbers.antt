@@ -12,8 +12,7 @@ use Rattle.meaning.specs.Plain.{numberValue}
 use Rattle.laws.specs.From.{from, from-length, from-end, from-cons}
 use Rattle.values.specs.declared.number.Turning.{Turning}
 use Rattle.values.specs.declared.number.Turning.the-variants.{Stop, More, Wrong}
-use Rattle.values.specs.declared.number.Number.the-variants.{Counts, Fails}
-use Rattle.values.specs.Numbers.{turned, Worth, Turned, Tally, counts, fails, tally, tallied, Ends, Counted}
+use Rattle.values.specs.Numbers.{turned, Worth, Turned, counts, fails, tally}
 use Rattle.laws.specs.Logic.{both-hold}
 
 -- one byte, with the digit d of its upper half and whether it is one

@@ -5,7 +5,7 @@ ghost use Prim.Native.Nat.{_≤_, _<_};
 ghost use Rattle.meaning.specs.Bytes.{isDigit, digitOf, twoDigits};
 ghost use Rattle.meaning.specs.Plain.{pairByte};
 ghost use lib.ListN.{length};
-ghost use Rattle.values.specs.Dates.{PairAt};
+ghost use Rattle.values.specs.Digits.{PairAt};
 
 // Whether four bits code a digit.
 pub fn is_digit(bits: u32) -> bool

@@ -1,7 +1,6 @@
 // The values of an envelope: the stages that take one off the input.
 pub mod any;
 pub mod bytes;
-pub mod date;
 pub mod digits;
 mod eights;
 pub mod number;

@@ -1,5 +1,5 @@
 // Order 6, presence words: how many the reader borrows, and how many different codes a word carries. The words themselves are laid with the skip
-// numbers (`skips::lay`).
+// numbers (`lay_skips`).
 ghost use mathlib.Core.Path.{_≡_};
 ghost use Rattle.meaning.specs.Words.{onesOf};
 

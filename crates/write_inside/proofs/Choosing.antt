@@ -20,7 +20,7 @@ use Rattle.write_rows.specs.Stands.{fits-pass, led-row, LedBy, closing-first}
 use Rattle.write_rows.specs.Laying.{Laid}
 use Rattle.laws.specs.Rows.{cellsAt}
 use Rattle.write_rows.specs.Rooms.{ofKind, ownAmong, NotAmong}
-use Rattle.table.specs.Rows.{viewed, rowAhead, AheadIs, ahead-cells, ahead-row}
+use Rattle.table.specs.Rows.{rowAhead, AheadIs, ahead-cells, ahead-row}
 use Rattle.write_rows.specs.Stages.{RowTaken, TriedIs, Onward, AdvanceIs, Beyond, afterNeeded, atParameters}
 use Rattle.write_inside.specs.Parameters.{encryptedIn, afterOne, afterAdvance, InParameters, ParameterIs, KindAhead, ClosingAhead, FoundIs}
 use Rattle.table.specs.declared.rows.Ahead.{Ahead}

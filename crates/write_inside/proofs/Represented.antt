@@ -2,7 +2,7 @@
 use Prim.Native.Nat.{ℕ, _≤_}
 use mathlib.Core.List.{List, [], _∷_}
 use mathlib.Core.Bool.{false}
-use mathlib.Core.Path.{_≡_, refl, ap, sym, _∙_, subst}
+use mathlib.Core.Path.{_≡_, ap, sym, _∙_, subst}
 use lib.ListN.{length}
 use Rattle.meaning.specs.Editions.{state, parameters, parameterRepresentation, outer, Move, moves, representations}
 use Rattle.meaning.specs.Headers.{envelopeMost}

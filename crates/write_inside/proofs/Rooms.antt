@@ -2,10 +2,11 @@
 use Prim.Native.Nat.{ℕ, _≤_}
 use mathlib.Core.List.{[], _∷_}
 use mathlib.Core.Bool.{Bool, true, false}
-use mathlib.Core.Path.{_≡_, refl, sym, subst}
+use mathlib.Core.Path.{_≡_, refl, ap, sym, subst}
 use native.Mathlib.Omega.{arith}
 use lib.Dec.{eqb}
-use borrow.Author.Tests.{eqb-true, eqb-false}
+use borrow.Author.Tests.{eq-eqb, ne-eqb, eqb-true, eqb-false}
+use Rattle.meaning.specs.Basics.{pick}
 use Rattle.meaning.specs.Bytes.{line, note}
 use Rattle.meaning.specs.Kinds.{agentName, standardRepresentation, ownRepresentation, receivedBy, toOpens, fromOpens, receiverOpens, comments, payloadLength, payloadEncoding, encryptedOpens, encryptedItem, ownKey, ownValue, behaviourOpens}
 use Rattle.meaning.specs.Editions.{state, receivedBegins, headRepresentation, headDate, parameters, ownText, parameterRepresentation, behaviourValue, encryptedTexts, outer, text, number, opens, noCode, closing, moves, shared, own, representations, anyValues, go, on_▸_▸_▸_, pass_▸_}
@@ -16,7 +17,7 @@ use Rattle.write_rows.specs.Rooms.{ofKind, Needs, TextsIn, dates-lead}
 use Rattle.write_objects.specs.Turns.{agentsAt}
 use Rattle.write_rows.specs.Stages.{atParameters}
 use Rattle.write_inside.specs.Parameters.{Names, namingCode, namingMove, encryptedIn, agentsNext, InParameters}
-use Rattle.values.specs.Dates.{datesOf}
+use Rattle.date.specs.Dates.{datesOf}
 
 -- "Base: FE, length, representation, date"
 
@@ -42,12 +43,9 @@ unfolding moves shared own find
 own-text D = record { rows = refl; lead = (refl, refl, tt); lost = refl }
 own-text B = record { rows = refl; lead = (refl, refl, tt); lost = refl }
 
--- the only move of a kind that opens agents
+-- the only move of a kind that opens agents; nothing but the closing leads past its row
 pub record AgentsIn (edition : Edition) (kind : ℕ) : Type 0 where
   pub is : InParameters edition (namingMove kind)
-  pub alone : ofKind kind (namingMove kind ∷ []) ≡ namingMove kind ∷ []
-  pub shallow : eqb kind agentName ≡ false
-  pub inner : 3 ≤ kind
   pub coded : namingCode kind ≤ noCode
   pub led : wayTo kind ≡ closing
 
@@ -55,25 +53,24 @@ pub names-first : (edition : Edition) {kind : ℕ} → Names kind → AgentsIn e
 unfolding moves shared own
 names-first edition {kind} n = by (eqb kind toOpens) refl (eqb kind fromOpens) refl
   where
-    to : (edition : Edition) → AgentsIn edition toOpens
-    to D = record { is = refl; alone = refl; shallow = refl; inner = omega arith; coded = omega arith; led = refl }
-    to B = record { is = refl; alone = refl; shallow = refl; inner = omega arith; coded = omega arith; led = refl }
-
-    from : (edition : Edition) → AgentsIn edition fromOpens
-    from D = record { is = refl; alone = refl; shallow = refl; inner = omega arith; coded = omega arith; led = refl }
-    from B = record { is = refl; alone = refl; shallow = refl; inner = omega arith; coded = omega arith; led = refl }
-
-    receiver : (edition : Edition) → AgentsIn edition receiverOpens
-    receiver D = record { is = refl; alone = refl; shallow = refl; inner = omega arith; coded = omega arith; led = refl }
-    receiver B = record { is = refl; alone = refl; shallow = refl; inner = omega arith; coded = omega arith; led = refl }
+    all : (edition : Edition) → AgentsIn edition toOpens × AgentsIn edition fromOpens × AgentsIn edition receiverOpens
+    all D = (record { is = refl; coded = omega arith; led = refl }, record { is = refl; coded = omega arith; led = refl }, record { is = refl; coded = omega arith; led = refl })
+    all B = (record { is = refl; coded = omega arith; led = refl }, record { is = refl; coded = omega arith; led = refl }, record { is = refl; coded = omega arith; led = refl })
 
     by : (t : Bool) → eqb kind toOpens ≡ t → (f : Bool) → eqb kind fromOpens ≡ f → AgentsIn edition kind
-    by true q f r = subst (AgentsIn edition) (sym (eqb-true kind toOpens q)) (to edition)
-    by false q true r = subst (AgentsIn edition) (sym (eqb-true kind fromOpens r)) (from edition)
+    by true q f r = subst (AgentsIn edition) (sym (eqb-true kind toOpens q)) (all edition .0)
+    by false q true r = subst (AgentsIn edition) (sym (eqb-true kind fromOpens r)) (all edition .1)
     by false q false r =
         let x = eqb-false kind toOpens q in
         let y = eqb-false kind fromOpens r in
-        subst (AgentsIn edition) (omega (arith, n .0, n .1)) (receiver edition)
+        subst (AgentsIn edition) (omega (arith, n .0, n .1)) (all edition .2)
+
+-- no agent's name, whose level could be too deep
+pub names-shallow : {kind : ℕ} → Names kind → eqb kind agentName ≡ false
+names-shallow {kind} n = ne-eqb kind agentName (λ z. omega (arith, n .1))
+
+pub names-alone : (kind : ℕ) → ofKind kind (namingMove kind ∷ []) ≡ namingMove kind ∷ []
+names-alone kind = ap (λ (b : Bool). pick b (namingMove kind ∷ []) []) (eq-eqb kind kind refl)
 
 pub agents-begin : (one : Bool) → go (agentsNext one) atParameters ≡ agentsAt 1 one
 agents-begin true = refl

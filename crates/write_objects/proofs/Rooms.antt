@@ -12,7 +12,7 @@ use Rattle.meaning.specs.Told.{Edition, B, D}
 use Rattle.write_rows.specs.Rooms.{rowsOf, Closes, Needs, TextsIn, OptionalIn, ExtrasIn, dates-lead}
 use Rattle.write_objects.specs.Turns.{agentNames}
 use Rattle.write_rows.specs.Stages.{atParameters}
-use Rattle.values.specs.Dates.{datesOf}
+use Rattle.date.specs.Dates.{datesOf}
 
 -- "Received object: by (text), date, then optionally .. 02 from, 03 id, 04 via (texts), then in D extras, then 01"
 

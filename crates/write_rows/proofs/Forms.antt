@@ -12,11 +12,11 @@ use Rattle.meaning.specs.Basics.{pick, isEmpty}
 use Rattle.meaning.specs.Bytes.{Reach, absolute, relative, dateOk, dateChecks, blockOk, lengthBytes, oneByte, twoBytes, fourBytes}
 use Rattle.meaning.specs.Kinds.{standardRepresentation, anyBytes}
 use Rattle.meaning.specs.Editions.{Next, date, block, itself, Move, representations, anyValues, on_▸_▸_▸_}
-use Rattle.meaning.specs.Reading.{Row, Found, none, hit, find}
-use Rattle.meaning.specs.Writing.{valid, atLevel, standsFor, lead, writeValue, Cell, cell, broken}
+use Rattle.meaning.specs.Reading.{Found, none, hit, find}
+use Rattle.meaning.specs.Writing.{valid, atLevel, standsFor, lead, writeValue}
 use Rattle.laws.specs.Logic.{right-of}
 use Rattle.laws.specs.From.{from, from-length}
-use Rattle.values.specs.Dates.{reaching, datesOf}
+use Rattle.date.specs.Dates.{reaching, datesOf}
 use Rattle.table.specs.Rows.{rowWith, RowAhead, AheadIs, viewed, rowAhead, ahead-cells, ahead-row, u32Most}
 use Rattle.meaning.specs.Told.{Edition, B, D}
 use Rattle.write_rows.specs.Laying.{one, Laid, laid-as}

@@ -17,7 +17,7 @@ use Rattle.laws.specs.Values.{Was, text-byte-above, date-in, date-out, number-i
 use Rattle.values.specs.declared.Value.{Value}
 use Rattle.values.specs.declared.Value.the-variants.{Is, Refused}
 use Rattle.values.specs.Stages.{Span, span, spans, misses, Valued, Run}
-use Rattle.values.specs.Dates.{dateLength}
+use Rattle.date.specs.Dates.{dateLength}
 use Rattle.values.specs.Answers.{valued-at, valued-refused}
 
 -- A value that a stage takes whole, and no other

@@ -11,7 +11,7 @@ use Rattle.meaning.specs.Told.{Edition, B, D}
 use Rattle.meaning.specs.Editions.{State, state, Room, Next, stay, text, isQuiet, noCode, closing, Move, moves, representations, anyValues, go, on_▸_▸_▸_, pass_▸_}
 use Rattle.meaning.specs.Reading.{isClosed, tooDeep, Row, Found, none, hit, find}
 use Rattle.meaning.specs.Writing.{atLevel, standsFor, isPass, Cell, cell, broken}
-use Rattle.values.specs.Dates.{datesOf}
+use Rattle.date.specs.Dates.{datesOf}
 
 -- the moves that have a row
 abbrev pub rowsOf : List Move → List Move

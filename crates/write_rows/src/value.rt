@@ -6,7 +6,7 @@ ghost use mathlib.Core.Bool.{true};
 ghost use mathlib.Core.List.{[]};
 ghost use Rattle.meaning.specs.Bytes.{textOk, numberOk, dateOk, dateChecks};
 ghost use Rattle.values.specs.Stages.{ruleOf};
-ghost use Rattle.values.specs.Dates.{reaching};
+ghost use Rattle.date.specs.Dates.{reaching};
 
 // "Text: bytes 20 to FF", and in notes line breaks. Answers whether the rule allows all bytes: whether the reader's own run over them
 // comes to their end.
@@ -44,10 +44,10 @@ pub fn date_ok(bytes: &[u8], absolute: bool, designated: bool) -> bool
     ensures { λ r. ⌜ r ≡ dateOk (dateChecks (reaching absolute) designated) [] (now (bytes .entry)) ⌝ }
 {
     let end = bytes.len();
-    if end != values::date::length_of(designated) {
+    if end != date::length_of(designated) {
         return false;
     }
-    let r = values::date::bytes(bytes, end, 0, 0, absolute, designated);
+    let r = date::bytes(bytes, end, 0, 0, absolute, designated);
     let Value::Is {
         kind: _,
         start: _,

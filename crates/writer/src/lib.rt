@@ -1,5 +1,5 @@
 // The writer: "takes edition, rows, a pool of bytes that they view, and output".
-use skips::hold::first_wrong;
+use hold_skips::first_wrong;
 use table::refusals::EDITION_UNKNOWN;
 use table::refusals::ENVELOPE_LIMIT;
 use table::refusals::OUTPUT_SHORT;

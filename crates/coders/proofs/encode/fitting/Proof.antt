@@ -2,7 +2,7 @@
 use mathlib.Core.Path.{ap, _∙_}
 use native.Mathlib.Omega.{arith}
 use borrow.Author.Needs.{needs}
-use Rattle.values.specs.Dates.{reaching}
+use Rattle.date.specs.Dates.{reaching}
 use Rattle.coders.specs.Plain.{plainOf}
 use Rattle.meaning.specs.Memory.{laidOver}
 use Rattle.coders.proofs.Encoding.{encodes-out, encodes-short, encodes-laid}

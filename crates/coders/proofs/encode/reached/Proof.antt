@@ -1,7 +1,7 @@
 -- `encode::reached`: a date that does not fit its digits or a byte is out of range.
 use mathlib.Core.Path.{sym, _∙_}
 use borrow.Author.Needs.{needs}
-use Rattle.values.specs.Dates.{reaching}
+use Rattle.date.specs.Dates.{reaching}
 use Rattle.coders.specs.Plain.{plainOf}
 use Rattle.coders.proofs.Encoding.{encodes-out}
 use Rattle.meaning.specs.Plain.{dateBytes, dated}

@@ -3,7 +3,7 @@ use native.Mathlib.Omega.{arith}
 use borrow.Author.Needs.{needs}
 use Rattle.laws.specs.Pouring.{source}
 use Rattle.table.specs.Told.{editionOf, toldOf}
-use Rattle.values.specs.Dates.{datesOf}
+use Rattle.date.specs.Dates.{datesOf}
 use Rattle.read_rows.proofs.Values.{coded-fits, coded-kept}
 use Rattle.read_rows.proofs.rows.date.Statement.{statement}
 use Rattle.read_rows.proofs.rows.date.Tie as tie

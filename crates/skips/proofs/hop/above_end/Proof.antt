@@ -4,7 +4,7 @@ use native.Mathlib.Omega.{arith}
 use borrow.Author.Needs.{needs}
 use Rattle.laws.specs.Hopping.{HopsTo, hop-begins}
 use Rattle.skips.specs.Owners.{aboveTest}
-use Rattle.skips.proofs.Hops.{hops, hop-falls, stops, ends}
+use Rattle.skips.specs.Hops.{hops, hop-falls, stops, ends}
 use Rattle.skips.proofs.hop.above_end.Statement.{statement}
 use Rattle.skips.proofs.hop.above_end.Tie as tie
 

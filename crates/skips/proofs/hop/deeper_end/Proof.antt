@@ -5,7 +5,7 @@ use native.Mathlib.Omega.{arith}
 use borrow.Author.Tests.{lt-ltb, le-ltb}
 use Rattle.laws.specs.Hopping.{HopsTo, hop-begins}
 use Rattle.skips.specs.Owners.{deeperTest}
-use Rattle.skips.proofs.Hops.{hops, hop-falls, stops, ends}
+use Rattle.skips.specs.Hops.{hops, hop-falls, stops, ends}
 use Rattle.skips.proofs.hop.deeper_end.Statement.{statement}
 use Rattle.skips.proofs.hop.deeper_end.Tie as tie
 

@@ -1,6 +1,6 @@
 -- `owner::is_above`: where both stand, as one number each.
 use borrow.Author.Needs.{needs}
-use Rattle.skips.proofs.Owning.{stands-above}
+use Rattle.skips.specs.Owning.{stands-above}
 use Rattle.skips.proofs.owner.is_above.Statement.{statement}
 use Rattle.skips.proofs.owner.is_above.Tie as tie
 

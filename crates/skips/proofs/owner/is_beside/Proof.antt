@@ -1,5 +1,5 @@
 -- `owner::is_beside`: one kind or the other, and the owner's level.
-use Rattle.skips.proofs.Owning.{one-kind, other-kind, no-kind}
+use Rattle.skips.specs.Owning.{one-kind, other-kind, no-kind}
 use Rattle.skips.proofs.owner.is_beside.Statement.{statement}
 use Rattle.skips.proofs.owner.is_beside.Tie as tie
 

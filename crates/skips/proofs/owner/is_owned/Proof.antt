@@ -1,7 +1,7 @@
 -- `owner::is_owned`: each owner's own test.
 use mathlib.Core.Path.{refl}
 use Rattle.meaning.specs.Skips.{rank}
-use Rattle.skips.proofs.Owning.{by-owner}
+use Rattle.skips.specs.Owning.{by-owner}
 use borrow.Author.Needs.{needs}
 use Rattle.skips.proofs.owner.is_owned.Statement.{statement}
 use Rattle.skips.proofs.owner.is_owned.Tie as tie

@@ -1,5 +1,5 @@
 -- `owner::owner_of`: each arm is one kind's; all other kinds have nothing.
-use Rattle.skips.proofs.Owning.{of-addresses, of-agent, of-base, of-behaviour, of-encrypted, of-envelope, of-extra, of-from, of-others, of-own, of-received, of-receiver, of-resolvers, of-to}
+use Rattle.skips.specs.Owning.{of-addresses, of-agent, of-base, of-behaviour, of-encrypted, of-envelope, of-extra, of-from, of-others, of-own, of-received, of-receiver, of-resolvers, of-to}
 use Rattle.skips.proofs.owner.owner_of.Statement.{statement}
 use Rattle.skips.proofs.owner.owner_of.Tie as tie
 

@@ -3,7 +3,7 @@ use mathlib.Core.Path.{refl, sym}
 use native.Mathlib.Omega.{arith}
 use Rattle.meaning.specs.Reading.{look, find, takeValue}
 use Rattle.values.specs.Stages.{ended}
-use Rattle.values.proofs.Coded.{code-unknown, code-before}
+use Rattle.values.specs.Coded.{code-unknown, code-before}
 use Rattle.meaning.specs.Editions.{text, block}
 use Rattle.meaning.specs.Bytes.{note, oneByte, twoBytes, fourBytes}
 use Rattle.values.proofs.Tables.{no-any}

@@ -1,11 +1,10 @@
 -- `any::take_in_place`: two codes of the table of moves, or what `take` answers.
 use mathlib.Core.Path.{refl, sym}
-use native.Mathlib.Omega.{arith}
 use borrow.Author.Needs.{needs}
 use Rattle.meaning.specs.Reading.{look, find, takeValue}
 use Rattle.meaning.specs.Editions.{block}
 use Rattle.meaning.specs.Bytes.{oneByte, twoBytes}
-use Rattle.values.proofs.Coded.{code-before}
+use Rattle.values.specs.Coded.{code-before}
 use Rattle.values.proofs.any.take_in_place.Statement.{statement}
 use Rattle.values.proofs.any.take_in_place.Tie as tie
 

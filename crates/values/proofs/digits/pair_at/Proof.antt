@@ -2,7 +2,7 @@
 use Prim.Native.Nat.{_<_}
 use native.Mathlib.Omega.{arith}
 use borrow.Author.Needs.{needs}
-use Rattle.values.proofs.Dates.{pair-small}
+use Rattle.values.specs.Digits.{pair-small}
 use Rattle.values.proofs.digits.pair_at.Statement.{statement}
 use Rattle.values.proofs.digits.pair_at.Tie as tie
 

@@ -6,7 +6,7 @@ use lib.ListN.{getD}
 use Rattle.values.specs.Answers.{answered}
 use Rattle.meaning.specs.Reading.{look, find, takeValue}
 use Rattle.values.specs.Stages.{ended}
-use Rattle.values.proofs.Coded.{code-unknown, code-known, code-before}
+use Rattle.values.specs.Coded.{code-unknown, code-known, code-before}
 use Rattle.meaning.specs.Bytes.{line}
 use Rattle.meaning.specs.Editions.{text, itself}
 use Rattle.values.proofs.Tables.{standard, no-representation}

@@ -3,12 +3,9 @@ use Rattle.table.specs.Told.{editionOf}
 use Rattle.write_rows.specs.Onward.{tried-as, leading}
 use Rattle.write_rows.specs.Laying.{laid-layable}
 use Rattle.write_inside.proofs.Choosing.{after-first, parameter-row, tried-move}
-use Rattle.meaning.specs.Editions.{opens, on_▸_▸_▸_}
 use Rattle.meaning.specs.Kinds.{fromOpens}
-use Rattle.write_inside.proofs.Rooms.{agents-begin, names-first}
+use Rattle.write_inside.proofs.Rooms.{agents-begin, names-first, names-shallow}
 use Rattle.write_inside.specs.Parameters.{agentsNext, namingMove}
-use Prim.Native.Nat.{ℕ}
-use mathlib.Core.Path.{ap}
 use lib.Dec.{eqb}
 use borrow.Author.Needs.{needs}
 use native.Mathlib.Omega.{arith}
@@ -22,7 +19,7 @@ opened-requires : tie.Need-opened-requires
 opened-requires c κs =
     let entry = c .before .before .before .before .before in
     let first = names-first (editionOf (entry .args .edition)) (entry .pre .1) in
-    record { inside = entry .pre .0 .inside; inner = first .inner; coded = omega (arith, first .coded, c .before .naming-code .ensures); layable = entry .pre .0 .layable }
+    record { inside = entry .pre .0 .inside; inner = omega (arith, entry .pre .1 .0); coded = omega (arith, first .coded, c .before .naming-code .ensures); layable = entry .pre .0 .layable }
 
 enum-known-t : tie.Need-enum-known-t
 enum-known-t c = search needs
@@ -61,7 +58,7 @@ returns-2 c =
     let in-there = names-first (editionOf (a .edition)) (entry .pre .1) in
     let opened = c .before .before .before .before .before .before .before .before .before .before .opened in
     let first = tried-as _ _ _ _ _ _ _ _ (c .before .before .before .before .before .before .t .given .1) (tried-move (a .kind) (agentsNext one) _ _ _ _ _ (opened .result) _ (c .before .before .before .before .before .before .before .before .before .before .before .before .naming-code .ensures) (opened .ensures (agentsNext one))) in
-    let opening = parameter-row (editionOf (a .edition)) _ _ (namingMove (a .kind)) (in-there .is) (in-there .shallow) first in
+    let opening = parameter-row (editionOf (a .edition)) _ _ (namingMove (a .kind)) (in-there .is) (names-shallow (entry .pre .1)) first in
     after-first (editionOf (a .edition)) _ (entry .pre .0 .layable .small) (leading (agents-begin one) opening) (c .before .before .before .agents .result) _ (c .before .before .before .agents .ensures) (c .begun .ensures)
 
 pub naming-spec : {M : Type 1} → statement M

@@ -4,7 +4,7 @@ use Rattle.meaning.specs.Editions.{ownText, behaviourValue, parameters, outer, 
 use Rattle.meaning.specs.Kinds.{behaviourOpens, comments, encryptedOpens, ownKey, payloadEncoding, payloadLength}
 use Rattle.table.specs.Told.{editionOf}
 use Rattle.write_inside.proofs.Others.{closes-other, none-other, other-kind}
-use Rattle.write_inside.proofs.Rooms.{behaviour-first, comments-first, encoding-first, length-first, encrypted-is, names-first, own-first}
+use Rattle.write_inside.proofs.Rooms.{behaviour-first, comments-first, encoding-first, length-first, encrypted-is, names-alone, names-first, own-first}
 use Rattle.write_inside.proofs.Choosing.{found-kind, found-none, kind-ahead}
 use Rattle.write_inside.specs.Parameters.{encryptedIn, namingMove}
 use mathlib.Core.List.{[], _∷_}
@@ -114,7 +114,8 @@ returns-9 : tie.Need-returns-9
 returns-9 c =
     let d = editionOf (c .before .before .before .before .before .before .before .before .before .before .before .before .before .args .edition) in
     let first = names-first d (c .before .before .before .before .before .if3 .left, omega (arith, c .before .before .before .before .if4 .taken)) in
-    found-kind d _ _ _ _ (c .before .before .before .before .before .before .before .before .before .look-ahead .ensures) refl (first .led) _ _ (namingMove _ ∷ []) (first .is ∙ sym (first .alone)) (c .before .before .naming .result) _ (c .before .before .naming .ensures)
+    let kind = c .before .before .before .before .before .before .before .before .before .look-ahead .result .kind in
+    found-kind d _ _ _ _ (c .before .before .before .before .before .before .before .before .before .look-ahead .ensures) refl (first .led) _ _ (namingMove kind ∷ []) (first .is ∙ sym (names-alone kind)) (c .before .before .naming .result) _ (c .before .before .naming .ensures)
 
 returns-10 : tie.Need-returns-10
 returns-10 c =

@@ -1,5 +1,5 @@
 -- `dates::date`: kind and length pick a code; the row ahead is of another level, has no code, or its bytes are or are no date of that code.
-use Rattle.values.specs.Dates.{datesOf}
+use Rattle.date.specs.Dates.{datesOf}
 use Rattle.write_rows.specs.Laying.{laid-layable, laid-then}
 use Rattle.write_rows.proofs.Forms.{ahead-none, code-small, date-taken, date-unknown, date-wrong}
 use Rattle.table.specs.Told.{editionOf}

@@ -1,6 +1,6 @@
 -- `value::date_ok`: of the right length, and the reader's stage takes all of the bytes; or they are no such date.
 use Rattle.meaning.specs.Bytes.{dateChecks}
-use Rattle.values.specs.Dates.{reaching}
+use Rattle.date.specs.Dates.{reaching}
 use Rattle.write_rows.proofs.Values.{date-length, date-refused, date-whole}
 use borrow.Author.Needs.{needs}
 use mathlib.Core.Path.{_∙_, sym}

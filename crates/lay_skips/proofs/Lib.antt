@@ -1,0 +1,4 @@
+pub mod Running
+pub mod Turning
+pub mod Pushing
+pub mod Finishing
