@@ -18,8 +18,8 @@ use Rattle.meaning.specs.Memory.{row, cellsOf, ranksOf, skipsOf, skipsHeld, lai
 use Rattle.meaning.specs.Plain.{digitsWithin, digitsOf, packed, decodeNumber, numberDecoded, numberBytes, numberEncoded, dateOf, decodeDate, dateDecoded, dateInRange, dateEncoded}
 use Rattle.meaning.specs.Cases.{hex, aDate, baseWith, inMemory, baseRows, replyIs, outcomeIs}
 use Rattle.meaning.specs.Widths.{sizedBase}
-use Rattle.laws.specs.Logic.{areBytes}
-use Rattle.laws.specs.Ties.{plainTable}
+use Rattle.laws_steps.specs.Logic.{areBytes}
+use Rattle.laws_tables.specs.Ties.{plainTable}
 use Rattle.table.specs.declared.reply.Reply as declared
 use Rattle.reader.specs.Promises.{ReadsBy}
 use Rattle.writer.specs.Promise.{WritePromise}

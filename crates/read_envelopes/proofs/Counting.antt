@@ -8,9 +8,9 @@ use lib.ListN.{length}
 use Rattle.meaning.specs.Told.{Told}
 use Rattle.meaning.specs.Headers.{Placed, refused, accepted, envelopesMost, header}
 use Rattle.meaning.specs.Memory.{wordsRead}
-use Rattle.laws.specs.From.{from}
-use Rattle.laws.specs.Frames.{from-all}
-use Rattle.laws.specs.EnvelopeCounts.{base-alone, others-behind}
+use Rattle.laws_steps.specs.From.{from}
+use Rattle.laws_steps.specs.Frames.{from-all}
+use Rattle.laws_tables.specs.EnvelopeCounts.{base-alone, others-behind}
 use Rattle.read_envelopes.specs.declared.frame.Frame.{Frame}
 use Rattle.read_envelopes.specs.declared.frame.Frame.the-variants.{Opens, Refused}
 use Rattle.read_envelopes.specs.Frames.{framed, FrameFits, MayCome, HeaderFramed}

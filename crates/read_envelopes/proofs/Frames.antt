@@ -11,9 +11,9 @@ use Rattle.meaning.specs.Basics.{pick}
 use Rattle.meaning.specs.Told.{Told}
 use Rattle.meaning.specs.Headers.{Answer, refused, envelopeMost, Onward, neither, identifierOf, header}
 use Rattle.meaning.specs.Headers as meaning
-use Rattle.laws.specs.From.{from}
-use Rattle.laws.specs.Frames.{Identified, identifierIs}
-use Rattle.laws.specs.Finishing.{finish, opened}
+use Rattle.laws_steps.specs.From.{from}
+use Rattle.laws_steps.specs.Frames.{Identified, identifierIs}
+use Rattle.laws_steps.specs.Finishing.{finish, opened}
 use Rattle.read_envelopes.specs.declared.frame.Frame.{Frame}
 use Rattle.read_envelopes.specs.declared.frame.Frame.the-variants.{Opens, Refused}
 use Rattle.read_envelopes.specs.declared.envelope.Envelope.{Envelope}

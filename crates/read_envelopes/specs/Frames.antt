@@ -5,8 +5,8 @@ use mathlib.Core.Path.{_≡_}
 use lib.ListN.{length}
 use Rattle.meaning.specs.Told.{Told}
 use Rattle.meaning.specs.Headers.{Answer, refused, envelopeMost, Onward, header}
-use Rattle.laws.specs.From.{from}
-use Rattle.laws.specs.Finishing.{opened}
+use Rattle.laws_steps.specs.From.{from}
+use Rattle.laws_steps.specs.Finishing.{opened}
 use Rattle.read_envelopes.specs.declared.frame.Frame.{Frame}
 use Rattle.read_envelopes.specs.declared.frame.Frame.the-variants.{Opens, Refused}
 

@@ -12,7 +12,7 @@ ghost use mathlib.Core.Path.{_≡_};
 ghost use Prim.Native.Nat.{_+_, _*_, _≤_, _<_};
 ghost use lib.ListN.{length};
 ghost use Rattle.meaning.specs.Headers.{opening, envelopeMost};
-ghost use Rattle.laws.specs.Pouring.{headerMost, Ready};
+ghost use Rattle.laws_steps.specs.Pouring.{headerMost, Ready};
 ghost use Rattle.table.specs.Told.{toldOf};
 ghost use Rattle.read_envelopes.specs.Envelopes.{EnvelopeRead, EnvelopeOpened, endedBy, closedBy};
 

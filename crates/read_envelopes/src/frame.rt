@@ -15,8 +15,8 @@ ghost use lib.Dec.{eqb};
 ghost use lib.ListN.{length};
 ghost use Rattle.meaning.specs.Bytes.{highFirst};
 ghost use Rattle.meaning.specs.Headers.{envelope, sized};
-ghost use Rattle.laws.specs.From.{from};
-ghost use Rattle.laws.specs.Frames.{Identified};
+ghost use Rattle.laws_steps.specs.From.{from};
+ghost use Rattle.laws_steps.specs.Frames.{Identified};
 ghost use Rattle.read_envelopes.specs.Frames.{FrameRead, HeaderFramed};
 
 // Which envelope opens, where its inside begins and its declared end; or the refusal.

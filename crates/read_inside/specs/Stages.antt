@@ -4,8 +4,8 @@ use mathlib.Core.List.{List}
 use mathlib.Core.Bool.{false}
 use Rattle.meaning.specs.Told.{Told}
 use Rattle.meaning.specs.Editions.{parameters, State, state}
-use Rattle.laws.specs.Rows.{put}
-use Rattle.laws.specs.Pouring.{source, runAt}
+use Rattle.laws_steps.specs.Rows.{put}
+use Rattle.laws_steps.specs.Pouring.{source, runAt}
 use Rattle.read_rows.specs.declared.Stage.{Stage}
 use Rattle.read_rows.specs.Stages.{Ran}
 

@@ -8,7 +8,7 @@ use table::told::Told;
 ghost use mathlib.Core.Bool.{true, false};
 ghost use Rattle.meaning.specs.Editions.{state, parameters, closed};
 ghost use Rattle.meaning.specs.Headers.{start};
-ghost use Rattle.laws.specs.Pouring.{Ready};
+ghost use Rattle.laws_steps.specs.Pouring.{Ready};
 ghost use Rattle.table.specs.Told.{toldOf};
 ghost use Rattle.read_rows.specs.Stages.{StateRead};
 

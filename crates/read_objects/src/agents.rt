@@ -23,8 +23,8 @@ ghost use Rattle.meaning.specs.Bytes.{line};
 ghost use Rattle.meaning.specs.Kinds.{agentName};
 ghost use Rattle.meaning.specs.Told as meaning;
 ghost use Rattle.meaning.specs.Editions.{state, go, agentEnds, listEnds, agentList, oneAgent, afterName, afterAddresses, afterResolvers, parameters};
-ghost use Rattle.laws.specs.Pouring.{Ready};
-ghost use Rattle.laws.specs.Shapes.{InList};
+ghost use Rattle.laws_steps.specs.Pouring.{Ready};
+ghost use Rattle.laws_steps.specs.Shapes.{InList};
 ghost use Rattle.table.specs.Told.{toldOf};
 ghost use Rattle.read_rows.specs.Stages.{StateRead, TextRead};
 

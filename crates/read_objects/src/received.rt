@@ -14,7 +14,7 @@ use table::told::Told;
 use values::text::Rule;
 ghost use mathlib.Core.Bool.{false};
 ghost use Rattle.meaning.specs.Editions.{state, receivedBegins, afterDate, afterVia, parameters};
-ghost use Rattle.laws.specs.Pouring.{Ready};
+ghost use Rattle.laws_steps.specs.Pouring.{Ready};
 ghost use Rattle.table.specs.Told.{toldOf};
 ghost use Rattle.read_rows.specs.Stages.{StateRead};
 

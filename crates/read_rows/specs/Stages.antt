@@ -9,8 +9,8 @@ use Rattle.meaning.specs.Bytes.{Rule}
 use Rattle.meaning.specs.Kinds.{payloadLength}
 use Rattle.meaning.specs.Told.{Told}
 use Rattle.meaning.specs.Editions.{State}
-use Rattle.laws.specs.Rows.{put}
-use Rattle.laws.specs.Pouring.{Filling, stopped, Source, source, runAt, textAt, numberAt, headerMost}
+use Rattle.laws_steps.specs.Rows.{put}
+use Rattle.laws_steps.specs.Pouring.{Filling, stopped, Source, source, runAt, textAt, numberAt, headerMost}
 use Rattle.values.specs.declared.Value.{Value}
 use Rattle.values.specs.declared.Value.the-variants as value
 use Rattle.read_rows.specs.declared.Stage.{Stage}

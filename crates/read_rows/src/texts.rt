@@ -13,8 +13,8 @@ ghost use Rattle.meaning.specs.Bytes.{line};
 ghost use Rattle.meaning.specs.Kinds.{extraKey};
 ghost use Rattle.meaning.specs.Told as meaning;
 ghost use Rattle.meaning.specs.Editions.{State, anyValues};
-ghost use Rattle.laws.specs.Pouring.{Ready};
-ghost use Rattle.laws.specs.Shapes.{Shaped, Texts, Optional, Extras};
+ghost use Rattle.laws_steps.specs.Pouring.{Ready};
+ghost use Rattle.laws_steps.specs.Shapes.{Shaped, Texts, Optional, Extras};
 ghost use Rattle.table.specs.Told.{toldOf};
 ghost use Rattle.read_rows.specs.Stages.{StateRead, TextRead};
 

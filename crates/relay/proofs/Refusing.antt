@@ -14,10 +14,10 @@ use Rattle.meaning.specs.Headers.{accepted, envelopeMost, envelopesMost, header
 use Rattle.meaning.specs.Writing.{Envelope, Plan, stuck, plan, envelopeSize, withinLimit}
 use Rattle.meaning.specs.Memory.{reply, skipsHeld, wordsRead}
 use Rattle.meaning.specs.Relay.{extensionPlan, relayed, unrelayed, jointOf, joinedPlan, behindOld, relayUnder, relay, relayAnswer, relayRows, relayWords, relayOutput}
-use Rattle.laws.specs.Logic.{areBytes, both-hold}
-use Rattle.laws.specs.Rows.{cellsAt, cells-are}
-use Rattle.laws.specs.Ties.{read-as}
-use Rattle.laws.specs.JoinedRead.{refused-as-read}
+use Rattle.laws_steps.specs.Logic.{areBytes, both-hold}
+use Rattle.laws_steps.specs.Rows.{cellsAt, cells-are}
+use Rattle.laws_tables.specs.Ties.{read-as}
+use Rattle.laws_tables.specs.JoinedRead.{refused-as-read}
 use Rattle.table.specs.declared.reply.Reply.{Reply}
 use Rattle.table.specs.Reply.{replyOf}
 use Rattle.table.specs.declared.told.Label.{Label}

@@ -28,7 +28,7 @@ ghost use Rattle.meaning.specs.Told as told;
 ghost use Rattle.meaning.specs.Headers.{envelopeMost};
 ghost use Rattle.meaning.specs.Memory.{skipsHeld};
 ghost use Rattle.meaning.specs.Relay.{extensionPlan};
-ghost use Rattle.laws.specs.Rows.{cellsAt};
+ghost use Rattle.laws_steps.specs.Rows.{cellsAt};
 ghost use Rattle.table.specs.Told.{editionOf};
 ghost use Rattle.reader.specs.Promises.{AcceptedHeader};
 ghost use Rattle.write_envelopes.specs.Whole.{checkedOf};

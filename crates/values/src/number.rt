@@ -11,7 +11,7 @@ ghost use mathlib.Core.Bool.{true};
 ghost use Prim.Native.Nat.{_≤_, _<_};
 ghost use Rattle.meaning.specs.Bytes.{takeNumber, numberMost};
 ghost use Rattle.meaning.specs.Kinds.{payloadLength};
-ghost use Rattle.laws.specs.From.{from};
+ghost use Rattle.laws_steps.specs.From.{from};
 ghost use Rattle.values.specs.Stages.{Inside, Valued};
 ghost use Rattle.values.specs.Numbers.{Turned, Counted};
 

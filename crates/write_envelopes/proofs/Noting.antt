@@ -7,7 +7,7 @@ use lib.ListN.{length, take, drop, set, length-append, length-set}
 use lib.Seq.{set-split, take-at, length-take-le}
 use borrow.Author.Tests.{eq-eqb, ne-eqb}
 use Rattle.meaning.specs.Writing.{Envelope, Plan, wholePlan, Limit, fine}
-use Rattle.laws.specs.Rows.{cellsAt}
+use Rattle.laws_steps.specs.Rows.{cellsAt}
 use Rattle.meaning.specs.Told.{Edition}
 use Rattle.meaning.specs.Headers.{envelopesMost}
 use Rattle.meaning.specs.Kinds.{baseOpens}

@@ -12,7 +12,7 @@ use write_inside::body::Bodied;
 use write_inside::body::open_at;
 ghost use mathlib.Core.Path.{_≡_};
 ghost use Rattle.meaning.specs.Relay.{extensionPlan};
-ghost use Rattle.laws.specs.Rows.{cellsAt};
+ghost use Rattle.laws_steps.specs.Rows.{cellsAt};
 ghost use Rattle.table.specs.Told.{editionOf};
 ghost use Rattle.write_envelopes.specs.Whole.{checkedOf};
 ghost use Rattle.write_envelopes.specs.Extension.{extensionVerdict, ExtensionFits, ExtensionLaid};

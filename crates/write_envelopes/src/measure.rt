@@ -20,7 +20,7 @@ ghost use lib.ListN.{length, set};
 ghost use Rattle.meaning.specs.Headers.{start, envelopeMost, envelopesMost};
 ghost use Rattle.meaning.specs.Memory.{roomOf};
 ghost use Rattle.meaning.specs.Writing.{envelopeSize, wholePlan};
-ghost use Rattle.laws.specs.Rows.{cellsAt};
+ghost use Rattle.laws_steps.specs.Rows.{cellsAt};
 ghost use Rattle.table.specs.Told.{editionOf};
 ghost use Rattle.write_rows.specs.Bodies.{bodyOf};
 ghost use Rattle.write_envelopes.specs.Whole.{bad, passedAt, Measured, OneMore, limitOf, endVerdict, checkedOf, CheckedAs};

@@ -13,8 +13,8 @@ use Rattle.meaning.specs.Writing.{Cell, Envelope, Plan, stuck, plan, wholePlan,
 use Rattle.meaning.specs.Skips.{Skips, right, wrongAt}
 use Rattle.meaning.specs.Memory.{cellsOf, skipsHeld, reply, laidOver, write, writeAnswer, writeOutput, roomOf}
 use Rattle.meaning.specs.Present.{passed as passes, checkOf, checked}
-use Rattle.laws.specs.Logic.{areBytes}
-use Rattle.laws.specs.Rows.{cellsAt, cells-are}
+use Rattle.laws_steps.specs.Logic.{areBytes}
+use Rattle.laws_steps.specs.Rows.{cellsAt, cells-are}
 use Rattle.meaning.specs.Headers.{envelopesMost}
 use Rattle.write_envelopes.specs.Whole.{Verdict, bad, needs, verdictOf, verdict, checkedOf, bytesOfPlan, Writable}
 use Rattle.table.specs.Reply.{replyOf}

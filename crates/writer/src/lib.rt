@@ -20,7 +20,7 @@ ghost use Rattle.meaning.specs.Headers.{envelopesMost};
 ghost use Rattle.meaning.specs.Writing.{wholePlan, writeRows};
 ghost use Rattle.meaning.specs.Memory.{cellsOf, skipsHeld};
 ghost use Rattle.meaning.specs.Present.{checked};
-ghost use Rattle.laws.specs.Rows.{cellsAt};
+ghost use Rattle.laws_steps.specs.Rows.{cellsAt};
 ghost use Rattle.table.specs.Told.{editionOf};
 ghost use Rattle.writer.specs.Promise.{WritePromise, WrittenAs, SkipsChecked, unlessWrong, checkIs};
 

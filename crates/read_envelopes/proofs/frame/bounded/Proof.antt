@@ -1,7 +1,7 @@
 -- `frame::bounded`: the tests in their order, then the declared bytes as places.
 use native.Mathlib.Omega.{arith}
 use borrow.Author.Needs.{needs}
-use Rattle.laws.specs.Frames.{opens-at, too-far, too-long, too-low}
+use Rattle.laws_steps.specs.Frames.{opens-at, too-far, too-long, too-low}
 use Rattle.read_envelopes.proofs.Frames.{frame-opens, frame-refused}
 use Rattle.read_envelopes.proofs.frame.bounded.Statement.{statement}
 use Rattle.read_envelopes.proofs.frame.bounded.Tie as tie

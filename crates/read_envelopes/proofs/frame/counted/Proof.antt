@@ -1,6 +1,6 @@
 -- `frame::counted`: the seventeenth is refused, any other goes on to its length.
 use borrow.Author.Needs.{needs}
-use Rattle.laws.specs.Frames.{may-open, one-too-many}
+use Rattle.laws_steps.specs.Frames.{may-open, one-too-many}
 use Rattle.read_envelopes.proofs.Frames.{header-framed, refused-at-frame}
 use Rattle.read_envelopes.proofs.frame.counted.Statement.{statement}
 use Rattle.read_envelopes.proofs.frame.counted.Tie as tie

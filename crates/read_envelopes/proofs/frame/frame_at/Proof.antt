@@ -2,7 +2,7 @@
 use mathlib.Core.Path.{sym, _∙_}
 use lib.ListN.{getD}
 use borrow.Author.Needs.{needs}
-use Rattle.laws.specs.Frames.{no-envelope, no-identifier}
+use Rattle.laws_steps.specs.Frames.{no-envelope, no-identifier}
 use Rattle.read_envelopes.proofs.Frames.{refused-at-frame, identified-by, identified-none}
 use Rattle.read_envelopes.proofs.frame.frame_at.Statement.{statement}
 use Rattle.read_envelopes.proofs.frame.frame_at.Tie as tie

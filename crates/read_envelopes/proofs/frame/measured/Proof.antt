@@ -1,7 +1,7 @@
 -- `frame::measured`: two bytes, and four more if they are zero.
 use native.Mathlib.Omega.{arith}
 use borrow.Author.Needs.{needs}
-use Rattle.laws.specs.Frames.{long-form, no-length, no-long-length, short-form}
+use Rattle.laws_steps.specs.Frames.{long-form, no-length, no-long-length, short-form}
 use Rattle.read_envelopes.proofs.Frames.{frame-begun, frame-refused}
 use Rattle.read_envelopes.proofs.frame.measured.Statement.{statement}
 use Rattle.read_envelopes.proofs.frame.measured.Tie as tie
