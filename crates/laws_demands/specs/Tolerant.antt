@@ -16,7 +16,7 @@ use Rattle.meaning.specs.Headers.{Placed, Answer, refused, accepted, envelopesM
 use Rattle.meaning.specs.Memory.{tableOf, write}
 use Rattle.meaning.specs.Writing.{written}
 use Rattle.meaning.specs.Cases.{hex}
-use Rattle.meaning.specs.Widths.{sizedBase}
+use Rattle.meaning.specs.WidthCases.{sizedBase}
 use Rattle.laws_steps.specs.Logic.{areBytes}
 use Rattle.laws_tables.specs.WrittenBytes.{bytes-append}
 use Rattle.laws_tables.specs.Refusals.{mayRefuse, refused-shape}

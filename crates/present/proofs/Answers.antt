@@ -14,8 +14,8 @@ use Rattle.laws_tables.specs.Passing.{firstAt}
 use Rattle.laws_tables.specs.PresentValues.{Walkable, passed-walkable, present-at}
 use Rattle.table.specs.declared.reply.Reply as declared
 use Rattle.table.specs.Reply.{replyOf}
-use Rattle.write_envelopes.specs.declared.measure.Checked.{Checked}
-use Rattle.write_envelopes.specs.declared.measure.Checked.the-variants.{Bad, Needs}
+use Rattle.table.specs.declared.answers.Checked.{Checked}
+use Rattle.table.specs.declared.answers.Checked.the-variants.{Bad, Needs}
 use Rattle.writer.specs.Promise.{checkIs}
 use Rattle.present.specs.Promise.{PresentPromise}
 

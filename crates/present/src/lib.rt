@@ -1,4 +1,5 @@
 // Document 02, order 1: present values. "The delivery desk wants one value for each parameter": the first that the envelopes have, in their order.
+use table::answers::Checked;
 use table::kinds::BASE_OPENS;
 use table::kinds::EXTENSION_OPENS;
 use table::parameters::can_ask;
@@ -14,7 +15,6 @@ use table::rows::skip_at;
 use table::told::Edition;
 use table::told::Label;
 use table::told::label_of;
-use write_envelopes::measure::Checked;
 use writer::check_rows;
 ghost use mathlib.Core.Path.{_≡_};
 ghost use mathlib.Core.Bool.{true};

@@ -1,8 +1,8 @@
 // One envelope: its identifier and length, its own row, its inside, and whether its 01 stands at the declared end.
-use crate::frame::Frame;
-use crate::frame::frame_at;
+use frames::frame::Frame;
+use frames::frame::frame_at;
 use read_inside::inside::read_inside;
-use read_rows::Stage;
+use table::answers::Stage;
 use table::kinds::BASE_OPENS;
 use table::kinds::EXTENSION_OPENS;
 use table::refusals::CLOSED_EARLY;

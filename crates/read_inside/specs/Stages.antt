@@ -6,7 +6,7 @@ use Rattle.meaning.specs.Told.{Told}
 use Rattle.meaning.specs.Editions.{parameters, State, state}
 use Rattle.laws_steps.specs.Rows.{put}
 use Rattle.laws_steps.specs.Pouring.{source, runAt}
-use Rattle.read_rows.specs.declared.Stage.{Stage}
+use Rattle.table.specs.declared.answers.Stage.{Stage}
 use Rattle.read_rows.specs.Stages.{Ran}
 
 -- a stage behind an opening row at the place `at`

@@ -2,8 +2,8 @@
 // Each function answers the place behind what it read with the rows then, or the first refusal.
 use crate::parameters::read_parameters;
 use read_objects::received::read_received;
-use read_rows::Stage;
 use read_rows::rows;
+use table::answers::Stage;
 use table::told::Told;
 ghost use mathlib.Core.Bool.{true, false};
 ghost use Rattle.meaning.specs.Editions.{state, parameters, closed};

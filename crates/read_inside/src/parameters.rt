@@ -3,13 +3,13 @@
 use read_objects::agents::read_list;
 use read_objects::agents::read_one;
 use read_objects::received::read_received;
-use read_rows::Stage;
 use read_rows::look::CLOSING;
 use read_rows::look::fault;
 use read_rows::look::in_parts;
 use read_rows::look::peek;
 use read_rows::rows;
 use read_rows::texts;
+use table::answers::Stage;
 use table::kinds::BEHAVIOUR_OPENS;
 use table::kinds::COMMENTS;
 use table::kinds::ENCRYPTED_ITEM;

@@ -1,12 +1,12 @@
 // "Agent: 02, name text, optionally 02 and addresses (texts, then 01), optionally 03 and resolvers (an agent list), extras, 01."
 // Each function answers the place behind what it read with the rows then, or the first refusal.
-use read_rows::Stage;
 use read_rows::look::CLOSING;
 use read_rows::look::fault;
 use read_rows::look::in_parts;
 use read_rows::look::peek;
 use read_rows::rows;
 use read_rows::texts;
+use table::answers::Stage;
 use table::codes::agent_extra;
 use table::kinds::ADDRESS;
 use table::kinds::ADDRESSES_OPEN;

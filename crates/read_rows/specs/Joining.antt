@@ -13,8 +13,8 @@ use Rattle.laws_steps.specs.ReadAt.{foreign, passed-at}
 use Rattle.laws_steps.specs.Shapes.{Extras}
 use Rattle.table.specs.Rows.{u32Most}
 use Rattle.values.specs.Stages.{Inside}
-use Rattle.read_rows.specs.declared.Stage.{Stage}
-use Rattle.read_rows.specs.declared.Stage.the-variants.{Go, Refused}
+use Rattle.table.specs.declared.answers.Stage.{Stage}
+use Rattle.table.specs.declared.answers.Stage.the-variants.{Go, Refused}
 use Rattle.read_rows.specs.Stages.{after, Moved, Ran, faultOf}
 
 less-moved : (end least lower : ℕ) (r : Stage) → lower ≤ least → Moved least end r → Moved lower end r

@@ -1,5 +1,5 @@
 // The byte at a place, and the refusal where no code stands that is allowed.
-use crate::Stage;
+use table::answers::Stage;
 use table::codes;
 use table::refusals::CODE_WRONG;
 use table::refusals::ENVELOPE_ENDS;

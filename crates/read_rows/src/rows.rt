@@ -1,6 +1,6 @@
 // One value and its row. Each function takes the value off the input from its first byte on, and the count n of rows so far.
 // It answers the place behind the value and n + 1, with the row put as row n where `rows` has room for it; or the value's refusal, with no row changed.
-use crate::Stage;
+use table::answers::Stage;
 use table::rows::put_row;
 use table::told::Told;
 use values::Value;

@@ -1,9 +1,9 @@
 // Runs of rows of one shape. Each function takes n rows so far and answers the place behind what it read with the rows then, or the first refusal.
-use crate::Stage;
 use crate::look::CLOSING;
 use crate::look::fault;
 use crate::look::peek;
 use crate::rows;
+use table::answers::Stage;
 use table::kinds::EXTRA_KEY;
 use table::told::Told;
 use values::text::Rule;

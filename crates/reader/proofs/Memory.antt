@@ -34,8 +34,8 @@ use Rattle.table.specs.declared.told.Label.{Label}
 use Rattle.table.specs.declared.told.Label.the-variants.{Known, Unknown}
 use Rattle.table.specs.declared.told.Strictness as declared
 use Rattle.table.specs.Told.{labelIs, strictnessOf, toldOf}
-use Rattle.read_rows.specs.declared.Stage.{Stage}
-use Rattle.read_rows.specs.declared.Stage.the-variants.{Go, Refused}
+use Rattle.table.specs.declared.answers.Stage.{Stage}
+use Rattle.table.specs.declared.answers.Stage.the-variants.{Go, Refused}
 use Rattle.read_envelopes.specs.Headers.{fillingOf, PlaceFits, HeaderRead}
 use Rattle.reader.specs.Promises.{ReadsBy, PartPromise, PayloadPromise, AcceptedHeader, Surveyed, Counted}
 

@@ -23,15 +23,15 @@ use Rattle.table.specs.Reply.{replyOf}
 use Rattle.table.specs.declared.told.Label.{Label}
 use Rattle.table.specs.declared.told.Label.the-variants.{Unknown}
 use Rattle.table.specs.Told.{labelIs}
-use Rattle.read_rows.specs.declared.Stage.{Stage}
-use Rattle.read_rows.specs.declared.Stage.the-variants.{Refused}
-use Rattle.read_envelopes.specs.Counts.{EnvelopesCounted}
+use Rattle.table.specs.declared.answers.Stage.{Stage}
+use Rattle.table.specs.declared.answers.Stage.the-variants.{Refused}
+use Rattle.frames.specs.Counts.{EnvelopesCounted}
 use Rattle.reader.specs.Promises.{AcceptedHeader, Counted}
 use Rattle.write_rows.specs.Laying.{capped, capped-most}
 use Rattle.write_envelopes.specs.Whole.{checkedOf}
 use Rattle.write_envelopes.specs.Extension.{extensionVerdict}
-use Rattle.write_envelopes.specs.declared.measure.Checked.{Checked}
-use Rattle.write_envelopes.specs.declared.measure.Checked.the-variants.{Bad, Needs}
+use Rattle.table.specs.declared.answers.Checked.{Checked}
+use Rattle.table.specs.declared.answers.Checked.the-variants.{Bad, Needs}
 use Rattle.writer.specs.Promise.{unlessWrong}
 use Rattle.relay.specs.Promise.{RelayPromise, newVerdict, OneMoreFits, Joinable}
 

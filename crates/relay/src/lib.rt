@@ -1,9 +1,10 @@
 // Document 02, order 2: the relay. "The gateway may not alter an envelope it received; it puts a new one in front."
-use read_envelopes::count::count_envelopes;
-use read_rows::Stage;
+use frames::count::count_envelopes;
 use reader::count;
 use reader::fill;
 use reader::room_with;
+use table::answers::Checked;
+use table::answers::Stage;
 use table::limits::ENVELOPE_MOST;
 use table::limits::ENVELOPES_MOST;
 use table::refusals::EDITION_UNKNOWN;
@@ -19,7 +20,6 @@ use table::told::Strictness;
 use table::told::label_of;
 use write_envelopes::extension::check_extension;
 use write_envelopes::extension::put_extension;
-use write_envelopes::measure::Checked;
 use write_envelopes::measure::size_of;
 use writer::skips_before;
 ghost use mathlib.Core.Path.{_≡_};

@@ -1,11 +1,11 @@
 // Order 2: a table of one extension envelope and nothing else.
 use crate::envelope::put_envelope;
-use crate::measure::Checked;
 use crate::measure::ENVELOPES;
 use crate::measure::Sizes;
 use crate::measure::ended;
 use crate::measure::measure;
 use crate::measure::no_table;
+use table::answers::Checked;
 use table::kinds::EXTENSION_OPENS;
 use table::told::Edition;
 use write_inside::body::Bodied;

@@ -1,4 +1,5 @@
 // The pass that checks and measures: "15 over all rows, then 5 (place: the envelope's row)".
+use table::answers::Checked;
 use table::kinds::BASE_OPENS;
 use table::limits::ENVELOPE_MOST;
 use table::limits::ENVELOPES_MOST;
@@ -27,12 +28,6 @@ ghost use Rattle.write_envelopes.specs.Whole.{bad, passedAt, Measured, O
 
 // How many envelopes' lengths the check notes: as many as a table may have.
 pub const ENVELOPES: usize = ENVELOPES_MOST as usize;
-
-// A refusal, or the bytes needed.
-pub enum Checked {
-    Bad { answer: u32, place: usize },
-    Needs(usize),
-}
 
 // The envelopes so far: how many may still come, their bytes, and the row of the first that is past a limit.
 pub struct Sizes {

@@ -20,8 +20,8 @@ use Rattle.write_envelopes.specs.Whole.{Verdict, bad, needs, verdictOf, verdict
 use Rattle.table.specs.Reply.{replyOf}
 use Rattle.writer.specs.Promise.{WrittenAs, WritePromise, skipsVerdict, SkipsChecked, checkIs}
 use Rattle.table.specs.declared.reply.Reply.{Reply}
-use Rattle.write_envelopes.specs.declared.measure.Checked.{Checked}
-use Rattle.write_envelopes.specs.declared.measure.Checked.the-variants.{Bad, Needs}
+use Rattle.table.specs.declared.answers.Checked.{Checked}
+use Rattle.table.specs.declared.answers.Checked.the-variants.{Bad, Needs}
 
 -- The writer by the verdict
 

@@ -1,5 +1,6 @@
 // The writer: "takes edition, rows, a pool of bytes that they view, and output".
 use hold_skips::first_wrong;
+use table::answers::Checked;
 use table::refusals::EDITION_UNKNOWN;
 use table::refusals::ENVELOPE_LIMIT;
 use table::refusals::OUTPUT_SHORT;
@@ -11,7 +12,6 @@ use table::told::Edition;
 use table::told::Label;
 use table::told::label_of;
 use write_envelopes::envelope::put_all;
-use write_envelopes::measure::Checked;
 use write_envelopes::measure::ENVELOPES;
 use write_envelopes::measure::check;
 ghost use mathlib.Core.Path.{_≡_};
