@@ -5,14 +5,14 @@
 #define _XOPEN_SOURCE 700
 
 #include "gamulisyan.h"
-#include "inputs.h"
+#include "headers.h"
 
 #include <stdio.h>
 #include <stdlib.h>
 #include <string.h>
 #include <ucontext.h>
 
-enum { STACK = 1 << 20, PAINT = 0xA5, RETURN_ADDRESS = 8, EDITION = GAMULISYAN_EDITION_D, DEEP_INPUT = 2, MOST_NUMBERS = 1 << 20 };
+enum { STACK = 1 << 20, PAINT = 0xA5, RETURN_ADDRESS = 8, EDITION = GAMULISYAN_EDITION_D, MOST_NUMBERS = 1 << 20 };
 
 static unsigned char stack[STACK];
 static ucontext_t here;
@@ -170,6 +170,45 @@ static void print(const char *entry, const char *input, size_t with, size_t with
         print("gamulisyan_" #entry, input, depth_of(entry##_call), without); \
     } while (0)
 
+/* An extra whose value is a text. */
+static void put_extra(void)
+{
+    put_bytes(&headers, "\x05key\0\x14", 6);
+    put_bytes(&headers, "a text that is longer than two stretches of sixteen bytes", 58);
+}
+
+/* An envelope's front; its length is put in where it ends. */
+static void close_short(size_t start)
+{
+    size_t length = length_of(&headers) - start;
+    headers.bytes[start + 1] = (uint8_t)(length >> 8);
+    headers.bytes[start + 2] = (uint8_t)length;
+}
+
+/* What goes deepest: a received object with an extra in an extension's head, and behind it a base whose agents stand in each other's
+   resolvers, the one of level 8 with an extra. */
+static const char *build_deepest(void)
+{
+    enum { LEVELS = 8 };
+    headers.count = 0;
+    headers.places[0] = headers.places[1] = 0;
+    put_bytes(&headers, "\xFD\0\0by\0\x20\x31\x11\x16\x19\x15\x37\x62\x59\x20", 16);
+    put_extra();
+    put_bytes(&headers, "\x01\x01", 2);
+    close_short(0);
+    size_t base = length_of(&headers);
+    put_bytes(&headers, "\xFE\0\0\x12\x20\x31\x11\x16\x19\x15\x37\x62\x59\x20\x02", 15);
+    for (unsigned level = 1; level < LEVELS; level++)
+        put_bytes(&headers, "\x02name\0\x03", 7);
+    put_bytes(&headers, "\x02name\0", 6);
+    put_extra();
+    for (unsigned level = 0; level < LEVELS; level++)
+        put_bytes(&headers, "\x01\x01", 2);
+    put(&headers, 0x01);
+    close_short(base);
+    return "8 levels of resolvers with an extra, behind a received object with one";
+}
+
 static void must(int accepted, const char *entry)
 {
     if (!accepted) {
@@ -180,7 +219,7 @@ static void must(int accepted, const char *entry)
 
 int main(void)
 {
-    const char *deep = build_input(DEEP_INPUT, &headers);
+    const char *deep = build_deepest();
     MEASURE(read, deep);
     must(answer.answer == GAMULISYAN_ACCEPTED, "read");
     numbers = answer.rows * GAMULISYAN_ROW_NUMBERS;
