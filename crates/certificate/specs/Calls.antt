@@ -17,9 +17,10 @@ use Rattle.meaning.specs.Headers.{Placed, Answer, refused, accepted, readBy, re
 use Rattle.meaning.specs.Writing.{Written, written, unwritten}
 use Rattle.meaning.specs.Memory.{tableOf, cellsOf, skipsOf, roomOf, laidOver, Reply, readReply, readMemory, wordsRead, roomWith, answerBy, rowsBy, wordsBy, writeReply, writeMemory, write, writeAnswer, writeOutput}
 use Rattle.meaning.specs.Payload.{partStart, partEnd, partBytes, payloadStart, payloadEnd, payloadBytes}
-use Rattle.laws.specs.PlainRows.{other}
-use Rattle.laws.specs.Ties.{numberOf, SameMeaning, plainTable}
-use Rattle.laws.specs.Demands.{read-then-written, ReadsSame, written-then-read, RefusedSevenOrNine, label-cannot-lie, payload-alters-nothing, accepted-shape}
+use Rattle.laws_steps.specs.PlainRows.{other}
+use Rattle.laws_tables.specs.Ties.{numberOf, SameMeaning, plainTable}
+use Rattle.laws_demands.specs.Demands.{read-then-written, ReadsSame, written-then-read, RefusedSevenOrNine, label-cannot-lie, payload-alters-nothing}
+use Rattle.laws_tables.specs.Answered.{accepted-shape}
 use Rattle.listing.specs.Listed.{table-length}
 use Rattle.table.specs.declared.reply.Reply as declared
 use Rattle.reader.specs.declared.Part.{Part}

@@ -14,8 +14,8 @@ use Rattle.meaning.specs.Bytes.{numberMost}
 use Rattle.meaning.specs.Memory.{laidOver}
 use Rattle.meaning.specs.Plain.{Outcome, outcome, encodeOutcome, encodeMemory, Date as PlainDate, decoded, valueOf, numberValue, decodeNumber, numberDecoded, numberPlain, numberBytes, numberEncoded, numberOutput, dateOf, dateBytes, decodeDate, componentsOf, dateDecoded, datePlain, dateInRange, dateEncoded, dateOutput}
 use Rattle.meaning.specs.Kinds.{dateAbsolute}
-use Rattle.laws.specs.Days.{DayExists, day-exists}
-use Rattle.laws.specs.Demands.{number-again, number-bytes-again, date-again, date-bytes-again}
+use Rattle.laws_demands.specs.Days.{DayExists, day-exists}
+use Rattle.laws_demands.specs.Demands.{number-again, number-bytes-again, date-again, date-bytes-again}
 use Rattle.coders.specs.declared.decode.DecodedNumber.{DecodedNumber}
 use Rattle.coders.specs.declared.decode.DecodedDate.{DecodedDate}
 use Rattle.coders.specs.declared.Date.{Date}

@@ -15,9 +15,9 @@ use Rattle.meaning.specs.Memory.{roomOf, Reply, reply, readReply, roomWith, ans
 use Rattle.meaning.specs.Grammar.{HeaderOf}
 use Rattle.meaning.specs.Faults.{ReaderRefusal}
 use Rattle.meaning.specs.WriterFaults.{WriterFault, WritesAs}
-use Rattle.laws.specs.Decisive.{decidedBy}
-use Rattle.laws.specs.ReadRefused.{placeOf}
-use Rattle.laws.specs.Demands.{accepts-exactly, refuses-exactly, first-fault-decides, cut-before-place, writes-exactly, writer-refuses-exactly}
+use Rattle.laws_demands.specs.Decisive.{decidedBy}
+use Rattle.laws_demands.specs.ReadRefused.{placeOf}
+use Rattle.laws_demands.specs.Demands.{accepts-exactly, refuses-exactly, first-fault-decides, cut-before-place, writes-exactly, writer-refuses-exactly}
 use Rattle.table.specs.declared.reply.Reply as declared
 use Rattle.reader.specs.Promises.{ReadPromise}
 use Rattle.writer.specs.Promise.{WritePromise}

@@ -15,11 +15,12 @@ use Rattle.meaning.specs.Headers.{Placed, Answer, refused, accepted, readBy}
 use Rattle.meaning.specs.Writing.{Written, written, unwritten}
 use Rattle.meaning.specs.Memory.{rowWidth, tableOf, cellsOf, skipsHeld, roomOf, laidOver, Reply, reply, readReply, readMemory, wordsRead, roomWith, answerBy, rowsBy, wordsBy, writeReply, writeMemory, write, writeAnswer, writeOutput}
 use Rattle.meaning.specs.Plain.{Decoded, decoded, undecoded, Outcome, outcome, decodeOutcome, encodeOutcome, encodeMemory}
-use Rattle.laws.specs.Rows.{rows-whole}
-use Rattle.laws.specs.Plans.{written-writes}
-use Rattle.laws.specs.Ties.{SameMeaning, written-known}
-use Rattle.laws.specs.WriterRefusals.{WriterRefusal, no-edition, no-table, past-limit, no-room}
-use Rattle.laws.specs.Demands.{refused-shape, unwritten-shape}
+use Rattle.laws_steps.specs.Rows.{rows-whole}
+use Rattle.laws_steps.specs.Plans.{written-writes}
+use Rattle.laws_tables.specs.Ties.{SameMeaning, written-known}
+use Rattle.laws_demands.specs.WriterRefusals.{WriterRefusal, no-edition, no-table, past-limit, no-room}
+use Rattle.laws_demands.specs.Demands.{unwritten-shape}
+use Rattle.laws_tables.specs.Answered.{refused-shape}
 use Rattle.listing.specs.Listed.{table-length}
 use Rattle.coders.specs.declared.encode.Encoded.{Encoded}
 use Rattle.table.specs.declared.reply.Reply as declared

@@ -11,10 +11,10 @@ use Rattle.meaning.specs.Codes.{canAsk}
 use Rattle.meaning.specs.Headers.{envelopesMost}
 use Rattle.meaning.specs.Memory.{ranksOf, Reply}
 use Rattle.meaning.specs.Lookup.{lookup}
-use Rattle.laws.specs.Firsts.{firstFrom}
-use Rattle.laws.specs.PresentValues.{zero-means}
-use Rattle.laws.specs.PassedOver.{levelZero}
-use Rattle.laws.specs.LookedUp.{TrueWords, LooksUp, written-looks-up, read-looks-up, looks-up-present}
+use Rattle.laws_tables.specs.Firsts.{firstFrom}
+use Rattle.laws_demands.specs.PresentAnswers.{zero-means}
+use Rattle.laws_demands.specs.PassedOver.{levelZero}
+use Rattle.laws_demands.specs.LookedUp.{TrueWords, LooksUp, written-looks-up, read-looks-up, looks-up-present}
 use Rattle.table.specs.declared.reply.Reply as declared
 use Rattle.reader.specs.Promises.{ReadsBy}
 use Rattle.writer.specs.Promise.{WritePromise}

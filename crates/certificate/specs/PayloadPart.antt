@@ -13,7 +13,7 @@ use Rattle.meaning.specs.Told.{Edition, Label, known, unknown, labelOf, strict,
 use Rattle.meaning.specs.Headers.{Answer, refused, accepted, envelopesMost, labelled, readBy, read}
 use Rattle.meaning.specs.Memory.{Reply, reply, readReply, roomWith, answerBy}
 use Rattle.meaning.specs.Payload.{partStart, partEnd, partBytes, payloadStart, payloadEnd, payloadBytes}
-use Rattle.laws.specs.Refusals.{mayRefuse, refused-shape as header-refused}
+use Rattle.laws_tables.specs.Refusals.{mayRefuse, refused-shape as header-refused}
 use Rattle.table.specs.declared.reply.Reply as declared
 use Rattle.reader.specs.declared.Part.{Part}
 use Rattle.reader.specs.Promises.{ReadPromise, PartPromise, PayloadPromise}

@@ -17,9 +17,9 @@ use Rattle.meaning.specs.Words.{occurs, wordOf, wordsOf}
 use Rattle.meaning.specs.Memory.{row, cellsOf, ranksOf, skipsOf, skipsHeld, laidOver, write, answerBy, rowsBy, wordsBy, readAnswer, writeAnswer, writeOutput}
 use Rattle.meaning.specs.Plain.{digitsWithin, digitsOf, packed, decodeNumber, numberDecoded, numberBytes, numberEncoded, dateOf, decodeDate, dateDecoded, dateInRange, dateEncoded}
 use Rattle.meaning.specs.Cases.{hex, aDate, baseWith, inMemory, baseRows, replyIs, outcomeIs}
-use Rattle.meaning.specs.Widths.{sizedBase}
-use Rattle.laws.specs.Logic.{areBytes}
-use Rattle.laws.specs.Ties.{plainTable}
+use Rattle.meaning.specs.WidthCases.{sizedBase}
+use Rattle.laws_steps.specs.Logic.{areBytes}
+use Rattle.laws_tables.specs.Ties.{plainTable}
 use Rattle.table.specs.declared.reply.Reply as declared
 use Rattle.reader.specs.Promises.{ReadsBy}
 use Rattle.writer.specs.Promise.{WritePromise}

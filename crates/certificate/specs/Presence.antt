@@ -11,10 +11,10 @@ use Rattle.meaning.specs.Skips.{Rank, isEnvelope, belonging}
 use Rattle.meaning.specs.Words.{wordOf, wordsOf, codesIn, onesOf}
 use Rattle.meaning.specs.Headers.{envelopesMost}
 use Rattle.meaning.specs.Memory.{numbersOf, ranksOf, wordsRead}
-use Rattle.laws.specs.RightSkips.{table-ranks}
-use Rattle.laws.specs.Presence.{ones-codes, no-other-bit}
-use Rattle.laws.specs.AllTabled.{accepted-tabled}
-use Rattle.laws.specs.Wording.{tabled-split, words-count, HeadBits, head-bits}
+use Rattle.laws_tables.specs.RightSkips.{table-ranks}
+use Rattle.laws_tables.specs.Presence.{ones-codes, no-other-bit}
+use Rattle.laws_tables.specs.AllTabled.{accepted-tabled}
+use Rattle.laws_tables.specs.Wording.{tabled-split, words-count, HeadBits, head-bits}
 use Rattle.table.specs.declared.reply.Reply as declared
 use Rattle.reader.specs.Promises.{ReadsBy}
 use Rattle.certificate.specs.Lent.{firstRows, laid-front, laid-behind, rows-read, accepted-call}

@@ -17,12 +17,13 @@ use Rattle.meaning.specs.Writing.{Written, written, unwritten, valid, writeValu
 use Rattle.meaning.specs.Memory.{Reply, reply, ranksOf, cellsOf, skipsOf, skipsHeld, roomOf, write, writeReply, writeAnswer}
 use Rattle.meaning.specs.Present.{copyAll, allEnvelopes, present, passed, checked, presentAnswer}
 use Rattle.meaning.specs.Cases.{hex, baseWith, inMemory, baseRows, replyIs}
-use Rattle.laws.specs.Logic.{areBytes}
-use Rattle.laws.specs.PlainRows.{other}
-use Rattle.laws.specs.Ties.{numberOf, plainTable}
-use Rattle.laws.specs.Hopping.{rankAt}
-use Rattle.laws.specs.Passing.{FirstIs}
-use Rattle.laws.specs.PresentValues.{AllWell, zero-means, all-well, present-is, has-kind, refused-as-written, found-as-written, found-without-room, no-such-code, same-under-other}
+use Rattle.laws_steps.specs.Logic.{areBytes}
+use Rattle.laws_steps.specs.PlainRows.{other}
+use Rattle.laws_tables.specs.Ties.{numberOf, plainTable}
+use Rattle.laws_steps.specs.Hopping.{rankAt}
+use Rattle.laws_tables.specs.Passing.{FirstIs}
+use Rattle.laws_tables.specs.PresentValues.{present-is, has-kind}
+use Rattle.laws_demands.specs.PresentAnswers.{AllWell, zero-means, all-well, refused-as-written, found-as-written, found-without-room, no-such-code, same-under-other}
 use Rattle.table.specs.declared.reply.Reply as declared
 use Rattle.writer.specs.Promise.{WritePromise}
 use Rattle.present.specs.Promise.{PresentPromise}

@@ -16,7 +16,7 @@ use Rattle.meaning.specs.Memory.{rowWidth, wordsBorrowed, laidOver, reply, answ
 use Rattle.meaning.specs.Plain.{digitsWithin, digitsOf}
 use Rattle.meaning.specs.Listing.{inputMost, rowsLent, decimal, viewed, lineOf}
 use Rattle.meaning.specs.Cases.{hex, baseWith, inMemory, baseRows}
-use Rattle.laws.specs.Logic.{areBytes}
+use Rattle.laws_steps.specs.Logic.{areBytes}
 use Rattle.table.specs.declared.reply.Reply.{Reply}
 use Rattle.listing.specs.Text.{rowOf, viewOf, rowText, linesFrom, linesOf, viewFrom, rowFrom, textAt}
 use Rattle.listing.specs.Pieces.{pieceLeast, cursor, stopAt, NextPiece}

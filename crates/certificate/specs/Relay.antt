@@ -15,11 +15,11 @@ use Rattle.meaning.specs.Headers.{Placed, Answer, refused, accepted, envelopesM
 use Rattle.meaning.specs.Writing.{Plan, stuck, plan}
 use Rattle.meaning.specs.Memory.{Reply, reply, rowWidth, cellsOf, skipsHeld, laidOver, readReply, roomWith, answerBy}
 use Rattle.meaning.specs.Relay.{extensionPlan, Joint, bytesOf, joinedTable, joinedWords, joinedCount, Relayed, relayed, unrelayed, jointOf, oneMoreFits, joinedSkips, joinedPlan, behindOld, relayUnder, relay, relayReply, relayMemory, relayAnswer, relayRows, relayWords, relayOutput}
-use Rattle.laws.specs.Logic.{areBytes}
-use Rattle.laws.specs.Ties.{read-as}
-use Rattle.laws.specs.Demands.{refused-shape, accepted-shape}
-use Rattle.laws.specs.Joined.{Joins, joins}
-use Rattle.laws.specs.JoinedRead.{joinedRows, count-joined, table-is, words-are, joined-read, refused-as-read}
+use Rattle.laws_steps.specs.Logic.{areBytes}
+use Rattle.laws_tables.specs.Ties.{read-as}
+use Rattle.laws_tables.specs.Answered.{refused-shape, accepted-shape}
+use Rattle.laws_tables.specs.Joined.{Joins, joins}
+use Rattle.laws_tables.specs.JoinedRead.{joinedRows, count-joined, table-is, words-are, joined-read, refused-as-read}
 use Rattle.listing.specs.Listed.{table-length}
 use Rattle.table.specs.declared.reply.Reply as declared
 use Rattle.reader.specs.Promises.{ReadPromise}

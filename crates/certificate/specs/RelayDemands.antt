@@ -21,14 +21,15 @@ use Rattle.meaning.specs.Memory.{row, Reply, reply, tableOf, cellsOf, ranksOf, 
 use Rattle.meaning.specs.Present.{present}
 use Rattle.meaning.specs.Relay.{joinedTable, relay, relayAnswer}
 use Rattle.meaning.specs.Cases.{hex, aDate, baseWith, inMemory, replyIs}
-use Rattle.laws.specs.Logic.{areBytes}
-use Rattle.laws.specs.PlainRows.{other}
-use Rattle.laws.specs.Ties.{numberOf, plainTable}
-use Rattle.laws.specs.Demands.{read-then-written}
-use Rattle.laws.specs.Joined.{Joins}
-use Rattle.laws.specs.JoinedDemands.{joined-bytes, joined-then-written}
-use Rattle.laws.specs.JoinedValues.{joined-present, joined-date}
-use Rattle.laws.specs.PresentValues.{found-as-written}
+use Rattle.laws_steps.specs.Logic.{areBytes}
+use Rattle.laws_steps.specs.PlainRows.{other}
+use Rattle.laws_tables.specs.Ties.{numberOf, plainTable}
+use Rattle.laws_demands.specs.Demands.{read-then-written}
+use Rattle.laws_tables.specs.Joined.{Joins}
+use Rattle.laws_demands.specs.JoinedDemands.{joined-then-written}
+use Rattle.laws_tables.specs.JoinedLaid.{joined-bytes}
+use Rattle.laws_demands.specs.JoinedValues.{joined-present, joined-date}
+use Rattle.laws_demands.specs.PresentAnswers.{found-as-written}
 use Rattle.table.specs.declared.reply.Reply as declared
 use Rattle.reader.specs.Promises.{ReadPromise}
 use Rattle.writer.specs.Promise.{WritePromise}

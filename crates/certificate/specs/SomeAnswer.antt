@@ -14,8 +14,8 @@ use Rattle.meaning.specs.Payload.{partStart, partEnd, partBytes, payloadStart, 
 use Rattle.meaning.specs.Memory.{rowWidth, wordsBorrowed}
 use Rattle.meaning.specs.Plain.{numberDecoded, numberPlain, numberEncoded, numberOutput, Date as PlainDate, dateDecoded, datePlain, dateEncoded, dateOutput}
 use Rattle.meaning.specs.Listing.{inputMost, rowsLent, tooLong, listing}
-use Rattle.laws.specs.Logic.{areBytes}
-use Rattle.laws.specs.Demands.{accepted-shape}
+use Rattle.laws_steps.specs.Logic.{areBytes}
+use Rattle.laws_tables.specs.Answered.{accepted-shape}
 use Rattle.table.specs.declared.reply.Reply as declared
 use Rattle.reader.specs.declared.Part.{Part}
 use Rattle.reader.specs.Promises.{PartPromise, PayloadPromise}

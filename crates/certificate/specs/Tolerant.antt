@@ -14,9 +14,9 @@ use Rattle.meaning.specs.Told.{strict, tolerant}
 use Rattle.meaning.specs.Headers.{Answer, refused, accepted, read, readTolerant}
 use Rattle.meaning.specs.Writing.{written}
 use Rattle.meaning.specs.Memory.{tableOf, Reply, reply, readReply, readMemory, wordsRead, roomWith, answerBy, rowsBy, wordsBy, write}
-use Rattle.laws.specs.Tolerance.{After}
-use Rattle.laws.specs.Tolerant.{tolerant-agrees, accepted-agrees, never-eleven, behind-eleven, short-form}
-use Rattle.laws.specs.Demands.{written-then-read}
+use Rattle.laws_demands.specs.Tolerance.{After}
+use Rattle.laws_demands.specs.Tolerant.{tolerant-agrees, accepted-agrees, never-eleven, behind-eleven, short-form}
+use Rattle.laws_demands.specs.Demands.{written-then-read}
 use Rattle.listing.specs.Listed.{table-length}
 use Rattle.table.specs.declared.reply.Reply as declared
 use Rattle.reader.specs.Promises.{ReadPromise, TolerantPromise}

@@ -5,7 +5,7 @@ use mathlib.Core.List.{List}
 use mathlib.Core.Path.{_≡_, sym, subst}
 use lib.ListN.{length}
 use Rattle.meaning.specs.Told.{Strictness}
-use Rattle.laws.specs.Walks.{Walked, read-walks, written-walks}
+use Rattle.laws_demands.specs.Walks.{Walked, read-walks, written-walks}
 use Rattle.table.specs.declared.reply.Reply as declared
 use Rattle.reader.specs.Promises.{ReadsBy}
 use Rattle.writer.specs.Promise.{WritePromise}

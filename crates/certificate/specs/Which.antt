@@ -14,9 +14,9 @@ use Rattle.meaning.specs.Told.{Edition}
 use Rattle.meaning.specs.Headers.{Placed, Answer, refused, accepted, read}
 use Rattle.meaning.specs.Memory.{Reply, reply, readReply, readMemory, roomWith, tableOf, wordsRead, laidOver, answerBy, rowsBy, wordsBy}
 use Rattle.meaning.specs.Which.{Sorted, sorted, editionsOf, readEither, whichAnswer, whichRows, whichWords}
-use Rattle.laws.specs.Logic.{areBytes}
-use Rattle.laws.specs.Ties.{numberOf, plainTable}
-use Rattle.laws.specs.Sorting.{names, allowed-named, allowed-rows, three-if-plain-table, written-named}
+use Rattle.laws_steps.specs.Logic.{areBytes}
+use Rattle.laws_tables.specs.Ties.{numberOf, plainTable}
+use Rattle.laws_demands.specs.Sorting.{names, allowed-named, allowed-rows, three-if-plain-table, written-named}
 use Rattle.table.specs.declared.reply.Reply as declared
 use Rattle.reader.specs.Promises.{ReadPromise}
 use Rattle.writer.specs.Promise.{WritePromise}

@@ -14,7 +14,7 @@ use Rattle.meaning.specs.Basics.{pick}
 use Rattle.meaning.specs.Bytes.{Taken, took, failed, prefixed, Check, passes, absolute, relative, dateChecks, takeDate, takeNumber, digitOf}
 use Rattle.meaning.specs.Plain.{decoded, undecoded, exactly, Reached, noReach, reachOf, numberValue, decodeNumber, numberDecoded, numberPlain, Date as PlainDate, dateOf, dated, decodeDate, dateDecoded, datePlain}
 use Rattle.meaning.specs.Kinds.{dateAbsolute, dateForward, dateBackward}
-use Rattle.laws.specs.From.{from, from-length, from-end, from-cons}
+use Rattle.laws_steps.specs.From.{from, from-length, from-end, from-cons}
 use Rattle.values.specs.declared.Value.{Value}
 use Rattle.values.specs.declared.Value.the-variants.{Is, Refused}
 use Rattle.values.specs.declared.number.Number.{Number}

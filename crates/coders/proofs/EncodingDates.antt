@@ -10,7 +10,7 @@ use lib.ListN.{length, take}
 use Rattle.meaning.specs.Basics.{pick}
 use Rattle.meaning.specs.Bytes.{Taken, took, failed, prefixed, Check, letter, passes, absolute, relative, dateChecks, takeDate, dateOk}
 use Rattle.meaning.specs.Plain.{Date, outcome, encodeOutcome, encodeMemory, Reached, dated, reachOf, reachAllows, designated, fitsDigits, pairByte, dateBytes, dateInRange, dateEncoded, dateOutput}
-use Rattle.laws.specs.From.{from}
+use Rattle.laws_steps.specs.From.{from}
 use Rattle.values.specs.declared.Value.{Value}
 use Rattle.values.specs.declared.Value.the-variants.{Is, Refused}
 use Rattle.coders.specs.declared.encode.Encoded.{Encoded}
@@ -18,7 +18,7 @@ use Rattle.values.specs.Stages.{span, spans, misses, Valued}
 use Rattle.values.specs.Answers.{valued-at, valued-refused}
 use Rattle.date.specs.Dates.{reaching, dateLength}
 use Rattle.coders.specs.Plain.{Fits, tenBytes, DateEncodes, EncodesReach}
-use Rattle.laws.specs.Logic.{both-hold}
+use Rattle.laws_steps.specs.Logic.{both-hold}
 use Rattle.coders.proofs.Decoding.{from-all}
 
 -- what the code's test of the components says

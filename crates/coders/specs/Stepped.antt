@@ -8,7 +8,7 @@ use lib.Dec.{ltb}
 use lib.ListN.{length, getD}
 use Rattle.meaning.specs.Bytes.{digitOf, twoDigits, passes, dateChecks, takeDate}
 use Rattle.meaning.specs.Plain.{Date}
-use Rattle.laws.specs.From.{from}
+use Rattle.laws_steps.specs.From.{from}
 use Rattle.values.specs.Stages.{span}
 use Rattle.date.specs.Dates.{reaching, dateLength, checkAt, earlier}
 use Rattle.date.specs.DateSteps.{dateFrom}

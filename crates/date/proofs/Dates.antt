@@ -16,7 +16,7 @@ use Rattle.date.specs.declared.Form.{Form}
 use Rattle.date.specs.declared.Form.the-variants.{Dated, Unknown}
 use Rattle.values.specs.Stages.{Bears}
 use Rattle.date.specs.Dates.{reaching, absoluteCheck, pairCheck, checkAt, earlier, datesOf, DateCode}
-use Rattle.laws.specs.Logic.{both-hold}
+use Rattle.laws_steps.specs.Logic.{both-hold}
 
 -- the code's tests of a byte are its check: the bytes of two digits are in the order of what they say
 alike : (x y : Bool) → (x ≡ true → y ≡ true) → (y ≡ true → x ≡ true) → x ≡ y

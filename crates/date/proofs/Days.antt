@@ -8,7 +8,7 @@ use borrow.Author.Tests.{le-leb, lt-leb, leb-true, ltb-true, ltb-false}
 use lib.Dec.{eqb, leb, ltb}
 use Rattle.meaning.specs.Basics.{pick}
 use Rattle.meaning.specs.Bytes.{isDigit, twoDigits, pairWithin, isLeap, lastDay, lastDayAfter}
-use Rattle.laws.specs.Logic.{both-hold}
+use Rattle.laws_steps.specs.Logic.{both-hold}
 use Rattle.values.specs.Digits.{PairAt}
 use Rattle.date.specs.Dates.{earlier}
 

@@ -7,7 +7,7 @@ use native.Mathlib.Numerals.{add-one}
 use native.Mathlib.Omega.{arith}
 use lib.ListN.{length, getD}
 use Rattle.meaning.specs.Bytes.{Check, passes, dateChecks, takeDate}
-use Rattle.laws.specs.From.{from, from-length, from-end, from-cons}
+use Rattle.laws_steps.specs.From.{from, from-length, from-end, from-cons}
 use Rattle.values.specs.Stages.{Span, span, spans, misses}
 use Rattle.date.specs.Dates.{reaching, dateLength, checkAt, earlier, Passing}
 use Rattle.values.specs.Answers.{span-prefixed}

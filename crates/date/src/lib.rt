@@ -18,7 +18,7 @@ ghost use lib.ListN.{length, getD};
 ghost use Rattle.meaning.specs.Basics.{pick};
 ghost use Rattle.meaning.specs.Bytes.{pairWithin, passes, half, letter, isLeap, lastDay, lastDayAfter, dateChecks, takeDate};
 ghost use Rattle.meaning.specs.Told.{Told, B, D};
-ghost use Rattle.laws.specs.From.{from};
+ghost use Rattle.laws_steps.specs.From.{from};
 ghost use Rattle.table.specs.Told.{editionOf};
 ghost use Rattle.values.specs.Stages.{Inside, Valued, Coded};
 ghost use Rattle.date.specs.Dates.{reaching, absoluteCheck, checkAt, earlier, dateLength, Passing, DateCode, datesOf};

@@ -10,9 +10,9 @@ use borrow.Author.Tests.{eqb-true, eqb-false}
 use Rattle.meaning.specs.Basics.{pick}
 use Rattle.meaning.specs.Skips.{Rank, rank, isEnvelope, beside, belongs}
 use Rattle.meaning.specs.Memory.{rowWidth, roomOf}
-use Rattle.laws.specs.Nesting.{false-not, beside-belongs}
-use Rattle.laws.specs.Hopping.{rankAt, givenAt, skipAt, HopsTo, AllRight}
-use Rattle.laws.specs.Neighbours.{isFollower, leads}
+use Rattle.laws_steps.specs.Nesting.{false-not, beside-belongs}
+use Rattle.laws_steps.specs.Hopping.{rankAt, givenAt, skipAt, HopsTo, AllRight}
+use Rattle.laws_tables.specs.Neighbours.{isFollower, leads}
 use Rattle.skips.specs.Owners.{Hoppable, Owned, deeperTest, aboveTest}
 use Rattle.skips.specs.Classes.{classOf}
 use Rattle.hold_skips.specs.Holding.{heldIf, HeldFrom, HeldTurn, EnvelopeHeld, RunToHold}

@@ -6,8 +6,8 @@ use mathlib.Core.Path.{_≡_}
 use lib.Dec.{eqb}
 use Rattle.meaning.specs.Basics.{pick}
 use Rattle.meaning.specs.Memory.{roomOf}
-use Rattle.laws.specs.Hopping.{rankAt, givenAt, AllRight}
-use Rattle.laws.specs.Neighbours.{isFollower}
+use Rattle.laws_steps.specs.Hopping.{rankAt, givenAt, AllRight}
+use Rattle.laws_tables.specs.Neighbours.{isFollower}
 use Rattle.skips.specs.Ends.{IsTop}
 use Rattle.hold_skips.specs.declared.Held.{Held}
 use Rattle.hold_skips.specs.declared.Held.the-variants.{Row, Envelope, Wrong}

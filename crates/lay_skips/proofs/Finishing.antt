@@ -10,9 +10,9 @@ use Rattle.meaning.specs.Basics.{pick}
 use Rattle.meaning.specs.Skips.{Rank, isEnvelope, belonging}
 use Rattle.meaning.specs.Words.{wordOf, wordsOf}
 use Rattle.meaning.specs.Memory.{rowWidth, roomOf, laidOver}
-use Rattle.laws.specs.Hopping.{rankAt, ranksFor, ranksAt, ranks-length, ranks-next, skipAt}
-use Rattle.laws.specs.Skipping.{skipsLaid, laid-none}
-use Rattle.laws.specs.Wording.{top, words-count, no-words}
+use Rattle.laws_steps.specs.Hopping.{rankAt, ranksFor, ranksAt, ranks-length, ranks-next, skipAt}
+use Rattle.laws_tables.specs.Skipping.{skipsLaid, laid-none}
+use Rattle.laws_tables.specs.Wording.{top, words-count, no-words}
 use Rattle.table.specs.Rows.{u32Most}
 use Rattle.lay_skips.specs.Laying.{LaidFrom, InsideLaid, Finishable, Finished}
 use Rattle.skips.specs.Ends.{IsTop, envelope-run}

@@ -9,11 +9,11 @@ use lib.ListN.{length, getD, set}
 use borrow.Author.Tests.{eqb-true, eqb-false}
 use Rattle.meaning.specs.Skips.{Rank, belongs, beside}
 use Rattle.meaning.specs.Memory.{rowWidth, roomOf}
-use Rattle.laws.specs.Logic.{is-true}
-use Rattle.laws.specs.Nesting.{false-not, beside-belongs}
-use Rattle.laws.specs.Hopping.{rankAt, skipAt, HopsTo}
-use Rattle.laws.specs.Skipping.{skipsLaid, laid-more, laid-length, laid-kind, laid-level}
-use Rattle.laws.specs.Neighbours.{isFollower, leads, mayStandBefore}
+use Rattle.laws_steps.specs.Logic.{is-true}
+use Rattle.laws_steps.specs.Nesting.{false-not, beside-belongs}
+use Rattle.laws_steps.specs.Hopping.{rankAt, skipAt, HopsTo}
+use Rattle.laws_tables.specs.Skipping.{skipsLaid, laid-more, laid-length, laid-kind, laid-level}
+use Rattle.laws_tables.specs.Neighbours.{isFollower, leads, mayStandBefore}
 use Rattle.table.specs.Rows.{u32Most}
 use Rattle.skips.specs.Ends.{run-ends, runs-to, alone, top-alone}
 use Rattle.lay_skips.specs.Laying.{RunBefore, RunLaid}

@@ -12,12 +12,12 @@ use borrow.Author.Tests.{eqb-true, eqb-false}
 use Rattle.meaning.specs.Skips.{Rank, rank, isEnvelope, belongs}
 use Rattle.meaning.specs.Words.{wordOf}
 use Rattle.meaning.specs.Memory.{rowWidth, roomOf}
-use Rattle.laws.specs.Nesting.{false-not}
-use Rattle.laws.specs.Hopping.{rankAt, ranksFor, skipAt}
-use Rattle.laws.specs.Skipping.{skipsLaid, laid-same}
-use Rattle.laws.specs.Presence.{no-word}
-use Rattle.laws.specs.Wording.{top}
-use Rattle.laws.specs.Neighbours.{isFollower, kindMost}
+use Rattle.laws_steps.specs.Nesting.{false-not}
+use Rattle.laws_steps.specs.Hopping.{rankAt, ranksFor, skipAt}
+use Rattle.laws_tables.specs.Skipping.{skipsLaid, laid-same}
+use Rattle.laws_tables.specs.Presence.{no-word}
+use Rattle.laws_tables.specs.Wording.{top}
+use Rattle.laws_tables.specs.Neighbours.{isFollower, kindMost}
 use Rattle.table.specs.Rows.{u32Most}
 use Rattle.skips.specs.Owners.{Hoppable, Owned, deeperTest, aboveTest}
 use Rattle.skips.specs.Classes.{classOf}

@@ -8,11 +8,11 @@ use lib.ListN.{length}
 use Rattle.meaning.specs.Skips.{isEnvelope}
 use Rattle.meaning.specs.Words.{wordOf, wordsOf}
 use Rattle.meaning.specs.Memory.{roomOf, laidOver}
-use Rattle.laws.specs.Hopping.{rankAt, ranksFor, ranksAt}
-use Rattle.laws.specs.Skipping.{skipsLaid}
-use Rattle.laws.specs.Wording.{Split}
-use Rattle.laws.specs.Neighbours.{isFollower}
-use Rattle.laws.specs.Adjoining.{AllNeighbours}
+use Rattle.laws_steps.specs.Hopping.{rankAt, ranksFor, ranksAt}
+use Rattle.laws_tables.specs.Skipping.{skipsLaid}
+use Rattle.laws_tables.specs.Wording.{Split}
+use Rattle.laws_tables.specs.Neighbours.{isFollower}
+use Rattle.laws_tables.specs.Adjoining.{AllNeighbours}
 use Rattle.table.specs.Rows.{u32Most}
 use Rattle.skips.specs.Ends.{IsTop}
 use Rattle.lay_skips.specs.declared.Turn.{Turn}

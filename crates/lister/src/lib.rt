@@ -4,9 +4,9 @@
 // and ends; what is handed to standard output is run and compared.
 use libc::STDOUT_FILENO;
 use listing::Piece;
+use table::limits::WORDS_BORROWED;
 use table::reply::Reply;
 use table::rows::ROW_NUMBERS;
-use words::WORDS_BORROWED;
 ghost use mathlib.Core.Path.{_≡_};
 ghost use lib.Dec.{ltb};
 ghost use Rattle.meaning.specs.Listing.{inputMost};

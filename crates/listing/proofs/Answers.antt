@@ -10,7 +10,8 @@ use Rattle.meaning.specs.Listing.{firstLine}
 use Rattle.listing.specs.declared.Piece.{Piece}
 use Rattle.listing.specs.Text.{rowOf, viewOf, linesOf, textAt}
 use Rattle.listing.specs.Pieces.{pieceLeast, cursor, rowStop, lineStop, stopAt, NextPiece}
-use Rattle.listing.specs.Stages.{Wrote, RowPiece}
+use Rattle.pen.specs.Wrote.{Wrote}
+use Rattle.listing.specs.Stages.{RowPiece}
 use Rattle.listing.proofs.Written.{piece-of, no-piece, stops-at}
 use Rattle.listing.specs.Cursors.{first-then, first-some, text-over, line-numbers, line-views}
 

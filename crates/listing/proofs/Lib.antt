@@ -1,5 +1,4 @@
 -- The laws that the proofs of several functions share.
 pub mod Written
-pub mod Numbers
 pub mod Pieces
 pub mod Answers

@@ -13,8 +13,10 @@ use Rattle.meaning.specs.Listing.{hexOf}
 use Rattle.listing.specs.declared.Piece.{Piece}
 use Rattle.listing.specs.Text.{rowOf, viewOf, viewFrom}
 use Rattle.listing.specs.Pieces.{pieceLeast, cursor, viewStop, rowStop, PieceOf}
-use Rattle.listing.specs.Stages.{Wrote, ViewPiece, RowPiece, fieldsOf}
-use Rattle.listing.proofs.Written.{wrote-as, piece-of, stops-at}
+use Rattle.pen.specs.Wrote.{Wrote}
+use Rattle.listing.specs.Stages.{ViewPiece, RowPiece, fieldsOf}
+use Rattle.pen.specs.Written.{wrote-as}
+use Rattle.listing.proofs.Written.{piece-of, stops-at}
 use Rattle.listing.specs.Cursors.{view-rest, view-chunk, hex-length, fields-some}
 
 module _ (view : List ℕ) (gone line : ℕ) {before after : List ℕ} {end : ℕ} where

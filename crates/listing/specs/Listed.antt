@@ -15,9 +15,9 @@ use Rattle.meaning.specs.Told.{strict}
 use Rattle.meaning.specs.Skips.{skipOf}
 use Rattle.meaning.specs.Memory.{rowWidth, rankOf, numbersIn, numbersOf, rowsFrom, tableOf, roomOf, laidOver, Reply, reply, readReply, readMemory, wordsBorrowed, roomWith, answerBy, rowsBy, readAnswer, readRows}
 use Rattle.meaning.specs.Listing.{inputMost, rowsLent, firstLine, rowLine, rowLines, listingOf, listing}
-use Rattle.laws.specs.Logic.{areBytes}
-use Rattle.laws.specs.Skipping.{table-length as rows-length}
-use Rattle.laws.specs.Demands.{ViewsHeader, accepted-shape, refused-shape}
+use Rattle.laws_steps.specs.Logic.{areBytes}
+use Rattle.laws_tables.specs.Skipping.{table-length as rows-length}
+use Rattle.laws_tables.specs.Answered.{ViewsHeader, accepted-shape, refused-shape}
 use Rattle.listing.specs.Text.{rowOf, viewOf, rowText, linesFrom, linesOf, textAt}
 
 -- a row's line, where its numbers stand in the memory

@@ -1,18 +1,13 @@
--- What the stages under a piece promise: the pen, which writes at a place and answers the place behind, and the parts of a row's line.
+-- What the stages under a piece promise: the parts of a row's line.
 use Prim.Native.Nat.{ℕ, _+_, _≤_, _<_}
 use mathlib.Core.List.{List, [], _∷_, _++_}
 use mathlib.Core.Path.{_≡_}
 use lib.ListN.{length}
-use Rattle.meaning.specs.Memory.{laidOver}
 use Rattle.meaning.specs.Listing.{decimal}
+use Rattle.pen.specs.Wrote.{Wrote}
 use Rattle.listing.specs.declared.Piece.{Piece}
 use Rattle.listing.specs.Text.{viewOf, viewFrom}
 use Rattle.listing.specs.Pieces.{pieceLeast, viewStop, rowStop, PieceOf}
-
--- the pen: memory whose front was written up to a place has these bytes more, up to the place answered
-pub record Wrote (before after : List ℕ) (at : ℕ) (bytes : List ℕ) (end : ℕ) : Type 0 where
-  pub ends : end ≡ at + length bytes
-  pub over : (lent front : List ℕ) → length front ≡ at → before ≡ laidOver lent front → after ≡ laidOver lent (front ++ bytes)
 
 -- the fields of a row's numbers, each with its tab
 unfoldable pub fieldsOf : List ℕ → List ℕ

@@ -1,11 +1,10 @@
 // Document 01, the listing program's text, piece by piece into lent memory: answer, place and rows, then a line for each row.
-mod pen;
 mod row;
 
-use crate::pen::NEWLINE;
-use crate::pen::TAB;
-use crate::pen::field;
 use crate::row::row_piece;
+use pen::NEWLINE;
+use pen::TAB;
+use pen::field;
 use table::rows::room;
 ghost use mathlib.Core.Path.{_≡_};
 ghost use Prim.Native.Nat.{_≤_};
@@ -14,7 +13,7 @@ ghost use Rattle.meaning.specs.Memory.{reply};
 ghost use Rattle.meaning.specs.Listing.{firstLine};
 ghost use Rattle.listing.specs.Text.{linesOf};
 ghost use Rattle.listing.specs.Pieces.{NextPiece, pieceLeast};
-ghost use Rattle.listing.specs.Stages.{Wrote};
+ghost use Rattle.pen.specs.Wrote.{Wrote};
 
 // Memory that holds a first line, or a row's numbers.
 const PIECE_LEAST: usize = 64;

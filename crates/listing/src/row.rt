@@ -1,10 +1,10 @@
 // "per row kind, level, start, length", skip, "viewed bytes in lower-case hex, or `-` if none": a row's numbers are one piece, its view one or more.
 use crate::Piece;
-use crate::pen::NEWLINE;
-use crate::pen::TAB;
-use crate::pen::field;
-use crate::pen::hex;
-use crate::pen::put;
+use pen::NEWLINE;
+use pen::TAB;
+use pen::field;
+use pen::hex;
+use pen::put;
 use table::rows::ROW_NUMBERS;
 ghost use mathlib.Core.Path.{_≡_};
 ghost use mathlib.Core.List.{[], _∷_, _++_};
@@ -14,7 +14,8 @@ ghost use Rattle.meaning.specs.Memory.{rowWidth, roomOf};
 ghost use Rattle.meaning.specs.Listing.{hexOf};
 ghost use Rattle.listing.specs.Text.{rowOf, viewOf};
 ghost use Rattle.listing.specs.Pieces.{pieceLeast};
-ghost use Rattle.listing.specs.Stages.{Wrote, WroteEnd, WroteField, RowPiece, ViewPiece, ViewRoom, fieldsOf};
+ghost use Rattle.pen.specs.Wrote.{Wrote};
+ghost use Rattle.listing.specs.Stages.{WroteEnd, WroteField, RowPiece, ViewPiece, ViewRoom, fieldsOf};
 
 // "or `-` if none"
 const NONE: u8 = 0x2d;

@@ -17,13 +17,13 @@ use Rattle.meaning.specs.Present.{copyAll, allEnvelopes, present, checke
 use Rattle.meaning.specs.Lookup.{lookOn, lookedUp, lookup}
 use Rattle.meaning.specs.Which.{editionsOf, readEither, whichAnswer, whichRows, whichWords}
 use Rattle.meaning.specs.Relay.{movedTable, relay, relayAnswer, relayRows, relayWords, relayOutput}
-use Rattle.meaning.specs.Strange.{strange}
-use Rattle.meaning.specs.Further.{further}
-use Rattle.meaning.specs.Ranges.{ranges}
-use Rattle.meaning.specs.Fitting.{fitting}
-use Rattle.meaning.specs.Long.{stages, long}
+use Rattle.meaning.specs.CodeCases.{strange}
+use Rattle.meaning.specs.FurtherCases.{further}
+use Rattle.meaning.specs.DigitCases.{ranges}
+use Rattle.meaning.specs.FittingCases.{fitting}
+use Rattle.meaning.specs.LongCases.{long}
 use Rattle.meaning.specs.Bounds.{andThen, bounds}
 
-pub between : T (andThen stages (λ _. andThen further (λ _. andThen ranges (λ _. andThen fitting (λ _. andThen strange (λ _. long))))))
+pub between : T (andThen further (λ _. andThen ranges (λ _. andThen fitting (λ _. andThen strange (λ _. long)))))
 unfolding textByte takeText textOk turn takeNumber numberOk lastDay passes takeDate dateOk highFirst tooWide takeBytes blockOf takeBlock blockOk shared own moves takeValue find look stepMove step run inside envelope header readBy valid writeValue wayOf fit fitRow closeWithin close planOf writeRows belongs belonging heldAgainst cellsOf ranksOf skipsOf skipsHeld laidOver write occurs wordOf wordsOf onesWithin onesOf answerBy rowsBy wordsBy writeAnswer writeOutput payloadStart payloadEnd payloadBytes numberValue digitsWithin digitsOf packed decodeNumber numberDecoded numberPlain numberBytes numberEncoded numberOutput decodeDate dateDecoded datePlain dateInRange dateEncoded dateOutput decimal viewed lineOf listingOf listing copyAll lookOn allEnvelopes lookedUp present checked presentAnswer lookup editionsOf readEither whichAnswer whichRows whichWords movedTable relay relayAnswer relayRows relayWords relayOutput
 between = let held = bounds in tt

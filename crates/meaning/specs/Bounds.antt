@@ -15,22 +15,24 @@ use Rattle.meaning.specs.Payload.{payloadStart, payloadEnd, payloadBytes
 use Rattle.meaning.specs.Plain.{numberValue, digitsWithin, digitsOf, packed, decodeNumber, numberDecoded, numberPlain, numberBytes, numberEncoded, numberOutput, decodeDate, dateDecoded, datePlain, dateInRange, dateEncoded, dateOutput}
 use Rattle.meaning.specs.Listing.{decimal, viewed, lineOf, listingOf, listing}
 use Rattle.meaning.specs.Cases.{reads, rewrites, writes, decodes, datesRead, datesWritten}
-use Rattle.meaning.specs.Accepting as accepting
-use Rattle.meaning.specs.Refusing as refusing
-use Rattle.meaning.specs.Coding as coding
-use Rattle.meaning.specs.Days.{days}
-use Rattle.meaning.specs.Breaks.{breaks}
-use Rattle.meaning.specs.Widths.{widths}
-use Rattle.meaning.specs.Hops as hops
-use Rattle.meaning.specs.Presence.{presence}
+use Rattle.meaning.specs.AcceptedCases as accepting
+use Rattle.meaning.specs.RefusedCases as refusing
+use Rattle.meaning.specs.CodingCases as coding
+use Rattle.meaning.specs.DayCases.{days}
+use Rattle.meaning.specs.BreakCases.{breaks}
+use Rattle.meaning.specs.WidthCases.{widths}
+use Rattle.meaning.specs.SkipCases as hops
+use Rattle.meaning.specs.WordCases.{presence}
 use Rattle.meaning.specs.Present.{copyAll, allEnvelopes, present, checked, presentAnswer}
-use Rattle.meaning.specs.Asking.{presents}
+use Rattle.meaning.specs.PresentCases.{presents}
 use Rattle.meaning.specs.Lookup.{lookOn, lookedUp, lookup}
-use Rattle.meaning.specs.Lookings.{lookings}
+use Rattle.meaning.specs.LookupCases.{lookings}
 use Rattle.meaning.specs.Which.{editionsOf, readEither, whichAnswer, whichRows, whichWords}
-use Rattle.meaning.specs.Sortings.{sortings}
+use Rattle.meaning.specs.WhichCases.{sortings}
 use Rattle.meaning.specs.Relay.{movedTable, relay, relayAnswer, relayRows, relayWords, relayOutput}
-use Rattle.meaning.specs.Relaying.{relaying}
+use Rattle.meaning.specs.RelayCases.{relaying}
+use Rattle.meaning.specs.LongCases.{stages}
+use Rattle.meaning.specs.QuickCases.{quick}
 
 abbrev pub readings : Bool
 readings =
@@ -40,7 +42,7 @@ readings =
 abbrev pub writings : Bool
 writings =
     every rewrites accepting.heads && every rewrites accepting.parameters && every rewrites accepting.objects && every rewrites accepting.agents && every rewrites accepting.envelopes &&
-    every writes coding.written && every writes coding.unwritten && coding.sizes && coding.memory && coding.payload
+    every writes coding.written && every writes coding.unwritten && coding.sizes && coding.memory
 
 abbrev pub values : Bool
 values =
@@ -54,6 +56,6 @@ abbrev pub andThen : Bool → (Unit {0} → Bool) → Bool
 andThen false rest = false
 andThen true rest = rest tt
 
-pub bounds : T (andThen (lookings && sortings && presence && skips && relaying && values) (λ _. andThen (presents && days) (λ _. andThen widths (λ _. andThen readings (λ _. andThen breaks (λ _. writings))))))
+pub bounds : T (andThen (quick && coding.payload && stages && lookings && sortings && presence && skips && relaying && values) (λ _. andThen (presents && days) (λ _. andThen widths (λ _. andThen readings (λ _. andThen breaks (λ _. writings))))))
 unfolding textByte takeText textOk turn takeNumber numberOk lastDay passes takeDate dateOk highFirst tooWide takeBytes blockOf takeBlock blockOk shared own moves takeValue find look stepMove step run inside envelope header readBy valid writeValue wayOf fit fitRow closeWithin close planOf writeRows belongs belonging heldAgainst cellsOf ranksOf skipsOf skipsHeld laidOver write occurs wordOf wordsOf onesWithin onesOf answerBy rowsBy wordsBy writeAnswer writeOutput payloadStart payloadEnd payloadBytes numberValue digitsWithin digitsOf packed decodeNumber numberDecoded numberPlain numberBytes numberEncoded numberOutput decodeDate dateDecoded datePlain dateInRange dateEncoded dateOutput decimal viewed lineOf listingOf listing copyAll lookOn allEnvelopes lookedUp present checked presentAnswer lookup editionsOf readEither whichAnswer whichRows whichWords movedTable relay relayAnswer relayRows relayWords relayOutput
 bounds = tt

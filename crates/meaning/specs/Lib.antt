@@ -1,4 +1,4 @@
--- Read in this order, with document 01 beside it.
+-- Definitions, to be read in this order with document 01 beside them.
 pub mod Basics
 pub mod Told
 pub mod Bytes
@@ -21,25 +21,27 @@ pub mod Relay
 pub mod Payload
 pub mod Plain
 pub mod Listing
+-- Instances, which are theorems: how a case is held against the definitions, document 01's own, then our own, each file named after what it tries.
 pub mod Cases
 pub mod Instances
-pub mod Accepting
-pub mod Refusing
-pub mod Coding
-pub mod Days
-pub mod Breaks
-pub mod Widths
-pub mod Hops
-pub mod Presence
-pub mod Asking
-pub mod Lookings
-pub mod Sortings
-pub mod Relaying
-pub mod Strange
-pub mod Further
-pub mod Ranges
-pub mod Fitting
-pub mod Long
-pub mod Limits
+pub mod AcceptedCases
+pub mod RefusedCases
+pub mod CodingCases
+pub mod DayCases
+pub mod BreakCases
+pub mod WidthCases
+pub mod SkipCases
+pub mod WordCases
+pub mod PresentCases
+pub mod LookupCases
+pub mod WhichCases
+pub mod RelayCases
+pub mod CodeCases
+pub mod FurtherCases
+pub mod DigitCases
+pub mod FittingCases
+pub mod LongCases
+pub mod LimitCases
+pub mod QuickCases
 pub mod Bounds
 pub mod Between

@@ -9,13 +9,13 @@ use Rattle.meaning.specs.Told.{Edition, known, unknown, labelOf}
 use Rattle.meaning.specs.Codes.{canAsk}
 use Rattle.meaning.specs.Memory.{Reply, reply, roomOf}
 use Rattle.meaning.specs.Present.{passed, checked, answeredBy, presentUnder, presentAnswer}
-use Rattle.laws.specs.Logic.{areBytes}
-use Rattle.laws.specs.Passing.{firstAt}
-use Rattle.laws.specs.PresentValues.{Walkable, passed-walkable, present-at}
+use Rattle.laws_steps.specs.Logic.{areBytes}
+use Rattle.laws_tables.specs.Passing.{firstAt}
+use Rattle.laws_tables.specs.PresentValues.{Walkable, passed-walkable, present-at}
 use Rattle.table.specs.declared.reply.Reply as declared
 use Rattle.table.specs.Reply.{replyOf}
-use Rattle.write_envelopes.specs.declared.measure.Checked.{Checked}
-use Rattle.write_envelopes.specs.declared.measure.Checked.the-variants.{Bad, Needs}
+use Rattle.table.specs.declared.answers.Checked.{Checked}
+use Rattle.table.specs.declared.answers.Checked.the-variants.{Bad, Needs}
 use Rattle.writer.specs.Promise.{checkIs}
 use Rattle.present.specs.Promise.{PresentPromise}
 

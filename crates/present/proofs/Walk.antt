@@ -12,9 +12,9 @@ use Rattle.meaning.specs.Kinds.{extensionOpens, baseOpens}
 use Rattle.meaning.specs.Skips.{Rank, isEnvelope}
 use Rattle.meaning.specs.Codes.{codeOf, hasValue, canAsk}
 use Rattle.meaning.specs.Memory.{rowWidth, roomOf}
-use Rattle.laws.specs.Hopping.{rankAt, givenAt, skipAt, skip-forward, skip-most}
-use Rattle.laws.specs.Passing.{firstAt, first-ends, first-found, first-steps, first-hops}
-use Rattle.laws.specs.PresentValues.{Walkable, agents-deep, can-ask-open}
+use Rattle.laws_steps.specs.Hopping.{rankAt, givenAt, skipAt, skip-forward, skip-most}
+use Rattle.laws_tables.specs.Passing.{firstAt, first-ends, first-found, first-steps, first-hops}
+use Rattle.laws_tables.specs.PresentValues.{Walkable, agents-deep, can-ask-open}
 use Rattle.present.specs.Promise.{nextLooked}
 
 -- the first value of all rows is the first from row i on

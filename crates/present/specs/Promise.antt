@@ -8,8 +8,8 @@ use Rattle.meaning.specs.Basics.{pick}
 use Rattle.meaning.specs.Skips.{isEnvelope}
 use Rattle.meaning.specs.Memory.{rowWidth}
 use Rattle.meaning.specs.Present.{presentAnswer}
-use Rattle.laws.specs.Logic.{areBytes}
-use Rattle.laws.specs.Hopping.{givenAt}
+use Rattle.laws_steps.specs.Logic.{areBytes}
+use Rattle.laws_steps.specs.Hopping.{givenAt}
 use Rattle.table.specs.declared.reply.Reply.{Reply}
 use Rattle.table.specs.Reply.{replyOf}
 

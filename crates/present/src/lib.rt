@@ -1,4 +1,5 @@
 // Document 02, order 1: present values. "The delivery desk wants one value for each parameter": the first that the envelopes have, in their order.
+use table::answers::Checked;
 use table::kinds::BASE_OPENS;
 use table::kinds::EXTENSION_OPENS;
 use table::parameters::can_ask;
@@ -14,7 +15,6 @@ use table::rows::skip_at;
 use table::told::Edition;
 use table::told::Label;
 use table::told::label_of;
-use write_envelopes::measure::Checked;
 use writer::check_rows;
 ghost use mathlib.Core.Path.{_≡_};
 ghost use mathlib.Core.Bool.{true};
@@ -22,9 +22,9 @@ ghost use Prim.Native.Nat.{_<_};
 ghost use Rattle.meaning.specs.Codes.{hasValue, canAsk};
 ghost use Rattle.meaning.specs.Memory.{roomOf};
 ghost use Rattle.meaning.specs.Present.{answeredBy, checked};
-ghost use Rattle.laws.specs.Hopping.{rankAt};
-ghost use Rattle.laws.specs.Passing.{firstAt};
-ghost use Rattle.laws.specs.PresentValues.{Walkable};
+ghost use Rattle.laws_steps.specs.Hopping.{rankAt};
+ghost use Rattle.laws_tables.specs.Passing.{firstAt};
+ghost use Rattle.laws_tables.specs.PresentValues.{Walkable};
 ghost use Rattle.table.specs.Reply.{replyOf};
 ghost use Rattle.table.specs.Told.{editionOf};
 ghost use Rattle.present.specs.Promise.{PresentPromise, nextLooked};

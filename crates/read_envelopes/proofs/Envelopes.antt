@@ -10,11 +10,11 @@ use Rattle.meaning.specs.Basics.{pick}
 use Rattle.meaning.specs.Told.{Told}
 use Rattle.meaning.specs.Editions.{state, closed}
 use Rattle.meaning.specs.Headers.{opening, start}
-use Rattle.laws.specs.Rows.{put}
-use Rattle.laws.specs.Pouring.{Filling, filled, stopped, Source, source, runAt}
-use Rattle.laws.specs.Finishing.{onwardFrom, closes, closed-at, opened-closes}
-use Rattle.read_rows.specs.declared.Stage.{Stage}
-use Rattle.read_rows.specs.declared.Stage.the-variants.{Go, Refused}
+use Rattle.laws_steps.specs.Rows.{put}
+use Rattle.laws_steps.specs.Pouring.{Filling, filled, stopped, Source, source, runAt}
+use Rattle.laws_steps.specs.Finishing.{onwardFrom, closes, closed-at, opened-closes}
+use Rattle.table.specs.declared.answers.Stage.{Stage}
+use Rattle.table.specs.declared.answers.Stage.the-variants.{Go, Refused}
 use Rattle.read_rows.specs.Stages.{after, Moved, Ran}
 use Rattle.read_envelopes.specs.declared.envelope.Envelope.{Envelope}
 use Rattle.read_envelopes.specs.declared.envelope.Envelope.the-variants as envelope

@@ -1,4 +1,3 @@
 pub mod Frames
 pub mod Envelopes
 pub mod Turns
-pub mod Counting

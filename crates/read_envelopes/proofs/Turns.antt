@@ -6,9 +6,9 @@ use lib.ListN.{length}
 use Rattle.meaning.specs.Told.{Told}
 use Rattle.meaning.specs.Headers.{envelopeMost, envelopesMost, header}
 use native.Mathlib.Omega.{arith}
-use Rattle.laws.specs.Pouring.{Filling, headerMost}
-use Rattle.laws.specs.Finishing.{finish, headerAt}
-use Rattle.read_rows.specs.declared.Stage.the-variants.{Go, Refused}
+use Rattle.laws_steps.specs.Pouring.{Filling, headerMost}
+use Rattle.laws_steps.specs.Finishing.{finish, headerAt}
+use Rattle.table.specs.declared.answers.Stage.the-variants.{Go, Refused}
 use Rattle.read_envelopes.specs.declared.envelope.Envelope.{Envelope}
 use Rattle.read_envelopes.specs.declared.envelope.Envelope.the-variants as envelope
 use Rattle.read_envelopes.specs.Envelopes.{behindEnvelope, EnvelopeFits, OthersCome, EnvelopeRead}

@@ -8,10 +8,10 @@ use lib.ListN.{length}
 use Rattle.meaning.specs.Basics.{pick}
 use Rattle.meaning.specs.Told.{Told}
 use Rattle.meaning.specs.Headers.{envelopeMost, Onward}
-use Rattle.laws.specs.Pouring.{Filling, filled, stopped}
-use Rattle.laws.specs.Finishing.{finish, onwardFrom, headerAt, opened}
-use Rattle.read_rows.specs.declared.Stage.{Stage}
-use Rattle.read_rows.specs.declared.Stage.the-variants.{Go, Refused}
+use Rattle.laws_steps.specs.Pouring.{Filling, filled, stopped}
+use Rattle.laws_steps.specs.Finishing.{finish, onwardFrom, headerAt, opened}
+use Rattle.table.specs.declared.answers.Stage.{Stage}
+use Rattle.table.specs.declared.answers.Stage.the-variants.{Go, Refused}
 use Rattle.read_envelopes.specs.declared.envelope.Envelope.{Envelope}
 use Rattle.read_envelopes.specs.declared.envelope.Envelope.the-variants as envelope
 

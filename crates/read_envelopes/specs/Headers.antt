@@ -5,10 +5,10 @@ use mathlib.Core.Path.{_≡_}
 use lib.ListN.{length}
 use Rattle.meaning.specs.Told.{Told}
 use Rattle.meaning.specs.Headers.{envelopeMost, envelopesMost, header}
-use Rattle.laws.specs.Pouring.{Filling, filled, stopped, headerMost}
-use Rattle.laws.specs.Finishing.{finish}
-use Rattle.read_rows.specs.declared.Stage.{Stage}
-use Rattle.read_rows.specs.declared.Stage.the-variants.{Go, Refused}
+use Rattle.laws_steps.specs.Pouring.{Filling, filled, stopped, headerMost}
+use Rattle.laws_steps.specs.Finishing.{finish}
+use Rattle.table.specs.declared.answers.Stage.{Stage}
+use Rattle.table.specs.declared.answers.Stage.the-variants.{Go, Refused}
 
 -- what each case of a header's stage says, with the memory m
 unfoldable pub fillingOf : List ℕ → Stage → Filling

@@ -1,8 +1,8 @@
 // One envelope: its identifier and length, its own row, its inside, and whether its 01 stands at the declared end.
-use crate::frame::Frame;
-use crate::frame::frame_at;
+use frames::frame::Frame;
+use frames::frame::frame_at;
 use read_inside::inside::read_inside;
-use read_rows::Stage;
+use table::answers::Stage;
 use table::kinds::BASE_OPENS;
 use table::kinds::EXTENSION_OPENS;
 use table::refusals::CLOSED_EARLY;
@@ -12,7 +12,7 @@ ghost use mathlib.Core.Path.{_≡_};
 ghost use Prim.Native.Nat.{_+_, _*_, _≤_, _<_};
 ghost use lib.ListN.{length};
 ghost use Rattle.meaning.specs.Headers.{opening, envelopeMost};
-ghost use Rattle.laws.specs.Pouring.{headerMost, Ready};
+ghost use Rattle.laws_steps.specs.Pouring.{headerMost, Ready};
 ghost use Rattle.table.specs.Told.{toldOf};
 ghost use Rattle.read_envelopes.specs.Envelopes.{EnvelopeRead, EnvelopeOpened, endedBy, closedBy};
 

@@ -1,7 +1,7 @@
 // "A header is zero or more extension envelopes, then one base envelope."
 use crate::envelope::Envelope;
 use crate::envelope::read_envelope;
-use read_rows::Stage;
+use table::answers::Stage;
 use table::limits::ENVELOPES_MOST;
 use table::told::Told;
 ghost use Rattle.table.specs.Told.{toldOf};

@@ -4,9 +4,9 @@ use mathlib.Core.List.{List}
 use mathlib.Core.Bool.{false}
 use Rattle.meaning.specs.Told.{Told}
 use Rattle.meaning.specs.Editions.{parameters, State, state}
-use Rattle.laws.specs.Rows.{put}
-use Rattle.laws.specs.Pouring.{source, runAt}
-use Rattle.read_rows.specs.declared.Stage.{Stage}
+use Rattle.laws_steps.specs.Rows.{put}
+use Rattle.laws_steps.specs.Pouring.{source, runAt}
+use Rattle.table.specs.declared.answers.Stage.{Stage}
 use Rattle.read_rows.specs.Stages.{Ran}
 
 -- a stage behind an opening row at the place `at`

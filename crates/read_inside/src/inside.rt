@@ -2,13 +2,13 @@
 // Each function answers the place behind what it read with the rows then, or the first refusal.
 use crate::parameters::read_parameters;
 use read_objects::received::read_received;
-use read_rows::Stage;
 use read_rows::rows;
+use table::answers::Stage;
 use table::told::Told;
 ghost use mathlib.Core.Bool.{true, false};
 ghost use Rattle.meaning.specs.Editions.{state, parameters, closed};
 ghost use Rattle.meaning.specs.Headers.{start};
-ghost use Rattle.laws.specs.Pouring.{Ready};
+ghost use Rattle.laws_steps.specs.Pouring.{Ready};
 ghost use Rattle.table.specs.Told.{toldOf};
 ghost use Rattle.read_rows.specs.Stages.{StateRead};
 

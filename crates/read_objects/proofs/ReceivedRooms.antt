@@ -9,8 +9,8 @@ use Rattle.meaning.specs.Kinds.{extraKey}
 use Rattle.meaning.specs.Told.{Edition, B, D, Told}
 use Rattle.meaning.specs.Editions.{parameters, afterVia, receivedExtra, state, outer, stay, text, anyValues, on_▸_▸_▸_, shared, own, moves}
 use Rattle.meaning.specs.Reading.{none, hit, find, look}
-use Rattle.laws.specs.Shapes.{Shaped, Extras}
-use Rattle.laws.specs.Rooms.{flip}
+use Rattle.laws_steps.specs.Shapes.{Shaped, Extras}
+use Rattle.laws_steps.specs.Rooms.{flip}
 use Rattle.table.specs.Codes.{receivedExtraCode}
 
 received-any : (told : Told) → Shaped told (state receivedExtra 1 false) (state afterVia 1 false) 1 7 anyValues

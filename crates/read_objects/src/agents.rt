@@ -1,12 +1,12 @@
 // "Agent: 02, name text, optionally 02 and addresses (texts, then 01), optionally 03 and resolvers (an agent list), extras, 01."
 // Each function answers the place behind what it read with the rows then, or the first refusal.
-use read_rows::Stage;
 use read_rows::look::CLOSING;
 use read_rows::look::fault;
 use read_rows::look::in_parts;
 use read_rows::look::peek;
 use read_rows::rows;
 use read_rows::texts;
+use table::answers::Stage;
 use table::codes::agent_extra;
 use table::kinds::ADDRESS;
 use table::kinds::ADDRESSES_OPEN;
@@ -23,8 +23,8 @@ ghost use Rattle.meaning.specs.Bytes.{line};
 ghost use Rattle.meaning.specs.Kinds.{agentName};
 ghost use Rattle.meaning.specs.Told as meaning;
 ghost use Rattle.meaning.specs.Editions.{state, go, agentEnds, listEnds, agentList, oneAgent, afterName, afterAddresses, afterResolvers, parameters};
-ghost use Rattle.laws.specs.Pouring.{Ready};
-ghost use Rattle.laws.specs.Shapes.{InList};
+ghost use Rattle.laws_steps.specs.Pouring.{Ready};
+ghost use Rattle.laws_steps.specs.Shapes.{InList};
 ghost use Rattle.table.specs.Told.{toldOf};
 ghost use Rattle.read_rows.specs.Stages.{StateRead, TextRead};
 

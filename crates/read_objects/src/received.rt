@@ -1,10 +1,10 @@
 // "Received object: by (text), date, then optionally and in this order 02 from, 03 id, 04 via (texts), then in D extras, then 01."
 // Each function answers the place behind what it read with the rows then, or the first refusal.
-use read_rows::Stage;
 use read_rows::look::CLOSING;
 use read_rows::look::peek;
 use read_rows::rows;
 use read_rows::texts;
+use table::answers::Stage;
 use table::codes::received_extra;
 use table::kinds::RECEIVED_BY;
 use table::kinds::RECEIVED_FROM;
@@ -14,7 +14,7 @@ use table::told::Told;
 use values::text::Rule;
 ghost use mathlib.Core.Bool.{false};
 ghost use Rattle.meaning.specs.Editions.{state, receivedBegins, afterDate, afterVia, parameters};
-ghost use Rattle.laws.specs.Pouring.{Ready};
+ghost use Rattle.laws_steps.specs.Pouring.{Ready};
 ghost use Rattle.table.specs.Told.{toldOf};
 ghost use Rattle.read_rows.specs.Stages.{StateRead};
 

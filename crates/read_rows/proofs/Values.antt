@@ -8,11 +8,11 @@ use Rattle.meaning.specs.Bytes.{Taken, took, failed}
 use Rattle.meaning.specs.Told.{Told}
 use Rattle.meaning.specs.Editions.{State, Next, Move, go, moves, on_▸_▸_▸_}
 use Rattle.meaning.specs.Reading.{look, hit, takeValue, reachBack, inside}
-use Rattle.laws.specs.From.{from, from-length, from-cons, from-end}
-use Rattle.laws.specs.Rows.{put}
-use Rattle.laws.specs.Pouring.{stopped, pour, Source, runAt, landed, Ready, not-deep}
-use Rattle.laws.specs.Shapes.{Shaped}
-use Rattle.laws.specs.ReadAt.{coded, strange-code, at-end}
+use Rattle.laws_steps.specs.From.{from, from-length, from-cons, from-end}
+use Rattle.laws_steps.specs.Rows.{put}
+use Rattle.laws_steps.specs.Pouring.{stopped, pour, Source, runAt, landed, Ready, not-deep}
+use Rattle.laws_steps.specs.Shapes.{Shaped}
+use Rattle.laws_steps.specs.ReadAt.{coded, strange-code, at-end}
 use Rattle.values.specs.declared.Value.{Value}
 use Rattle.values.specs.declared.Value.the-variants.{Is, Refused}
 use Rattle.values.specs.Stages.{spans, misses, span, spanOf, Stands, Valued, Coded, ended, unknown, valued}

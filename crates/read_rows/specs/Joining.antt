@@ -8,13 +8,13 @@ use lib.Dec.{ltb}
 use Rattle.meaning.specs.Basics.{pick}
 use Rattle.meaning.specs.Editions.{State, moves}
 use Rattle.meaning.specs.Reading.{look, none, isClosed, strange}
-use Rattle.laws.specs.Pouring.{Filling, stopped, Source, runAt, Ready, Peeked}
-use Rattle.laws.specs.ReadAt.{foreign, passed-at}
-use Rattle.laws.specs.Shapes.{Extras}
+use Rattle.laws_steps.specs.Pouring.{Filling, stopped, Source, runAt, Ready, Peeked}
+use Rattle.laws_steps.specs.ReadAt.{foreign, passed-at}
+use Rattle.laws_steps.specs.Shapes.{Extras}
 use Rattle.table.specs.Rows.{u32Most}
 use Rattle.values.specs.Stages.{Inside}
-use Rattle.read_rows.specs.declared.Stage.{Stage}
-use Rattle.read_rows.specs.declared.Stage.the-variants.{Go, Refused}
+use Rattle.table.specs.declared.answers.Stage.{Stage}
+use Rattle.table.specs.declared.answers.Stage.the-variants.{Go, Refused}
 use Rattle.read_rows.specs.Stages.{after, Moved, Ran, faultOf}
 
 less-moved : (end least lower : ℕ) (r : Stage) → lower ≤ least → Moved least end r → Moved lower end r

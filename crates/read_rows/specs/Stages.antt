@@ -9,12 +9,12 @@ use Rattle.meaning.specs.Bytes.{Rule}
 use Rattle.meaning.specs.Kinds.{payloadLength}
 use Rattle.meaning.specs.Told.{Told}
 use Rattle.meaning.specs.Editions.{State}
-use Rattle.laws.specs.Rows.{put}
-use Rattle.laws.specs.Pouring.{Filling, stopped, Source, source, runAt, textAt, numberAt, headerMost}
+use Rattle.laws_steps.specs.Rows.{put}
+use Rattle.laws_steps.specs.Pouring.{Filling, stopped, Source, source, runAt, textAt, numberAt, headerMost}
 use Rattle.values.specs.declared.Value.{Value}
 use Rattle.values.specs.declared.Value.the-variants as value
-use Rattle.read_rows.specs.declared.Stage.{Stage}
-use Rattle.read_rows.specs.declared.Stage.the-variants.{Go, Refused}
+use Rattle.table.specs.declared.answers.Stage.{Stage}
+use Rattle.table.specs.declared.answers.Stage.the-variants.{Go, Refused}
 
 -- "either a value with the place after it, or a refusal": what each case of the enum says, in the state q with the memory m
 unfoldable pub after : Source → State → List ℕ → Stage → Filling

@@ -1,11 +1,11 @@
 // The byte at a place, and the refusal where no code stands that is allowed.
-use crate::Stage;
+use table::answers::Stage;
 use table::codes;
 use table::refusals::CODE_WRONG;
 use table::refusals::ENVELOPE_ENDS;
 ghost use mathlib.Core.Path.{_≡_};
 ghost use Rattle.values.specs.Stages.{Inside};
-ghost use Rattle.laws.specs.Pouring.{Peeked};
+ghost use Rattle.laws_steps.specs.Pouring.{Peeked};
 ghost use Rattle.read_rows.specs.Stages.{faultOf};
 
 // The byte that ends what is read, as a look finds it.

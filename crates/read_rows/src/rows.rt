@@ -1,6 +1,6 @@
 // One value and its row. Each function takes the value off the input from its first byte on, and the count n of rows so far.
 // It answers the place behind the value and n + 1, with the row put as row n where `rows` has room for it; or the value's refusal, with no row changed.
-use crate::Stage;
+use table::answers::Stage;
 use table::rows::put_row;
 use table::told::Told;
 use values::Value;
@@ -9,8 +9,8 @@ ghost use mathlib.Core.Path.{_≡_};
 ghost use Prim.Native.Nat.{_≤_};
 ghost use Rattle.meaning.specs.Told as meaning;
 ghost use Rattle.meaning.specs.Editions.{State, anyValues, representations};
-ghost use Rattle.laws.specs.Pouring.{headerMost, Ready};
-ghost use Rattle.laws.specs.Shapes.{Shaped};
+ghost use Rattle.laws_steps.specs.Pouring.{headerMost, Ready};
+ghost use Rattle.laws_steps.specs.Shapes.{Shaped};
 ghost use Rattle.table.specs.Told.{editionOf, toldOf};
 ghost use Rattle.date.specs.Dates.{datesOf};
 ghost use Rattle.values.specs.Stages.{ruleOf};

@@ -1,9 +1,9 @@
 // Runs of rows of one shape. Each function takes n rows so far and answers the place behind what it read with the rows then, or the first refusal.
-use crate::Stage;
 use crate::look::CLOSING;
 use crate::look::fault;
 use crate::look::peek;
 use crate::rows;
+use table::answers::Stage;
 use table::kinds::EXTRA_KEY;
 use table::told::Told;
 use values::text::Rule;
@@ -13,8 +13,8 @@ ghost use Rattle.meaning.specs.Bytes.{line};
 ghost use Rattle.meaning.specs.Kinds.{extraKey};
 ghost use Rattle.meaning.specs.Told as meaning;
 ghost use Rattle.meaning.specs.Editions.{State, anyValues};
-ghost use Rattle.laws.specs.Pouring.{Ready};
-ghost use Rattle.laws.specs.Shapes.{Shaped, Texts, Optional, Extras};
+ghost use Rattle.laws_steps.specs.Pouring.{Ready};
+ghost use Rattle.laws_steps.specs.Shapes.{Shaped, Texts, Optional, Extras};
 ghost use Rattle.table.specs.Told.{toldOf};
 ghost use Rattle.read_rows.specs.Stages.{StateRead, TextRead};
 

@@ -15,16 +15,16 @@ use Rattle.meaning.specs.Skips.{Rank}
 use Rattle.meaning.specs.Words.{wordsOf}
 use Rattle.meaning.specs.Memory.{reply, tableOf, roomOf, laidOver, roomWith, answerBy, rowsBy, wordsBy}
 use Rattle.meaning.specs.Payload.{partStart, partEnd, partBytes, payloadStart, payloadEnd, payloadBytes}
-use Rattle.laws.specs.Logic.{areBytes}
-use Rattle.laws.specs.Rows.{putAll}
-use Rattle.laws.specs.Hopping.{ranksFor, ranksAt, ranks-next}
-use Rattle.laws.specs.Skipping.{skipsLaid, all-laid-over}
-use Rattle.laws.specs.AllTabled.{ranksRead, AtMost, accepted-tabled, some-row}
-use Rattle.laws.specs.Wording.{top, Split, nothing, first, tabled-split}
-use Rattle.laws.specs.Beside.{put-ranks, put-stands}
-use Rattle.laws.specs.Adjoining.{read-neighbours, neighbours-at}
-use Rattle.laws.specs.Pouring.{filled, stopped, headerMost}
-use Rattle.laws.specs.Finishing.{finish}
+use Rattle.laws_steps.specs.Logic.{areBytes}
+use Rattle.laws_steps.specs.Rows.{putAll}
+use Rattle.laws_steps.specs.Hopping.{ranksFor, ranksAt, ranks-next}
+use Rattle.laws_tables.specs.Skipping.{skipsLaid, all-laid-over}
+use Rattle.laws_tables.specs.AllTabled.{ranksRead, AtMost, accepted-tabled, some-row}
+use Rattle.laws_tables.specs.Wording.{top, Split, nothing, first, tabled-split}
+use Rattle.laws_tables.specs.Beside.{put-ranks, put-stands}
+use Rattle.laws_tables.specs.Adjoining.{read-neighbours, neighbours-at}
+use Rattle.laws_steps.specs.Pouring.{filled, stopped, headerMost}
+use Rattle.laws_steps.specs.Finishing.{finish}
 use Rattle.skips.specs.Ends.{IsTop}
 use Rattle.lay_skips.specs.Laying.{Finishable, Finished}
 use Rattle.table.specs.declared.reply.Reply.{Reply}
@@ -34,8 +34,8 @@ use Rattle.table.specs.declared.told.Label.{Label}
 use Rattle.table.specs.declared.told.Label.the-variants.{Known, Unknown}
 use Rattle.table.specs.declared.told.Strictness as declared
 use Rattle.table.specs.Told.{labelIs, strictnessOf, toldOf}
-use Rattle.read_rows.specs.declared.Stage.{Stage}
-use Rattle.read_rows.specs.declared.Stage.the-variants.{Go, Refused}
+use Rattle.table.specs.declared.answers.Stage.{Stage}
+use Rattle.table.specs.declared.answers.Stage.the-variants.{Go, Refused}
 use Rattle.read_envelopes.specs.Headers.{fillingOf, PlaceFits, HeaderRead}
 use Rattle.reader.specs.Promises.{ReadsBy, PartPromise, PayloadPromise, AcceptedHeader, Surveyed, Counted}
 

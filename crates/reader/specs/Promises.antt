@@ -8,13 +8,13 @@ use Rattle.meaning.specs.Told.{Strictness, strict, tolerant}
 use Rattle.meaning.specs.Headers.{Placed, refused, accepted, envelopeMost, readBy}
 use Rattle.meaning.specs.Memory.{answerBy, rowsBy, wordsBy}
 use Rattle.meaning.specs.Payload.{payloadStart, payloadEnd, payloadBytes}
-use Rattle.laws.specs.Logic.{areBytes}
-use Rattle.laws.specs.Pouring.{headerMost}
-use Rattle.laws.specs.Finishing.{finish}
+use Rattle.laws_steps.specs.Logic.{areBytes}
+use Rattle.laws_steps.specs.Pouring.{headerMost}
+use Rattle.laws_steps.specs.Finishing.{finish}
 use Rattle.table.specs.declared.reply.Reply.{Reply}
 use Rattle.table.specs.Reply.{replyOf}
-use Rattle.read_rows.specs.declared.Stage.{Stage}
-use Rattle.read_rows.specs.declared.Stage.the-variants.{Refused, Go}
+use Rattle.table.specs.declared.answers.Stage.{Stage}
+use Rattle.table.specs.declared.answers.Stage.the-variants.{Refused, Go}
 use Rattle.read_envelopes.specs.Headers.{fillingOf, PlaceFits}
 use Rattle.reader.specs.declared.Part.{Part}
 

@@ -1,7 +1,8 @@
 // The reader: a header as rows and words in lent memory, and the payload behind it.
 use lay_skips::finish;
 use read_envelopes::header::read_header;
-use read_rows::Stage;
+use table::answers::Stage;
+use table::limits::WORDS_BORROWED;
 use table::refusals::EDITION_UNKNOWN;
 use table::refusals::ROWS_SHORT;
 use table::reply::Reply;
@@ -11,7 +12,6 @@ use table::told::Label;
 use table::told::Strictness;
 use table::told::Told;
 use table::told::label_of;
-use words::WORDS_BORROWED;
 ghost use mathlib.Core.Path.{_≡_};
 ghost use Prim.Native.Nat.{_/_};
 ghost use lib.Dec.{leb};

@@ -15,13 +15,13 @@ use Rattle.meaning.specs.Headers.{accepted, envelopeMost, envelopesMost, read}
 use Rattle.meaning.specs.Writing.{envelopeSize, wrap}
 use Rattle.meaning.specs.Memory.{reply, roomOf, roomWith, laidOver}
 use Rattle.meaning.specs.Relay.{Joint, bytesOf, joinedCount, jointOf, relayAnswer, relayRows, relayWords, relayOutput}
-use Rattle.laws.specs.Logic.{areBytes}
-use Rattle.laws.specs.Envelopes.{wrap-length, limit-size}
-use Rattle.laws.specs.EnvelopeCounts.{place-most}
-use Rattle.laws.specs.Demands.{accepted-shape}
-use Rattle.laws.specs.Joined.{joins}
-use Rattle.laws.specs.JoinedRead.{joinedRows, count-joined, new-count, joined-read}
-use Rattle.laws.specs.JoinedDemands.{LaidAsRead, joined-bytes, laid-as-read, read-laid}
+use Rattle.laws_steps.specs.Logic.{areBytes}
+use Rattle.laws_steps.specs.Envelopes.{wrap-length, limit-size}
+use Rattle.laws_tables.specs.EnvelopeCounts.{place-most}
+use Rattle.laws_tables.specs.Answered.{accepted-shape}
+use Rattle.laws_tables.specs.Joined.{joins}
+use Rattle.laws_tables.specs.JoinedRead.{joinedRows, count-joined, new-count, joined-read}
+use Rattle.laws_tables.specs.JoinedLaid.{LaidAsRead, joined-bytes, laid-as-read, read-laid}
 use Rattle.table.specs.declared.reply.Reply.{Reply}
 use Rattle.table.specs.Reply.{replyOf}
 use Rattle.reader.specs.Promises.{AcceptedHeader, ReadsBy}

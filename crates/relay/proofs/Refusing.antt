@@ -14,24 +14,24 @@ use Rattle.meaning.specs.Headers.{accepted, envelopeMost, envelopesMost, header
 use Rattle.meaning.specs.Writing.{Envelope, Plan, stuck, plan, envelopeSize, withinLimit}
 use Rattle.meaning.specs.Memory.{reply, skipsHeld, wordsRead}
 use Rattle.meaning.specs.Relay.{extensionPlan, relayed, unrelayed, jointOf, joinedPlan, behindOld, relayUnder, relay, relayAnswer, relayRows, relayWords, relayOutput}
-use Rattle.laws.specs.Logic.{areBytes, both-hold}
-use Rattle.laws.specs.Rows.{cellsAt, cells-are}
-use Rattle.laws.specs.Ties.{read-as}
-use Rattle.laws.specs.JoinedRead.{refused-as-read}
+use Rattle.laws_steps.specs.Logic.{areBytes, both-hold}
+use Rattle.laws_steps.specs.Rows.{cellsAt, cells-are}
+use Rattle.laws_tables.specs.Ties.{read-as}
+use Rattle.laws_tables.specs.JoinedRead.{refused-as-read}
 use Rattle.table.specs.declared.reply.Reply.{Reply}
 use Rattle.table.specs.Reply.{replyOf}
 use Rattle.table.specs.declared.told.Label.{Label}
 use Rattle.table.specs.declared.told.Label.the-variants.{Unknown}
 use Rattle.table.specs.Told.{labelIs}
-use Rattle.read_rows.specs.declared.Stage.{Stage}
-use Rattle.read_rows.specs.declared.Stage.the-variants.{Refused}
-use Rattle.read_envelopes.specs.Counts.{EnvelopesCounted}
+use Rattle.table.specs.declared.answers.Stage.{Stage}
+use Rattle.table.specs.declared.answers.Stage.the-variants.{Refused}
+use Rattle.frames.specs.Counts.{EnvelopesCounted}
 use Rattle.reader.specs.Promises.{AcceptedHeader, Counted}
 use Rattle.write_rows.specs.Laying.{capped, capped-most}
 use Rattle.write_envelopes.specs.Whole.{checkedOf}
 use Rattle.write_envelopes.specs.Extension.{extensionVerdict}
-use Rattle.write_envelopes.specs.declared.measure.Checked.{Checked}
-use Rattle.write_envelopes.specs.declared.measure.Checked.the-variants.{Bad, Needs}
+use Rattle.table.specs.declared.answers.Checked.{Checked}
+use Rattle.table.specs.declared.answers.Checked.the-variants.{Bad, Needs}
 use Rattle.writer.specs.Promise.{unlessWrong}
 use Rattle.relay.specs.Promise.{RelayPromise, newVerdict, OneMoreFits, Joinable}
 

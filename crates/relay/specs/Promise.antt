@@ -11,8 +11,8 @@ use Rattle.meaning.specs.Headers.{Placed, accepted, envelopesMost, header}
 use Rattle.meaning.specs.Writing.{Envelope, Plan, stuck, plan, withinLimit}
 use Rattle.meaning.specs.Memory.{wordsRead}
 use Rattle.meaning.specs.Relay.{extensionPlan, relayed, jointOf, relay, relayAnswer, relayRows, relayWords, relayOutput}
-use Rattle.laws.specs.Logic.{areBytes}
-use Rattle.laws.specs.Rows.{cellsAt}
+use Rattle.laws_steps.specs.Logic.{areBytes}
+use Rattle.laws_steps.specs.Rows.{cellsAt}
 use Rattle.table.specs.declared.reply.Reply.{Reply}
 use Rattle.table.specs.Reply.{replyOf}
 use Rattle.reader.specs.Promises.{AcceptedHeader}

@@ -7,8 +7,8 @@ use native.Mathlib.Omega.{arith}
 use lib.Dec.{eqb}
 use borrow.Author.Tests.{eqb-true}
 use Rattle.meaning.specs.Skips.{Rank, rank, isEnvelope, holdsDeeper, isValue, beside, belongs}
-use Rattle.laws.specs.Nesting.{false-not, by-beside, value-is, Belongs, belongs-how}
-use Rattle.laws.specs.Neighbours.{isFollower, leads}
+use Rattle.laws_steps.specs.Nesting.{false-not, by-beside, value-is, Belongs, belongs-how}
+use Rattle.laws_tables.specs.Neighbours.{isFollower, leads}
 use Rattle.skips.specs.Owning.{or-none}
 
 -- the kinds that follow another

@@ -8,7 +8,7 @@ use Rattle.meaning.specs.Basics.{pick}
 use Rattle.meaning.specs.Kinds.{agentName}
 use Rattle.meaning.specs.Skips.{rank, isEnvelope, holdsDeeper}
 use Rattle.meaning.specs.Words.{wordOf}
-use Rattle.laws.specs.Neighbours.{isFollower, kindMost}
+use Rattle.laws_tables.specs.Neighbours.{isFollower, kindMost}
 
 -- the bit of the parameter that a row of this kind opens or holds at level 0
 abbrev pub bitOf : ℕ → ℕ

@@ -13,9 +13,9 @@ use Rattle.meaning.specs.Editions.{closing}
 use Rattle.meaning.specs.Skips.{Rank, rank, isEnvelope, holdsDeeper, belongs}
 use Rattle.meaning.specs.Codes.{dateCode, codeOf}
 use Rattle.meaning.specs.Words.{occurs, wordOf}
-use Rattle.laws.specs.Nesting.{false-not}
-use Rattle.laws.specs.Presence.{or-words, no-other-bit}
-use Rattle.laws.specs.Neighbours.{isFollower, isSilent, Flat, kindMost}
+use Rattle.laws_steps.specs.Nesting.{false-not}
+use Rattle.laws_tables.specs.Presence.{or-words, no-other-bit}
+use Rattle.laws_tables.specs.Neighbours.{isFollower, isSilent, Flat, kindMost}
 use Rattle.skips.specs.Classes.{bitOf, wayOf, classOf, ClassesAre}
 use Rattle.skips.specs.Owning.{of-received, of-to, of-from, of-receiver, of-resolvers}
 use Rattle.skips.specs.Belonging.{by-follower, Light}

@@ -7,10 +7,10 @@ use native.Mathlib.Omega.{arith}
 use lib.Dec.{ltb}
 use borrow.Author.Tests.{ltb-true, ltb-false}
 use Rattle.meaning.specs.Skips.{Rank, belongs}
-use Rattle.laws.specs.Nesting.{false-not}
-use Rattle.laws.specs.Hopping.{rankAt, skipAt, HopsTo, hop-begins, hop-ends, hop-stops, step-on}
-use Rattle.laws.specs.Wording.{top, three-belongs, top-not}
-use Rattle.laws.specs.Neighbours.{isFollower}
+use Rattle.laws_steps.specs.Nesting.{false-not}
+use Rattle.laws_steps.specs.Hopping.{rankAt, skipAt, HopsTo, hop-begins, hop-ends, hop-stops, step-on}
+use Rattle.laws_tables.specs.Wording.{top, three-belongs, top-not}
+use Rattle.laws_tables.specs.Neighbours.{isFollower}
 
 -- an envelope's own row
 abbrev pub IsTop : Rank → Type 0

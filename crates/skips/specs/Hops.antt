@@ -7,7 +7,7 @@ use native.Mathlib.Omega.{arith}
 use lib.ListN.{getD}
 use Rattle.meaning.specs.Skips.{Rank, rank, belongs}
 use Rattle.meaning.specs.Memory.{rowWidth}
-use Rattle.laws.specs.Hopping.{rankAt, givenAt, skipAt, skip-forward, HopsTo, hop-on, hop-ends, hop-stops, step-on}
+use Rattle.laws_steps.specs.Hopping.{rankAt, givenAt, skipAt, skip-forward, HopsTo, hop-on, hop-ends, hop-stops, step-on}
 use Rattle.skips.specs.Owners.{Hoppable, Owned, owns}
 use Rattle.skips.specs.declared.owner.Owner.{Owner}
 

@@ -7,7 +7,7 @@ use lib.Dec.{eqb, ltb}
 use Rattle.meaning.specs.Basics.{pick}
 use Rattle.meaning.specs.Skips.{Rank, belongs, Skips, right, wrongAt}
 use Rattle.meaning.specs.Memory.{roomOf}
-use Rattle.laws.specs.Hopping.{rankAt, AllRight}
+use Rattle.laws_steps.specs.Hopping.{rankAt, AllRight}
 use Rattle.skips.specs.declared.owner.Owner.{Owner}
 use Rattle.skips.specs.declared.owner.Owner.the-variants.{Nothing, Deeper, Envelope, Agent, Addresses, Valued, Encrypted, OwnKey}
 

@@ -8,8 +8,8 @@ use borrow.Author.Tests.{lt-ltb, le-ltb}
 use Rattle.meaning.specs.Basics.{pick}
 use Rattle.meaning.specs.Skips.{right, wrongAt}
 use Rattle.meaning.specs.Memory.{roomOf, skipsHeld}
-use Rattle.laws.specs.Hopping.{givenAt, skipAt, heldAt, held-end, held-next, held-wrong, AllRight, all-held, held-are}
-use Rattle.laws.specs.Skipping.{skipsLaid, laid-length, laid-skip, laid-same}
+use Rattle.laws_steps.specs.Hopping.{givenAt, skipAt, heldAt, held-end, held-next, held-wrong, AllRight, all-held, held-are}
+use Rattle.laws_tables.specs.Skipping.{skipsLaid, laid-length, laid-skip, laid-same}
 use Rattle.skips.specs.Owners.{Hoppable, heldAs}
 
 -- From the last row to the first

@@ -2,7 +2,7 @@
 // the bits how its own rows are found.
 ghost use mathlib.Core.Path.{_≡_};
 ghost use Prim.Native.Nat.{_≤_};
-ghost use Rattle.laws.specs.Neighbours.{kindMost};
+ghost use Rattle.laws_tables.specs.Neighbours.{kindMost};
 ghost use Rattle.skips.specs.Classes.{classOf, ClassesAre};
 
 // All classes below this one have no rows when the pass comes to them.

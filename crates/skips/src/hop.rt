@@ -5,7 +5,7 @@ use table::rows::level_at;
 use table::rows::skip_at;
 ghost use mathlib.Core.Path.{_≡_};
 ghost use Prim.Native.Nat.{_≤_};
-ghost use Rattle.laws.specs.Hopping.{skipAt};
+ghost use Rattle.laws_steps.specs.Hopping.{skipAt};
 ghost use Rattle.skips.specs.Owners.{Hoppable, Owned, deeperTest, aboveTest};
 
 // Takes row i of n, to which all deeper rows belong and no others. Answers the row behind them.

@@ -11,7 +11,7 @@ use Rattle.meaning.specs.Basics.{pick}
 use Rattle.meaning.specs.Reading as meaning
 use Rattle.meaning.specs.Writing.{Cell, cell, broken}
 use Rattle.meaning.specs.Memory.{rowWidth, roomOf, cellOf}
-use Rattle.laws.specs.Rows.{wholeRows, rowCell, cellsAt, cells-next, cells-last}
+use Rattle.laws_steps.specs.Rows.{wholeRows, rowCell, cellsAt, cells-next, cells-last}
 use Rattle.table.specs.declared.rows.Row.{Row}
 use Rattle.table.specs.declared.rows.Ahead.{Ahead}
 

@@ -15,3 +15,6 @@ pub const SHORT_MOST: usize = 65535;
 pub const SHORT_HEAD: usize = 3;
 
 pub const LONG_HEAD: usize = 7;
+
+// "The reader then borrows sixteen words more."
+pub const WORDS_BORROWED: usize = 16;

@@ -4,8 +4,8 @@ ghost use lib.Dec.{eqb};
 ghost use Prim.Native.Nat.{_+_, _*_, _/_, _%_, _≤_, _<_};
 ghost use lib.ListN.{length, getD, set};
 ghost use Rattle.meaning.specs.Memory.{rowWidth, roomOf};
-ghost use Rattle.laws.specs.Rows.{put};
-ghost use Rattle.laws.specs.Hopping.{givenAt};
+ghost use Rattle.laws_steps.specs.Rows.{put};
+ghost use Rattle.laws_steps.specs.Hopping.{givenAt};
 ghost use Rattle.table.specs.Rows.{u32Most, RowIs, noRow, AheadIs};
 
 pub const ROW_NUMBERS: usize = 5;

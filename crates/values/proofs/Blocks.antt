@@ -10,8 +10,8 @@ use lib.ListN.{length, getD}
 use Rattle.meaning.specs.Bytes.{highFirst, Width, oneByte, twoBytes, fourBytes, bytesOf, fewest, tooWide, takeBytes, blockOf, takeBlock}
 use Rattle.meaning.specs.Told.{strict, tolerant, Told}
 use Rattle.meaning.specs.Kinds.{anyBytes}
-use Rattle.laws.specs.From.{from, from-length, from-end, from-cons}
-use Rattle.laws.specs.HighFirst.{high-few, high-one, high-two, high-four}
+use Rattle.laws_steps.specs.From.{from, from-length, from-end, from-cons}
+use Rattle.laws_steps.specs.HighFirst.{high-few, high-one, high-two, high-four}
 use Rattle.values.specs.declared.any.Length.{Length}
 use Rattle.values.specs.declared.any.Length.the-variants.{Says, Short}
 use Rattle.values.specs.declared.Value.the-variants.{Is, Refused}

@@ -9,11 +9,11 @@ use lib.Dec.{eqb, leb}
 use lib.ListN.{length, getD}
 use Rattle.meaning.specs.Bytes.{Taken, took, failed, prefixed, isDigit, digitOf, numberMost, turn, takeNumber}
 use Rattle.meaning.specs.Plain.{numberValue}
-use Rattle.laws.specs.From.{from, from-length, from-end, from-cons}
+use Rattle.laws_steps.specs.From.{from, from-length, from-end, from-cons}
 use Rattle.values.specs.declared.number.Turning.{Turning}
 use Rattle.values.specs.declared.number.Turning.the-variants.{Stop, More, Wrong}
 use Rattle.values.specs.Numbers.{turned, Worth, Turned, counts, fails, tally}
-use Rattle.laws.specs.Logic.{both-hold}
+use Rattle.laws_steps.specs.Logic.{both-hold}
 
 -- one byte, with the digit d of its upper half and whether it is one
 module _ (number : ℕ) (first : Bool) (b : ℕ) {d : ℕ} {x : Bool} (hd : d ≡ digitOf (b / 16)) (hx : x ≡ isDigit (b / 16)) where

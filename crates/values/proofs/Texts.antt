@@ -8,10 +8,10 @@ use borrow.Author.Tests.{ne-eqb, eqb-true, eqb-false, le-leb, lt-leb}
 use lib.Dec.{T, eqb}
 use lib.ListN.{length, getD}
 use Rattle.meaning.specs.Bytes.{Taken, took, failed, Rule, line, note, isBreak, textByte, takeText}
-use Rattle.laws.specs.From.{from, from-length, from-end, from-cons}
+use Rattle.laws_steps.specs.From.{from, from-length, from-end, from-cons}
 use Rattle.values.specs.Stages.{spans, misses, span, Skipped, Run, LineRun, textRun}
-use Rattle.laws.specs.Logic.{both-hold}
-use Rattle.laws.specs.Values.{text-byte-above}
+use Rattle.laws_steps.specs.Logic.{both-hold}
+use Rattle.laws_steps.specs.Values.{text-byte-above}
 use Rattle.values.specs.Answers.{span-prefixed}
 
 pub is-text : (b : ℕ) → 32 ≤ b → textByte line b ≡ true

@@ -5,7 +5,7 @@ use mathlib.Core.Path.{_≡_, refl, ap, _∙_}
 use native.Mathlib.Omega.{arith}
 use lib.ListN.{length}
 use Rattle.meaning.specs.Bytes.{Taken, took, failed, prefixed}
-use Rattle.laws.specs.From.{from}
+use Rattle.laws_steps.specs.From.{from}
 use Rattle.values.specs.declared.Value.{Value}
 use Rattle.values.specs.declared.Value.the-variants.{Is, Refused}
 use Rattle.values.specs.Stages.{spans, misses, span, spanOf, Stands, Valued}

@@ -4,7 +4,7 @@ use mathlib.Core.List.{List}
 use mathlib.Core.Path.{_≡_}
 use lib.ListN.{length}
 use Rattle.meaning.specs.Bytes.{Count, counted, short, highFirst, Width, bytesOf}
-use Rattle.laws.specs.From.{from}
+use Rattle.laws_steps.specs.From.{from}
 use Rattle.values.specs.declared.any.Length.{Length}
 use Rattle.values.specs.declared.any.Length.the-variants.{Says, Short}
 

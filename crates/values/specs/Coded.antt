@@ -7,7 +7,7 @@ use lib.ListN.{length, getD}
 use Rattle.meaning.specs.Told.{Told}
 use Rattle.meaning.specs.Editions.{Next, Move, Form, on_▸_▸_▸_}
 use Rattle.meaning.specs.Reading.{look, none, hit, takeValue, reachBack}
-use Rattle.laws.specs.From.{from}
+use Rattle.laws_steps.specs.From.{from}
 use Rattle.values.specs.declared.Value.{Value}
 use Rattle.values.specs.declared.Value.the-variants.{Is, Refused}
 use Rattle.values.specs.Stages.{Stands, Valued, Bears, Coded, unknown, valued}

@@ -6,7 +6,7 @@ use mathlib.Core.Path.{_≡_, refl, ap, _∙_}
 use native.Mathlib.Omega.{arith}
 use Rattle.meaning.specs.Bytes.{Taken, took, failed, takeNumber}
 use Rattle.meaning.specs.Kinds.{payloadLength}
-use Rattle.laws.specs.From.{from}
+use Rattle.laws_steps.specs.From.{from}
 use Rattle.values.specs.declared.number.Number.{Number}
 use Rattle.values.specs.declared.number.Number.the-variants.{Counts, Fails}
 use Rattle.values.specs.declared.Value.the-variants.{Is, Refused}

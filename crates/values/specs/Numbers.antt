@@ -6,7 +6,7 @@ use mathlib.Core.Path.{_≡_}
 use lib.ListN.{length}
 use Rattle.meaning.specs.Bytes.{Taken, took, failed, Turn, stop, more, wrong, turn, takeNumber, numberMost}
 use Rattle.meaning.specs.Plain.{numberValue}
-use Rattle.laws.specs.From.{from}
+use Rattle.laws_steps.specs.From.{from}
 use Rattle.values.specs.declared.number.Turning.{Turning}
 use Rattle.values.specs.declared.number.Turning.the-variants.{Stop, More, Wrong}
 use Rattle.values.specs.declared.number.Number.{Number}

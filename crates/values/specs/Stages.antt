@@ -11,7 +11,7 @@ use Rattle.meaning.specs.Told.{Told}
 use Rattle.meaning.specs.Kinds.{agentName}
 use Rattle.meaning.specs.Editions.{Next, Move, Form, isQuiet, noCode, on_▸_▸_▸_}
 use Rattle.meaning.specs.Reading.{look, none, hit, takeValue, reachBack}
-use Rattle.laws.specs.From.{from}
+use Rattle.laws_steps.specs.From.{from}
 use Rattle.values.specs.declared.text.Rule as declared
 use Rattle.values.specs.declared.text.Rule.the-variants.{Line, Note}
 use Rattle.values.specs.declared.Value.{Value}

@@ -18,7 +18,7 @@ ghost use lib.Dec.{ltb};
 ghost use Rattle.meaning.specs.Bytes.{Width, bytesOf, fewest, tooWide, takeBlock};
 ghost use Rattle.meaning.specs.Kinds.{anyBytes};
 ghost use Rattle.meaning.specs.Editions.{anyValues};
-ghost use Rattle.laws.specs.From.{from};
+ghost use Rattle.laws_steps.specs.From.{from};
 ghost use Rattle.table.specs.Told.{toldOf};
 ghost use Rattle.values.specs.Stages.{Inside, Valued, Coded};
 ghost use Rattle.values.specs.Blocks.{BlockAt, IsWidth, LengthRead};

@@ -11,7 +11,7 @@ ghost use mathlib.Core.Bool.{true};
 ghost use Prim.Native.Nat.{_≤_, _<_};
 ghost use Rattle.meaning.specs.Bytes.{takeNumber, numberMost};
 ghost use Rattle.meaning.specs.Kinds.{payloadLength};
-ghost use Rattle.laws.specs.From.{from};
+ghost use Rattle.laws_steps.specs.From.{from};
 ghost use Rattle.values.specs.Stages.{Inside, Valued};
 ghost use Rattle.values.specs.Numbers.{Turned, Counted};
 
@@ -82,8 +82,9 @@ pub fn count(s: &[u8], end: usize, at: usize) -> Number
     }
 }
 
+// Takes the number so far, whether this is its first byte, and the byte. Answers what the byte does to it: it ends the number, leads on, or is wrong.
 // "An odd digit count ends with four zero bits, an even one with a byte 00."
-fn turn(number: u64, first: bool, b: u32) -> Turning
+pub fn turn(number: u64, first: bool, b: u32) -> Turning
     requires { ⌜ (number ≤ numberMost) × (b < 256) ⌝ }
     ensures { λ r. ⌜ Turned number first b r ⌝ }
 {

@@ -10,7 +10,7 @@ ghost use mathlib.Core.Bool.{true, false};
 ghost use Prim.Native.Nat.{ℕ, _+_, _-_, _≤_, _<_};
 ghost use lib.ListN.{length, getD};
 ghost use Rattle.meaning.specs.Bytes.{line, note, isBreak, textByte, takeText};
-ghost use Rattle.laws.specs.From.{from};
+ghost use Rattle.laws_steps.specs.From.{from};
 ghost use Rattle.values.specs.Stages.{Inside, Valued, ruleOf, Skipped, Run, LineRun, textRun};
 
 // What a text is for: a line, or a note, which may have line breaks.

@@ -9,11 +9,11 @@ use Rattle.meaning.specs.Told.{strict}
 use Rattle.meaning.specs.Headers.{Placed, Answer, refused, accepted, readBy}
 use Rattle.meaning.specs.Memory.{Reply, reply, readReply, readMemory, roomWith, tableOf, wordsRead, answerBy, rowsBy, wordsBy}
 use Rattle.meaning.specs.Which.{Sorted, allowing, either, editionsOf, readEither, sorted, whichAnswer, whichRows, whichWords}
-use Rattle.laws.specs.Logic.{areBytes}
+use Rattle.laws_steps.specs.Logic.{areBytes}
 use Rattle.table.specs.declared.reply.Reply as table
 use Rattle.table.specs.Reply.{replyOf}
-use Rattle.read_rows.specs.declared.Stage.{Stage}
-use Rattle.read_rows.specs.declared.Stage.the-variants.{Refused, Go}
+use Rattle.table.specs.declared.answers.Stage.{Stage}
+use Rattle.table.specs.declared.answers.Stage.the-variants.{Refused, Go}
 use Rattle.reader.specs.Promises.{ReadsBy, Counted}
 use Rattle.which.specs.declared.Sorted as declared
 use Rattle.which.specs.Promise.{WhichPromise, sortedOf}

@@ -5,7 +5,7 @@ use mathlib.Core.Path.{_≡_}
 use lib.Dec.{T}
 use Rattle.meaning.specs.Memory.{reply}
 use Rattle.meaning.specs.Which.{Sorted, whichAnswer, whichRows, whichWords}
-use Rattle.laws.specs.Logic.{areBytes}
+use Rattle.laws_steps.specs.Logic.{areBytes}
 use Rattle.which.specs.declared.Sorted as declared
 
 abbrev pub sortedOf : declared.Sorted → Sorted

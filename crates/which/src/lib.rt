@@ -1,7 +1,7 @@
 // Order 9: a reading that is told no edition.
-use read_rows::Stage;
 use reader::count;
 use reader::fill;
+use table::answers::Stage;
 use table::reply::Reply;
 use table::told::Strictness;
 ghost use mathlib.Core.Path.{_≡_};

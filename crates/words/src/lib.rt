@@ -1,10 +1,6 @@
-// Order 6, presence words: how many the reader borrows, and how many different codes a word carries. The words themselves are laid with the skip
-// numbers (`lay_skips`).
+// Order 6, presence words: how many different codes one carries. The words themselves are laid with the skip numbers (`lay_skips`).
 ghost use mathlib.Core.Path.{_≡_};
 ghost use Rattle.meaning.specs.Words.{onesOf};
-
-// "The reader then borrows sixteen words more".
-pub const WORDS_BORROWED: usize = 16;
 
 // "how many different codes it carries, from the word itself": the count of ones of any word.
 pub fn ones(word: u32) -> u32

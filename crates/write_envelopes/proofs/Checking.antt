@@ -13,7 +13,7 @@ use Rattle.meaning.specs.Told.{Edition}
 use Rattle.meaning.specs.Memory.{roomOf}
 use Rattle.meaning.specs.Kinds.{baseOpens}
 use Rattle.write_rows.specs.Laying.{capped, capped-most}
-use Rattle.laws.specs.Rows.{cellsAt, cells-next, cells-none, cells-part, wholeRows}
+use Rattle.laws_steps.specs.Rows.{cellsAt, cells-next, cells-none, cells-part, wholeRows}
 use Rattle.write_rows.specs.Bodies.{Body, halt, body, bodyOf}
 use Rattle.write_inside.specs.Insides.{openNumber, open-end}
 use Rattle.write_envelopes.specs.Whole.{edge, fromBody, Verdict, bad, needs, verdictOf, verdict, endVerdict, limitOf, checkedOf, Measured, OneMore}

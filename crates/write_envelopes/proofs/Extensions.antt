@@ -10,11 +10,11 @@ use Rattle.meaning.specs.Headers.{start}
 use Rattle.meaning.specs.Writing.{Cell, cell, broken, Opens, envelopeRow, innerRow, opensOf, Envelope, Plan, stuck, plan, fine, envelopeSize, wrap}
 use Rattle.meaning.specs.Memory.{roomOf, laidOver}
 use Rattle.meaning.specs.Relay.{extensionInside, extensionPlan}
-use Rattle.laws.specs.Rows.{cellsAt, cells-next}
+use Rattle.laws_steps.specs.Rows.{cellsAt, cells-next}
 use Rattle.write_rows.specs.Laying.{capped}
 use Rattle.write_rows.specs.Bodies.{Body, halt, body, bodyOf, opensNumber}
 use Rattle.write_inside.specs.Insides.{openNumber}
-use Rattle.laws.specs.Envelopes.{wrap-length}
+use Rattle.laws_steps.specs.Envelopes.{wrap-length}
 use Rattle.write_inside.specs.declared.body.Bodied.{Bodied}
 use Rattle.write_envelopes.specs.Whole.{edge, fromBody, bad, endVerdict, EnvelopeWritten}
 use Rattle.write_envelopes.specs.Extension.{extensionVerdict}

@@ -7,13 +7,13 @@ use lib.ListN.{length, take, drop, set, length-append, length-set}
 use lib.Seq.{set-split, take-at, length-take-le}
 use borrow.Author.Tests.{eq-eqb, ne-eqb}
 use Rattle.meaning.specs.Writing.{Envelope, Plan, wholePlan, Limit, fine}
-use Rattle.laws.specs.Rows.{cellsAt}
+use Rattle.laws_steps.specs.Rows.{cellsAt}
 use Rattle.meaning.specs.Told.{Edition}
 use Rattle.meaning.specs.Headers.{envelopesMost}
 use Rattle.meaning.specs.Kinds.{baseOpens}
 use Rattle.write_inside.specs.Insides.{openNumber}
 use Rattle.write_envelopes.specs.Whole.{bad, needs, verdict, sized, limitOf, checkedOf, envelopesOf, insides, insidesOf, Begins, CheckedAs}
-use Rattle.write_envelopes.specs.declared.measure.Checked.{Checked}
+use Rattle.table.specs.declared.answers.Checked.{Checked}
 use Rattle.write_envelopes.specs.declared.measure.Sizes.{Sizes}
 use Rattle.write_envelopes.proofs.Wholes.{whole-edge, small-count}
 use Rattle.write_envelopes.proofs.Checking.{rest, here, Ends}

@@ -9,7 +9,7 @@ use lib.ListN.{length}
 use Rattle.meaning.specs.Told.{Edition}
 use Rattle.meaning.specs.Headers.{start}
 use Rattle.meaning.specs.Writing.{Cell, cell, broken, Opens, envelopeRow, innerRow, opensOf, Envelope, envelopeAt, Plan, stuck, plan, newPlan, planOf, envelopeSize, headerOf, Limit, fine, exceeds, limits}
-use Rattle.laws.specs.Rows.{cellsAt}
+use Rattle.laws_steps.specs.Rows.{cellsAt}
 use Rattle.meaning.specs.Kinds.{baseOpens}
 use Rattle.write_rows.specs.Bodies.{Body, halt, body}
 use Rattle.write_inside.specs.Insides.{openNumber}

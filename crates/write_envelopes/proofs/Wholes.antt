@@ -14,8 +14,8 @@ use Rattle.meaning.specs.Editions.{State, state, closed}
 use Rattle.meaning.specs.Reading.{Row}
 use Rattle.meaning.specs.Headers.{start, envelopeMost}
 use Rattle.meaning.specs.Writing.{Fit, unfit, fits, fitRow, close, Cell, cell, broken, Opens, envelopeRow, innerRow, opensOf, Envelope, envelopeAt, Plan, stuck, plan, onPlan, newPlan, rowPlan, turnPlan, endPlan, nextRow, lastRow, planOf, wholePlan, envelopeSize, withinLimit, wrap, headerOf, Limit, fine, exceeds, limits}
-use Rattle.laws.specs.Fits.{close-once}
-use Rattle.laws.specs.Envelopes.{wrap-length}
+use Rattle.laws_steps.specs.Fits.{close-once}
+use Rattle.laws_steps.specs.Envelopes.{wrap-length}
 use Rattle.meaning.specs.Kinds.{baseOpens}
 use Rattle.write_rows.specs.Laying.{capped}
 use Rattle.write_rows.specs.Bodies.{Body, halt, body, onBody, sealBody, rowBody, cellBody, bodyOf, opensNumber}

@@ -10,8 +10,8 @@ use lib.Seq.{take-at, drop-at, drop-drop, getD-drop}
 use borrow.Author.Tests.{eq-eqb, ne-eqb}
 use Rattle.meaning.specs.Writing.{Cell, Envelope, Plan, wholePlan, envelopeSize, wrap, headerOf, fine}
 use Rattle.meaning.specs.Memory.{laidOver}
-use Rattle.laws.specs.Envelopes.{wrap-length}
-use Rattle.laws.specs.Rows.{cellsAt}
+use Rattle.laws_steps.specs.Envelopes.{wrap-length}
+use Rattle.laws_steps.specs.Rows.{cellsAt}
 use Rattle.meaning.specs.Told.{Edition}
 use Rattle.meaning.specs.Headers.{envelopeMost, envelopesMost}
 use Rattle.meaning.specs.Kinds.{baseOpens}

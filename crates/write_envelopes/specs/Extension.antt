@@ -10,7 +10,7 @@ use Rattle.meaning.specs.Writing.{Envelope, Plan, stuck, plan, envelopeSize, wr
 use Rattle.meaning.specs.Memory.{laidOver}
 use Rattle.meaning.specs.Relay.{extensionPlan}
 use Rattle.write_rows.specs.Laying.{capped}
-use Rattle.laws.specs.Rows.{cellsAt}
+use Rattle.laws_steps.specs.Rows.{cellsAt}
 use Rattle.write_envelopes.specs.Whole.{Verdict, bad, needs}
 
 abbrev pub extensionVerdict : Plan → Verdict

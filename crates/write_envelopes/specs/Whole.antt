@@ -11,12 +11,12 @@ use Rattle.meaning.specs.Writing.{Cell, cell, broken, Opens, envelopeRow, inner
 use Rattle.meaning.specs.Memory.{roomOf}
 use Rattle.write_rows.specs.Laying.{capped}
 use Rattle.write_rows.specs.Bodies.{Body, halt, body}
-use Rattle.laws.specs.Rows.{cellsAt}
+use Rattle.laws_steps.specs.Rows.{cellsAt}
 use Rattle.write_inside.specs.declared.body.Bodied.{Bodied}
 use Rattle.write_inside.specs.declared.body.Bodied.the-variants.{Stuck, Ended}
 use Rattle.write_envelopes.specs.declared.measure.Sizes.{Sizes}
-use Rattle.write_envelopes.specs.declared.measure.Checked.{Checked}
-use Rattle.write_envelopes.specs.declared.measure.Checked.the-variants.{Bad, Needs}
+use Rattle.table.specs.declared.answers.Checked.{Checked}
+use Rattle.table.specs.declared.answers.Checked.the-variants.{Bad, Needs}
 
 -- what follows the inside of an envelope; base: it was the base
 abbrev pub openPlan : ℕ → List ℕ → (Bool → Plan) → Opens → Plan

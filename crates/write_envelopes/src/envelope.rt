@@ -19,7 +19,7 @@ ghost use Rattle.meaning.specs.Kinds.{baseOpens};
 ghost use Rattle.meaning.specs.Headers.{start, envelopeMost};
 ghost use Rattle.meaning.specs.Writing.{wholePlan};
 ghost use Rattle.meaning.specs.Memory.{laidOver};
-ghost use Rattle.laws.specs.Rows.{cellsAt};
+ghost use Rattle.laws_steps.specs.Rows.{cellsAt};
 ghost use Rattle.table.specs.Told.{editionOf};
 ghost use Rattle.write_rows.specs.Laying.{Laid};
 ghost use Rattle.write_rows.specs.Bodies.{bodyOf};

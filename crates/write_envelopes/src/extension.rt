@@ -1,18 +1,18 @@
 // Order 2: a table of one extension envelope and nothing else.
 use crate::envelope::put_envelope;
-use crate::measure::Checked;
 use crate::measure::ENVELOPES;
 use crate::measure::Sizes;
 use crate::measure::ended;
 use crate::measure::measure;
 use crate::measure::no_table;
+use table::answers::Checked;
 use table::kinds::EXTENSION_OPENS;
 use table::told::Edition;
 use write_inside::body::Bodied;
 use write_inside::body::open_at;
 ghost use mathlib.Core.Path.{_≡_};
 ghost use Rattle.meaning.specs.Relay.{extensionPlan};
-ghost use Rattle.laws.specs.Rows.{cellsAt};
+ghost use Rattle.laws_steps.specs.Rows.{cellsAt};
 ghost use Rattle.table.specs.Told.{editionOf};
 ghost use Rattle.write_envelopes.specs.Whole.{checkedOf};
 ghost use Rattle.write_envelopes.specs.Extension.{extensionVerdict, ExtensionFits, ExtensionLaid};

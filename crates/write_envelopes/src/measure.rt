@@ -1,4 +1,5 @@
 // The pass that checks and measures: "15 over all rows, then 5 (place: the envelope's row)".
+use table::answers::Checked;
 use table::kinds::BASE_OPENS;
 use table::limits::ENVELOPE_MOST;
 use table::limits::ENVELOPES_MOST;
@@ -20,19 +21,13 @@ ghost use lib.ListN.{length, set};
 ghost use Rattle.meaning.specs.Headers.{start, envelopeMost, envelopesMost};
 ghost use Rattle.meaning.specs.Memory.{roomOf};
 ghost use Rattle.meaning.specs.Writing.{envelopeSize, wholePlan};
-ghost use Rattle.laws.specs.Rows.{cellsAt};
+ghost use Rattle.laws_steps.specs.Rows.{cellsAt};
 ghost use Rattle.table.specs.Told.{editionOf};
 ghost use Rattle.write_rows.specs.Bodies.{bodyOf};
 ghost use Rattle.write_envelopes.specs.Whole.{bad, passedAt, Measured, OneMore, limitOf, endVerdict, checkedOf, CheckedAs};
 
 // How many envelopes' lengths the check notes: as many as a table may have.
 pub const ENVELOPES: usize = ENVELOPES_MOST as usize;
-
-// A refusal, or the bytes needed.
-pub enum Checked {
-    Bad { answer: u32, place: usize },
-    Needs(usize),
-}
 
 // The envelopes so far: how many may still come, their bytes, and the row of the first that is past a limit.
 pub struct Sizes {

@@ -18,7 +18,7 @@ use Rattle.meaning.specs.Headers.{envelopeMost}
 use Rattle.write_rows.specs.Bodies.{onBody, rowBody, cellBody, bodyOf, opensNumber}
 use Rattle.write_rows.specs.Stands.{fits-pass, led-row, LedBy, closing-first}
 use Rattle.write_rows.specs.Laying.{Laid}
-use Rattle.laws.specs.Rows.{cellsAt}
+use Rattle.laws_steps.specs.Rows.{cellsAt}
 use Rattle.write_rows.specs.Rooms.{ofKind, ownAmong, NotAmong}
 use Rattle.table.specs.Rows.{rowAhead, AheadIs, ahead-cells, ahead-row}
 use Rattle.write_rows.specs.Stages.{RowTaken, TriedIs, Onward, AdvanceIs, Beyond, afterNeeded, atParameters}

@@ -4,7 +4,7 @@ use mathlib.Core.List.{List, [], _∷_, append-nil}
 use mathlib.Core.Bool.{Bool, true, false, not}
 use mathlib.Core.Path.{_≡_, refl, ap, sym, _∙_, subst}
 use mathlib.Core.Logic.{_⊎_, inl, inr}
-use Rattle.laws.specs.From.{from, from-length}
+use Rattle.laws_steps.specs.From.{from, from-length}
 use Rattle.table.specs.declared.rows.Ahead.{Ahead}
 use native.Mathlib.Omega.{arith}
 use Rattle.meaning.specs.Kinds.{baseOpens}
@@ -16,8 +16,8 @@ use Rattle.meaning.specs.Told.{Edition}
 use Rattle.meaning.specs.Editions.{State, state, headDate, closed, outer, representations}
 use Rattle.meaning.specs.Headers.{start}
 use Rattle.meaning.specs.Writing.{Cell, cell, broken, Opens, envelopeRow, innerRow, opensOf, fitRow}
-use Rattle.laws.specs.Fits.{close-once}
-use Rattle.laws.specs.Rows.{rowCell, cellsAt, cells-next, cells-last, wholeRows}
+use Rattle.laws_steps.specs.Fits.{close-once}
+use Rattle.laws_steps.specs.Rows.{rowCell, cellsAt, cells-next, cells-last, wholeRows}
 use Rattle.table.specs.Rows.{RowAhead, viewed, rowAhead, NoRow, AheadIs, no-row}
 use Rattle.meaning.specs.Memory.{roomOf}
 use Rattle.write_rows.specs.Bodies.{Body, halt, body, onBody, sealBody, rowBody, cellBody, bodyOf, opensNumber}

@@ -9,7 +9,7 @@ use Rattle.meaning.specs.Headers.{envelopeMost}
 use Rattle.meaning.specs.Memory.{roomOf}
 use Rattle.meaning.specs.Told.{Edition}
 use Rattle.meaning.specs.Writing.{Cell, cell, broken, wayTo}
-use Rattle.laws.specs.Rows.{cellsAt}
+use Rattle.laws_steps.specs.Rows.{cellsAt}
 use Rattle.write_rows.specs.Among.{SameAhead, tried-same}
 use Rattle.write_rows.specs.Laying.{Laid}
 use Rattle.write_rows.specs.Onward.{needed-is, advance-then}

@@ -10,8 +10,8 @@ use Rattle.meaning.specs.Editions.{state, closed}
 use Rattle.meaning.specs.Reading.{Row}
 use Rattle.meaning.specs.Writing.{Fit, unfit, fits, fitRow, Cell, cell, broken, opensOf}
 use Rattle.meaning.specs.Memory.{roomOf}
-use Rattle.laws.specs.Plans.{closed-fits}
-use Rattle.laws.specs.Rows.{wholeRows, cellsAt, cells-last}
+use Rattle.laws_steps.specs.Plans.{closed-fits}
+use Rattle.laws_steps.specs.Rows.{wholeRows, cellsAt, cells-last}
 use Rattle.write_rows.specs.Laying.{Laid}
 use Rattle.write_rows.specs.Bodies.{Body, halt, body, opensNumber}
 use Rattle.write_inside.specs.declared.body.Bodied.{Bodied}

@@ -10,7 +10,7 @@ use Rattle.meaning.specs.Editions.{outer, encryptedTexts, parameters, agentList
 use Rattle.meaning.specs.Writing.{Cell, cell, broken, wayTo}
 use Rattle.meaning.specs.Told.{Edition, B, D}
 use Rattle.write_rows.specs.Bodies.{halt}
-use Rattle.laws.specs.Rows.{cellsAt}
+use Rattle.laws_steps.specs.Rows.{cellsAt}
 use Rattle.write_rows.specs.Rooms.{ofKind, NotAmong}
 use Rattle.write_rows.specs.Stages.{bodyAt, Onward, atParameters}
 use Rattle.write_rows.specs.declared.advance.Tried.{Tried}

@@ -17,7 +17,7 @@ ghost use lib.ListN.{length};
 ghost use Rattle.meaning.specs.Editions.{state, closed};
 ghost use Rattle.meaning.specs.Headers.{start, envelopeMost};
 ghost use Rattle.meaning.specs.Memory.{roomOf};
-ghost use Rattle.laws.specs.Rows.{cellsAt};
+ghost use Rattle.laws_steps.specs.Rows.{cellsAt};
 ghost use Rattle.table.specs.Told.{editionOf};
 ghost use Rattle.write_rows.specs.Bodies.{bodyOf};
 ghost use Rattle.write_rows.specs.Stages.{AdvanceIs, atParameters};

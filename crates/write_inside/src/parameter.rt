@@ -33,7 +33,7 @@ ghost use Rattle.meaning.specs.Kinds.{receivedBy, payloadLength, payloadEncodin
 ghost use Rattle.meaning.specs.Editions.{parameters, ownText, behaviourValue, outer, opens, on_▸_▸_▸_};
 ghost use Rattle.meaning.specs.Told;
 ghost use Rattle.meaning.specs.Told.{B};
-ghost use Rattle.laws.specs.Rows.{cellsAt};
+ghost use Rattle.laws_steps.specs.Rows.{cellsAt};
 ghost use Rattle.table.specs.Told.{editionOf};
 ghost use Rattle.write_rows.specs.Stages.{StageRequires};
 ghost use Rattle.write_inside.specs.Parameters.{Names, namingCode, namingMove, Represents, KindAhead, afterOne, afterAdvance, encryptedIn, ParameterIs, FoundIs};

@@ -9,7 +9,7 @@ use Rattle.meaning.specs.Editions.{state, afterVia, noCode}
 use Rattle.meaning.specs.Told.{Edition, B, D}
 use Rattle.meaning.specs.Memory.{roomOf}
 use Rattle.write_rows.specs.Laying.{Laid}
-use Rattle.laws.specs.Rows.{cellsAt}
+use Rattle.laws_steps.specs.Rows.{cellsAt}
 use Rattle.write_rows.specs.Rooms.{ExtrasIn}
 use Rattle.write_rows.specs.Stages.{Onward, atParameters}
 use Rattle.write_rows.specs.Among.{nothing-among}

@@ -16,7 +16,7 @@ use Rattle.meaning.specs.Memory.{roomOf}
 use Rattle.meaning.specs.Headers.{envelopeMost}
 use Rattle.write_rows.specs.Laying.{Laid}
 use Rattle.write_rows.specs.Bodies.{halt}
-use Rattle.laws.specs.Rows.{cellsAt}
+use Rattle.laws_steps.specs.Rows.{cellsAt}
 use Rattle.write_rows.specs.Rooms.{NotAmong, Closes, ExtrasIn}
 use Rattle.write_rows.specs.Stages.{bodyAt, RowTaken, Onward}
 use Rattle.write_objects.specs.Turns.{agentNames, agentsAt, ListTurnIs}

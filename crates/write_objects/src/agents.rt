@@ -21,7 +21,7 @@ ghost use Prim.Native.Nat.{_-_, _≤_};
 ghost use Rattle.meaning.specs.Editions.{state, afterName, afterAddresses, afterResolvers, parameters};
 ghost use Rattle.meaning.specs.Reading.{levelMost};
 ghost use Rattle.meaning.specs.Told;
-ghost use Rattle.laws.specs.Rows.{cellsAt};
+ghost use Rattle.laws_steps.specs.Rows.{cellsAt};
 ghost use Rattle.table.specs.Told.{editionOf};
 ghost use Rattle.write_rows.specs.Rooms.{NotAmong};
 ghost use Rattle.write_rows.specs.Stages.{StageRequires, Onward, AdvanceIs};

@@ -14,13 +14,13 @@ use Rattle.meaning.specs.Kinds.{standardRepresentation, anyBytes}
 use Rattle.meaning.specs.Editions.{Next, date, block, itself, Move, representations, anyValues, on_▸_▸_▸_}
 use Rattle.meaning.specs.Reading.{Found, none, hit, find}
 use Rattle.meaning.specs.Writing.{valid, atLevel, standsFor, lead, writeValue}
-use Rattle.laws.specs.Logic.{right-of}
-use Rattle.laws.specs.From.{from, from-length}
+use Rattle.laws_steps.specs.Logic.{right-of}
+use Rattle.laws_steps.specs.From.{from, from-length}
 use Rattle.date.specs.Dates.{reaching, datesOf}
 use Rattle.table.specs.Rows.{rowWith, RowAhead, AheadIs, viewed, rowAhead, ahead-cells, ahead-row, u32Most}
 use Rattle.meaning.specs.Told.{Edition, B, D}
 use Rattle.write_rows.specs.Laying.{one, Laid, laid-as}
-use Rattle.laws.specs.Rows.{cellsAt}
+use Rattle.laws_steps.specs.Rows.{cellsAt}
 use Rattle.write_rows.specs.Codes.{dateCode, blockBytes}
 use Rattle.write_rows.specs.Rooms.{ofKind, standards, ownAmong, NotAmong}
 use Rattle.write_rows.specs.Stages.{SoughtIs, RowTaken}

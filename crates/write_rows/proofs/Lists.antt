@@ -11,7 +11,7 @@ use Rattle.meaning.specs.Reading.{levelMost}
 use Rattle.meaning.specs.Told.{Edition}
 use Rattle.meaning.specs.Memory.{roomOf}
 use Rattle.write_rows.specs.Laying.{Laid}
-use Rattle.laws.specs.Rows.{cellsAt}
+use Rattle.laws_steps.specs.Rows.{cellsAt}
 use Rattle.write_rows.specs.Bodies.{halt}
 use Rattle.write_rows.specs.Rooms.{NotAmong, TextsIn, ExtrasIn}
 use Rattle.write_rows.specs.Stages.{bodyAt, RowTaken, Onward}

@@ -6,7 +6,7 @@ use mathlib.Core.Path.{_≡_, refl, ap, sym, _∙_, subst}
 use native.Mathlib.Omega.{arith}
 use Rattle.meaning.specs.Writing.{cell}
 use Rattle.table.specs.Rows.{rowWith, noRow, NoRow, RowAhead, AheadIs, viewed, rowAhead, ahead-cells, no-row}
-use Rattle.laws.specs.Rows.{cellsAt}
+use Rattle.laws_steps.specs.Rows.{cellsAt}
 use Rattle.write_rows.specs.Stages.{NotOf, SoughtIs}
 use Rattle.table.specs.declared.rows.Ahead.{Ahead}
 

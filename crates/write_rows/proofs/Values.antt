@@ -11,9 +11,9 @@ use borrow.Author.Tests.{ne-eqb, eqb-true, leb-false, leb-true}
 use Rattle.meaning.specs.Basics.{pick, isEmpty}
 use Rattle.meaning.specs.Bytes.{Taken, took, failed, prefixed, Rule, textByte, takeText, textOk, numberOk, takeNumber, dateOk, takeDate, Check, passes, Reach, absolute, relative, dateChecks}
 use Rattle.meaning.specs.Writing.{isOnly}
-use Rattle.laws.specs.Logic.{is-true}
-use Rattle.laws.specs.From.{from, from-length, from-end, from-cons}
-use Rattle.laws.specs.Values.{Was, text-byte-above, date-in, date-out, number-in, number-out}
+use Rattle.laws_steps.specs.Logic.{is-true}
+use Rattle.laws_steps.specs.From.{from, from-length, from-end, from-cons}
+use Rattle.laws_steps.specs.Values.{Was, text-byte-above, date-in, date-out, number-in, number-out}
 use Rattle.values.specs.declared.Value.{Value}
 use Rattle.values.specs.declared.Value.the-variants.{Is, Refused}
 use Rattle.values.specs.Stages.{Span, span, spans, misses, Valued, Run}

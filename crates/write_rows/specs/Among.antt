@@ -13,7 +13,7 @@ use Rattle.meaning.specs.Reading.{Row, tooDeep, Found, none, hit, find, orElse}
 use Rattle.meaning.specs.Writing.{atLevel, standsFor, valid, lead, writeValue, Cell, cell, broken}
 use Rattle.table.specs.Rows.{rowWith, RowAhead, viewed}
 use Rattle.write_rows.specs.Laying.{Laid}
-use Rattle.laws.specs.Rows.{cellsAt}
+use Rattle.laws_steps.specs.Rows.{cellsAt}
 use Rattle.write_rows.specs.Rooms.{rowsOf, ofKind, ownAmong, NotAmong, AllLead}
 use Rattle.write_rows.specs.Stages.{NotOf, SoughtIs, RowTaken, TriedIs}
 use Rattle.table.specs.declared.rows.Ahead.{Ahead}

@@ -15,7 +15,7 @@ use Rattle.meaning.specs.Memory.{roomOf}
 use Rattle.meaning.specs.Headers.{envelopeMost}
 use Rattle.write_rows.specs.Laying.{Laid, Layable, laid-then, laid-layable}
 use Rattle.write_rows.specs.Bodies.{Body, halt, body, onBody, rowBody, bodyOf, body-row, body-starts}
-use Rattle.laws.specs.Rows.{cellsAt}
+use Rattle.laws_steps.specs.Rows.{cellsAt}
 use Rattle.write_rows.specs.Rooms.{rowsOf, ownAmong, NotAmong, AllLead, Closes, Needs}
 use Rattle.write_rows.specs.Stages.{bodyAt, RowTaken, TriedIs, Onward, AdvanceIs, Beyond, afterNeeded}
 use Rattle.write_rows.specs.declared.advance.Tried.{Tried}

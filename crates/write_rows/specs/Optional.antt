@@ -10,11 +10,11 @@ use Rattle.meaning.specs.Told.{Edition}
 use Rattle.meaning.specs.Editions.{Room, State, state, Next, outer, inner, innerOne, stay, deeper, listEnds, agentEnds, isQuiet, closing, Move, moves, go}
 use Rattle.meaning.specs.Reading.{isClosed, tooDeep, Row, Found, none, hit, find, orElse}
 use Rattle.meaning.specs.Writing.{unfit, fits, led, Way, byOwn, byPass, nowhere, ways, wayOf, wayTo, fitBy, close, closeBy, Opens, envelopeRow, innerRow, lead, atLevel, standsFor, isPass, writeValue, fitRow, Cell, cell, broken, opensOf}
-use Rattle.laws.specs.Fits.{fit-once, close-once}
+use Rattle.laws_steps.specs.Fits.{fit-once, close-once}
 use Rattle.meaning.specs.Memory.{roomOf}
 use Rattle.write_rows.specs.Laying.{Layable}
 use Rattle.write_rows.specs.Bodies.{sealBody, rowBody, cellBody, bodyOf, body-starts}
-use Rattle.laws.specs.Rows.{cellsAt}
+use Rattle.laws_steps.specs.Rows.{cellsAt}
 use Rattle.write_rows.specs.Rooms.{ownAmong, NotAmong}
 use Rattle.write_rows.specs.Stages.{bodyAt, RowTaken, Onward}
 use Rattle.write_rows.specs.Among.{level-hit, not-hit, sole-move}

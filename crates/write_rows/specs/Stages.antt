@@ -13,7 +13,7 @@ use Rattle.meaning.specs.Told.{Edition}
 use Rattle.meaning.specs.Memory.{roomOf}
 use Rattle.write_rows.specs.Laying.{Laid, Layable}
 use Rattle.write_rows.specs.Bodies.{Body, halt, bodyOf, opensNumber, BodyOnto}
-use Rattle.laws.specs.Rows.{cellsAt}
+use Rattle.laws_steps.specs.Rows.{cellsAt}
 use Rattle.write_rows.specs.Rooms.{ownAmong, NotAmong}
 use Rattle.table.specs.declared.rows.Ahead.{Ahead}
 use Rattle.write_rows.specs.declared.advance.Tried.{Tried}

@@ -9,7 +9,7 @@ use Rattle.meaning.specs.Told.{Edition}
 use Rattle.meaning.specs.Editions.{State, closing, Move, moves, go}
 use Rattle.meaning.specs.Reading.{isClosed, Row, Found, none, hit, find, orElse}
 use Rattle.meaning.specs.Writing.{Fit, unfit, fits, led, Way, ways, wayOf, wayTo, fitBy, place, isPass, fitRow, closeBy, close, Cell, cell, broken, Opens, envelopeRow, innerRow, opensOf}
-use Rattle.laws.specs.Fits.{fit-once, close-once}
+use Rattle.laws_steps.specs.Fits.{fit-once, close-once}
 use Rattle.write_rows.specs.Rooms.{ownAmong, NotAmong, Passes, Closes}
 use Rattle.write_rows.specs.Bodies.{Body, halt, body, onBody, sealBody, rowBody, cellBody, bodyOf}
 

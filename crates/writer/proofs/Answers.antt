@@ -13,15 +13,15 @@ use Rattle.meaning.specs.Writing.{Cell, Envelope, Plan, stuck, plan, wholePlan,
 use Rattle.meaning.specs.Skips.{Skips, right, wrongAt}
 use Rattle.meaning.specs.Memory.{cellsOf, skipsHeld, reply, laidOver, write, writeAnswer, writeOutput, roomOf}
 use Rattle.meaning.specs.Present.{passed as passes, checkOf, checked}
-use Rattle.laws.specs.Logic.{areBytes}
-use Rattle.laws.specs.Rows.{cellsAt, cells-are}
+use Rattle.laws_steps.specs.Logic.{areBytes}
+use Rattle.laws_steps.specs.Rows.{cellsAt, cells-are}
 use Rattle.meaning.specs.Headers.{envelopesMost}
 use Rattle.write_envelopes.specs.Whole.{Verdict, bad, needs, verdictOf, verdict, checkedOf, bytesOfPlan, Writable}
 use Rattle.table.specs.Reply.{replyOf}
 use Rattle.writer.specs.Promise.{WrittenAs, WritePromise, skipsVerdict, SkipsChecked, checkIs}
 use Rattle.table.specs.declared.reply.Reply.{Reply}
-use Rattle.write_envelopes.specs.declared.measure.Checked.{Checked}
-use Rattle.write_envelopes.specs.declared.measure.Checked.the-variants.{Bad, Needs}
+use Rattle.table.specs.declared.answers.Checked.{Checked}
+use Rattle.table.specs.declared.answers.Checked.the-variants.{Bad, Needs}
 
 -- The writer by the verdict
 

@@ -13,8 +13,8 @@ use Rattle.meaning.specs.Memory.{roomOf, skipsHeld}
 use Rattle.meaning.specs.Writing.{Plan, stuck, plan, headerOf, Limit, fine, exceeds, limits}
 use Rattle.skips.specs.Owners.{heldAs}
 use Rattle.write_envelopes.specs.Whole.{needs, verdictOf, verdict, firstOver, checkedOf, CheckedAs}
-use Rattle.write_envelopes.specs.declared.measure.Checked.{Checked}
-use Rattle.write_envelopes.specs.declared.measure.Checked.the-variants.{Bad, Needs}
+use Rattle.table.specs.declared.answers.Checked.{Checked}
+use Rattle.table.specs.declared.answers.Checked.the-variants.{Bad, Needs}
 use Rattle.writer.specs.Promise.{unlessWrong, skipsVerdict, SkipsChecked}
 
 apart : {A : Type 0} {answer place t : ℕ} → Bad answer place ≡ Needs t → A

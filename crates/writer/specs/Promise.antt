@@ -7,11 +7,11 @@ use Rattle.meaning.specs.Skips.{Skips, right, wrongAt}
 use Rattle.meaning.specs.Headers.{envelopesMost}
 use Rattle.meaning.specs.Writing.{Plan, stuck, plan, fine, Written}
 use Rattle.write_envelopes.specs.Whole.{Verdict, bad, needs, verdict, checkedOf, insidesOf, Begins}
-use Rattle.write_envelopes.specs.declared.measure.Checked.{Checked}
-use Rattle.write_envelopes.specs.declared.measure.Checked.the-variants.{Bad, Needs}
+use Rattle.table.specs.declared.answers.Checked.{Checked}
+use Rattle.table.specs.declared.answers.Checked.the-variants.{Bad, Needs}
 use Rattle.meaning.specs.Memory.{roomOf, writeReply, writeMemory, writeAnswer, writeOutput}
 use Rattle.meaning.specs.Present.{Judgement, passed, stopped}
-use Rattle.laws.specs.Logic.{areBytes}
+use Rattle.laws_steps.specs.Logic.{areBytes}
 use Rattle.table.specs.declared.reply.Reply.{Reply}
 use Rattle.table.specs.Reply.{replyOf}
 

@@ -5,7 +5,7 @@ use mathlib.Core.Path.{_≡_, _∙_}
 use native.Mathlib.Omega.{arith}
 use lib.ListN.{length}
 use Rattle.meaning.specs.Bytes.{takeDate, dateChecks}
-use Rattle.laws.specs.From.{from}
+use Rattle.laws_steps.specs.From.{from}
 use Rattle.values.specs.Stages.{span}
 use Rattle.values.specs.Answers.{answered, refuses}
 use Rattle.date.specs.Dates.{reaching}

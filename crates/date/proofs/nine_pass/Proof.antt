@@ -2,7 +2,7 @@
 use mathlib.Core.Path.{sym, _∙_}
 use mathlib.Core.Bool.{_&&_}
 use borrow.Author.Needs.{needs}
-use Rattle.laws.specs.Logic.{both-hold}
+use Rattle.laws_steps.specs.Logic.{both-hold}
 use Rattle.date.proofs.nine_pass.Statement.{statement}
 use Rattle.date.proofs.nine_pass.Tie as tie
 

@@ -2,7 +2,7 @@
 use mathlib.Core.Path.{refl, sym, _∙_}
 use borrow.Author.Needs.{needs}
 use borrow.Author.Tests.{eq-eqb, ne-eqb}
-use Rattle.laws.specs.Hopping.{givenAt}
+use Rattle.laws_steps.specs.Hopping.{givenAt}
 use Rattle.hold_skips.proofs.hold_as.Statement.{statement}
 use Rattle.hold_skips.proofs.hold_as.Tie as tie
 

@@ -3,7 +3,7 @@ use Prim.Native.Nat.{ℕ}
 use mathlib.Core.Path.{ap, sym, _∙_}
 use native.Mathlib.Omega.{arith}
 use borrow.Author.Needs.{needs}
-use Rattle.laws.specs.Neighbours.{leads}
+use Rattle.laws_tables.specs.Neighbours.{leads}
 use Rattle.hold_skips.specs.Holding.{RunToHold}
 use Rattle.hold_skips.proofs.Holdings.{nothing-held, RunHeld, last-inside, run-begins, here-inside, run-on, run-held}
 use Rattle.hold_skips.proofs.hold_run.Statement.{statement}

@@ -3,7 +3,7 @@ use Prim.Native.Nat.{_-_, _≤_}
 use mathlib.Core.Path.{_≡_, refl}
 use native.Mathlib.Omega.{arith}
 use borrow.Author.Needs.{needs}
-use Rattle.laws.specs.Hopping.{heldAt}
+use Rattle.laws_steps.specs.Hopping.{heldAt}
 use Rattle.skips.specs.Passes.{held-ends, held-on, held-stops}
 use Rattle.hold_skips.proofs.lowest_wrong.Statement.{statement}
 use Rattle.hold_skips.proofs.lowest_wrong.Tie as tie

@@ -2,7 +2,7 @@
 use Prim.Native.Nat.{_-_}
 use borrow.Author.Needs.{needs}
 use mathlib.Core.Path.{refl}
-use Rattle.laws.specs.Hopping.{HopsTo, hop-begins}
+use Rattle.laws_steps.specs.Hopping.{HopsTo, hop-begins}
 use Rattle.skips.specs.Owners.{owns}
 use Rattle.skips.specs.Hops.{ends, owned-as, steps, stops}
 use Rattle.hold_skips.proofs.walked_end.Statement.{statement}

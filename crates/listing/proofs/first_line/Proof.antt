@@ -1,8 +1,8 @@
 -- `first_line`: three fields; each number has twenty digits at most.
 use mathlib.Core.Path.{_∙_}
 use native.Mathlib.Omega.{arith}
-use Rattle.listing.proofs.Written.{wrote-then, wrote-as}
-use Rattle.listing.proofs.Numbers.{ten-digits, twenty-digits, field-end}
+use Rattle.pen.specs.Written.{wrote-then, wrote-as}
+use Rattle.pen.specs.Decimals.{ten-digits, twenty-digits, field-end}
 use Rattle.listing.specs.Cursors.{first-line-fields}
 use Rattle.listing.proofs.first_line.Statement.{statement}
 use Rattle.listing.proofs.first_line.Tie as tie

@@ -1,6 +1,6 @@
 -- `has_value`: at level 0 the code decides.
 use borrow.Author.Needs.{needs}
-use Rattle.laws.specs.Hopping.{rankAt}
+use Rattle.laws_steps.specs.Hopping.{rankAt}
 use Rattle.present.proofs.Walk.{value-by-code, value-off}
 use Rattle.present.proofs.has_value.Statement.{statement}
 use Rattle.present.proofs.has_value.Tie as tie

@@ -1,7 +1,7 @@
 -- `present`: the edition by its number, then the code.
 use Rattle.present.proofs.Answers.{can-be-asked, cannot-be-asked, in-none}
 use Rattle.table.specs.Told.{labelIs}
-use Rattle.laws.specs.Logic.{slice-of-bytes}
+use Rattle.laws_steps.specs.Logic.{slice-of-bytes}
 use mathlib.Core.Path.{_∙_, ap, sym}
 use native.Mathlib.Omega.{arith}
 use borrow.Author.Needs.{needs}

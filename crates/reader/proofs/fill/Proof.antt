@@ -1,7 +1,7 @@
 -- `fill`: too little room changes nothing; else the second pass goes as the first, and puts the rows; the third lays their skip numbers and the words.
 use mathlib.Core.Path.{_∙_}
 use native.Mathlib.Omega.{arith}
-use Rattle.laws.specs.Logic.{slice-of-bytes}
+use Rattle.laws_steps.specs.Logic.{slice-of-bytes}
 use Rattle.reader.proofs.Memory.{all-filled, finishable, too-many}
 use borrow.Author.Needs.{needs}
 use Rattle.reader.proofs.fill.Statement.{statement}

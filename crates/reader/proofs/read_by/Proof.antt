@@ -1,7 +1,7 @@
 -- `read_by`: the first pass refuses, or counts the rows of an accepted header for the second.
 use mathlib.Core.List.{_++_}
 use native.Mathlib.Omega.{arith}
-use Rattle.laws.specs.Logic.{slice-of-bytes}
+use Rattle.laws_steps.specs.Logic.{slice-of-bytes}
 use Rattle.reader.proofs.Memory.{header-counted, nothing-lent, refusal-answered}
 use borrow.Author.Needs.{needs}
 use Rattle.reader.proofs.read_by.Statement.{statement}

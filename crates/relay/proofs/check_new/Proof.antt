@@ -2,7 +2,7 @@
 use borrow.Author.Needs.{needs}
 use Rattle.meaning.specs.Memory.{skipsHeld}
 use Rattle.meaning.specs.Relay.{extensionPlan}
-use Rattle.laws.specs.Rows.{cellsAt}
+use Rattle.laws_steps.specs.Rows.{cellsAt}
 use Rattle.table.specs.Told.{editionOf}
 use Rattle.relay.proofs.Refusing.{no-extension, skips-last}
 use Rattle.relay.proofs.check_new.Statement.{statement}

@@ -6,7 +6,7 @@ use lib.ListN.{length}
 use lib.Seq.{length-take-le}
 use borrow.Author.Needs.{needs}
 use borrow.Rule.Slice.PartMut.{mid-len}
-use Rattle.laws.specs.Logic.{slice-of-bytes}
+use Rattle.laws_steps.specs.Logic.{slice-of-bytes}
 use Rattle.relay.proofs.Joining.{inside-small, joined-accepted, joined-filled, new-fits, old-short, output-short, rows-short}
 use Rattle.relay.proofs.join.Statement.{statement}
 use Rattle.relay.proofs.join.Tie as tie

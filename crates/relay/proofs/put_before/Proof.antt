@@ -1,7 +1,7 @@
 -- `put_before`: the new table, the limits; then what may be joined is joined.
 use native.Mathlib.Omega.{arith}
 use borrow.Author.Needs.{needs}
-use Rattle.laws.specs.Logic.{slice-of-bytes}
+use Rattle.laws_steps.specs.Logic.{slice-of-bytes}
 use Rattle.relay.proofs.Refusing.{LentBytes, capped-small, may-join, no-table, past-limit}
 use Rattle.relay.proofs.put_before.Statement.{statement}
 use Rattle.relay.proofs.put_before.Tie as tie

@@ -2,7 +2,7 @@
 use mathlib.Core.Path.{sym, ap, _∙_}
 use native.Mathlib.Omega.{arith}
 use borrow.Author.Needs.{needs}
-use Rattle.laws.specs.Logic.{slice-of-bytes}
+use Rattle.laws_steps.specs.Logic.{slice-of-bytes}
 use Rattle.table.specs.Told.{labelIs}
 use Rattle.relay.proofs.Refusing.{LentBytes, no-edition, no-header}
 use Rattle.relay.proofs.relay.Statement.{statement}

@@ -1,7 +1,7 @@
 -- `which`: both editions count; the second fills, or the first where it alone allows the bytes.
 use native.Mathlib.Omega.{arith}
 use borrow.Author.Needs.{needs}
-use Rattle.laws.specs.Logic.{slice-of-bytes}
+use Rattle.laws_steps.specs.Logic.{slice-of-bytes}
 use Rattle.which.proofs.Sorting.{by-both, by-first, by-neither, by-second}
 use Rattle.which.proofs.which.Statement.{statement}
 use Rattle.which.proofs.which.Tie as tie

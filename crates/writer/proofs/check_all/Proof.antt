@@ -2,7 +2,7 @@
 use borrow.Author.Needs.{needs}
 use Rattle.meaning.specs.Memory.{skipsHeld}
 use Rattle.meaning.specs.Writing.{wholePlan}
-use Rattle.laws.specs.Rows.{cellsAt}
+use Rattle.laws_steps.specs.Rows.{cellsAt}
 use Rattle.table.specs.Told.{editionOf}
 use Rattle.writer.proofs.Skips.{enough, no-table, past-limit}
 use Rattle.writer.proofs.check_all.Statement.{statement}

@@ -1,7 +1,7 @@
 -- `write`: the edition by its number.
 use Rattle.writer.proofs.Answers.{in-edition, in-none}
 use Rattle.table.specs.Told.{labelIs}
-use Rattle.laws.specs.Logic.{slice-of-bytes}
+use Rattle.laws_steps.specs.Logic.{slice-of-bytes}
 use mathlib.Core.Path.{_∙_, ap, refl, sym}
 use native.Mathlib.Omega.{arith}
 use borrow.Author.Needs.{needs}

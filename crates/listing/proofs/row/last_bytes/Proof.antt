@@ -1,7 +1,7 @@
 -- `row::last_bytes`: the bytes, then the line's end.
 use native.Mathlib.Omega.{arith}
 use borrow.Author.Needs.{needs}
-use Rattle.listing.proofs.Written.{wrote-then}
+use Rattle.pen.specs.Written.{wrote-then}
 use Rattle.listing.specs.Cursors.{hex-length}
 use Rattle.listing.proofs.row.last_bytes.Statement.{statement}
 use Rattle.listing.proofs.row.last_bytes.Tie as tie

@@ -4,7 +4,7 @@ use mathlib.Core.Path.{ap, sym}
 use Prim.Native.Nat.{ℕ}
 use native.Mathlib.Omega.{arith}
 use borrow.Author.Needs.{needs}
-use Rattle.listing.proofs.Written.{wrote-then, wrote-as}
+use Rattle.pen.specs.Written.{wrote-then, wrote-as}
 use Rattle.listing.specs.Cursors.{view-none, view-over}
 use Rattle.listing.proofs.row.no_bytes.Statement.{statement}
 use Rattle.listing.proofs.row.no_bytes.Tie as tie

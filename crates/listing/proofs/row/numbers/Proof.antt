@@ -6,7 +6,7 @@ use native.Mathlib.Omega.{arith}
 use lib.ListN.{length}
 use Rattle.meaning.specs.Listing.{decimal}
 use Rattle.listing.specs.Stages.{fieldsOf}
-use Rattle.listing.proofs.Written.{Printing, printing-begins, printing-goes, printing-ends}
+use Rattle.pen.specs.Written.{Printing, printing-begins, printing-goes, printing-ends}
 use Rattle.listing.specs.Cursors.{fields-next, fields-none}
 use Rattle.listing.proofs.row.numbers.Statement.{statement}
 use Rattle.listing.proofs.row.numbers.Tie as tie

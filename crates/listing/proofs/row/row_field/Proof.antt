@@ -1,6 +1,6 @@
 -- `row::row_field`: a u32 has ten digits at most.
 use native.Mathlib.Omega.{arith}
-use Rattle.listing.proofs.Numbers.{ten-digits, field-end}
+use Rattle.pen.specs.Decimals.{ten-digits, field-end}
 use Rattle.listing.proofs.row.row_field.Statement.{statement}
 use Rattle.listing.proofs.row.row_field.Tie as tie
 

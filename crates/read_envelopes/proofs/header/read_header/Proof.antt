@@ -7,9 +7,9 @@ use lib.ListN.{length}
 use borrow.Author.Needs.{needs}
 use Rattle.meaning.specs.Headers.{envelopeMost, envelopesMost, header}
 use Rattle.meaning.specs.Told.{told}
-use Rattle.laws.specs.Finishing.{finish, headerAt}
-use Rattle.laws.specs.Frames.{from-all}
-use Rattle.laws.specs.Pouring.{headerMost}
+use Rattle.laws_steps.specs.Finishing.{finish, headerAt}
+use Rattle.laws_steps.specs.Frames.{from-all}
+use Rattle.laws_steps.specs.Pouring.{headerMost}
 use Rattle.table.specs.Told.{toldOf}
 use Rattle.read_envelopes.proofs.Turns.{extension-fits, header-based, header-onward, header-refused}
 use Rattle.read_envelopes.proofs.header.read_header.Statement.{statement}

@@ -4,7 +4,7 @@ use mathlib.Core.Path.{ap}
 use native.Mathlib.Nat.{le-refl}
 use borrow.Author.Needs.{needs}
 use Rattle.meaning.specs.Headers.{start}
-use Rattle.laws.specs.Pouring.{runAt, source}
+use Rattle.laws_steps.specs.Pouring.{runAt, source}
 use Rattle.table.specs.Told.{toldOf}
 use Rattle.read_rows.specs.Joining.{begun}
 use Rattle.read_inside.proofs.inside.read_front.Statement.{statement}

@@ -3,7 +3,7 @@ use mathlib.Core.Bool.{false}
 use borrow.Author.Needs.{needs}
 use Rattle.meaning.specs.Editions.{headDate, headRepresentation, parameters, state}
 use Rattle.meaning.specs.Told.{B, told}
-use Rattle.laws.specs.Rooms.{head-date, head-representation}
+use Rattle.laws_steps.specs.Rooms.{head-date, head-representation}
 use Rattle.table.specs.Told.{toldOf}
 use Rattle.read_rows.specs.Joining.{begun, handed, moved-to, went}
 use Rattle.read_inside.proofs.inside.read_head.Statement.{statement}

@@ -1,6 +1,6 @@
 -- `inside::read_inside`: what stands before the parameters, then the parameters.
 use borrow.Author.Needs.{needs}
-use Rattle.laws.specs.Pouring.{ready-to}
+use Rattle.laws_steps.specs.Pouring.{ready-to}
 use Rattle.read_rows.specs.Joining.{begun, handed, moved-to, went}
 use Rattle.read_inside.proofs.inside.read_inside.Statement.{statement}
 use Rattle.read_inside.proofs.inside.read_inside.Tie as tie

@@ -8,9 +8,9 @@ use borrow.Author.Needs.{needs}
 use Rattle.meaning.specs.Editions.{encryptedTexts, outer, parameters, state}
 use Rattle.meaning.specs.Kinds.{encryptedOpens}
 use Rattle.meaning.specs.Told.{B}
-use Rattle.laws.specs.Pouring.{source}
-use Rattle.laws.specs.ReadAt.{opened-at}
-use Rattle.laws.specs.Rooms.{encrypted-look, parameters-none}
+use Rattle.laws_steps.specs.Pouring.{source}
+use Rattle.laws_steps.specs.ReadAt.{opened-at}
+use Rattle.laws_steps.specs.Rooms.{encrypted-look, parameters-none}
 use Rattle.table.specs.Told.{editionOf, toldOf}
 use Rattle.read_rows.specs.Joining.{begun, foreign-byte}
 use Rattle.read_inside.proofs.parameters.encrypted_in_b.Statement.{statement}

@@ -2,7 +2,7 @@
 use mathlib.Core.Bool.{false}
 use borrow.Author.Needs.{needs}
 use Rattle.meaning.specs.Editions.{behaviourValue, parameters, state}
-use Rattle.laws.specs.Rooms.{behaviour-any}
+use Rattle.laws_steps.specs.Rooms.{behaviour-any}
 use Rattle.read_inside.proofs.parameters.open_behaviour.Statement.{statement}
 use Rattle.read_inside.proofs.parameters.open_behaviour.Tie as tie
 

@@ -3,8 +3,8 @@ use mathlib.Core.Bool.{false}
 use native.Mathlib.Omega.{arith}
 use borrow.Author.Needs.{needs}
 use Rattle.meaning.specs.Editions.{encryptedTexts, parameters, state}
-use Rattle.laws.specs.Pouring.{ready-opened}
-use Rattle.laws.specs.Rooms.{encrypted-texts}
+use Rattle.laws_steps.specs.Pouring.{ready-opened}
+use Rattle.laws_steps.specs.Rooms.{encrypted-texts}
 use Rattle.read_rows.specs.Joining.{row-fits}
 use Rattle.read_inside.proofs.parameters.open_encrypted.Statement.{statement}
 use Rattle.read_inside.proofs.parameters.open_encrypted.Tie as tie

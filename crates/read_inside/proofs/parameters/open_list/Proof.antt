@@ -4,9 +4,9 @@ use mathlib.Core.Bool.{false}
 use native.Mathlib.Omega.{arith}
 use borrow.Author.Needs.{needs}
 use Rattle.meaning.specs.Editions.{agentList, listEnds, state}
-use Rattle.laws.specs.AgentRooms.{list-stop, not-single}
-use Rattle.laws.specs.Pouring.{ready-opened, source}
-use Rattle.laws.specs.ReadAt.{passed-at}
+use Rattle.laws_steps.specs.AgentRooms.{list-stop, not-single}
+use Rattle.laws_steps.specs.Pouring.{ready-opened, source}
+use Rattle.laws_steps.specs.ReadAt.{passed-at}
 use Rattle.table.specs.Told.{toldOf}
 use Rattle.read_rows.specs.Joining.{going, ready-inside, row-fits}
 use Rattle.read_inside.proofs.parameters.open_list.Statement.{statement}

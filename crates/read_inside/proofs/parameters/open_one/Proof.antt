@@ -1,7 +1,7 @@
 -- `parameters::open_one`: the opening row, then the agent's stage.
 use native.Mathlib.Omega.{arith}
 use borrow.Author.Needs.{needs}
-use Rattle.laws.specs.Pouring.{ready-opened}
+use Rattle.laws_steps.specs.Pouring.{ready-opened}
 use Rattle.read_rows.specs.Joining.{row-fits}
 use Rattle.read_inside.proofs.parameters.open_one.Statement.{statement}
 use Rattle.read_inside.proofs.parameters.open_one.Tie as tie

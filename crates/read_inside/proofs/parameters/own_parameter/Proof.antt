@@ -8,9 +8,9 @@ use Rattle.meaning.specs.Editions.{outer, ownText, parameters, state}
 use Rattle.meaning.specs.Headers.{read}
 use Rattle.meaning.specs.Kinds.{ownValue}
 use Rattle.meaning.specs.Told.{B, told}
-use Rattle.laws.specs.Pouring.{source}
-use Rattle.laws.specs.ReadAt.{only-text}
-use Rattle.laws.specs.Rooms.{value-look}
+use Rattle.laws_steps.specs.Pouring.{source}
+use Rattle.laws_steps.specs.ReadAt.{only-text}
+use Rattle.laws_steps.specs.Rooms.{value-look}
 use Rattle.read_rows.specs.Joining.{begun, handed, moved-to, went}
 use Rattle.read_inside.proofs.parameters.own_parameter.Statement.{statement}
 use Rattle.read_inside.proofs.parameters.own_parameter.Tie as tie

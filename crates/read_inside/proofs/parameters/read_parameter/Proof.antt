@@ -7,9 +7,9 @@ use Rattle.meaning.specs.Bytes.{line, note}
 use Rattle.meaning.specs.Editions.{agentList, behaviourValue, inner, innerOne, moves, oneAgent, outer, own, ownText, parameterRepresentation, parameters, receivedBegins, shared, state}
 use Rattle.meaning.specs.Kinds.{behaviourOpens, comments, fromOpens, ownKey, payloadEncoding, payloadLength, receiverOpens, toOpens}
 use Rattle.meaning.specs.Reading.{find, look}
-use Rattle.laws.specs.Pouring.{ready-next, source}
-use Rattle.laws.specs.ReadAt.{number-at, opened-at, passed-at, text-at}
-use Rattle.laws.specs.Rooms.{parameter-representation}
+use Rattle.laws_steps.specs.Pouring.{ready-next, source}
+use Rattle.laws_steps.specs.ReadAt.{number-at, opened-at, passed-at, text-at}
+use Rattle.laws_steps.specs.Rooms.{parameter-representation}
 use Rattle.table.specs.Told.{toldOf}
 use Rattle.read_rows.specs.Joining.{begun}
 use Rattle.read_inside.proofs.parameters.read_parameter.Statement.{statement}

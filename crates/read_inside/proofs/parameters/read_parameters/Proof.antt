@@ -8,9 +8,9 @@ use lib.ListN.{length}
 use borrow.Author.Needs.{needs}
 use Rattle.meaning.specs.Editions.{closed, outer, parameters, state}
 use Rattle.meaning.specs.Told.{told}
-use Rattle.laws.specs.Pouring.{runAt, source}
-use Rattle.laws.specs.ReadAt.{passed-at}
-use Rattle.laws.specs.Rooms.{parameters-stop}
+use Rattle.laws_steps.specs.Pouring.{runAt, source}
+use Rattle.laws_steps.specs.ReadAt.{passed-at}
+use Rattle.laws_steps.specs.Rooms.{parameters-stop}
 use Rattle.table.specs.Told.{toldOf}
 use Rattle.read_rows.specs.Joining.{begun, going, handed, moved-to, went}
 use Rattle.read_inside.proofs.parameters.read_parameters.Statement.{statement}

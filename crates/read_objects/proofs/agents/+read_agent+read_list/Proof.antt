@@ -13,11 +13,11 @@ use Rattle.meaning.specs.Editions.{State, afterAddresses, afterName, afterResol
 use Rattle.meaning.specs.Kinds.{agentName, resolversOpen}
 use Rattle.meaning.specs.Reading.{levelMost}
 use Rattle.meaning.specs.Told.{B, told}
-use Rattle.laws.specs.AgentRooms.{addresses-else, addresses-resolvers, list-down, list-name, list-none, list-stop, list-up, stays-in-list}
-use Rattle.laws.specs.Pouring.{ready-opened, ready-to, runAt, source, textAt}
-use Rattle.laws.specs.ReadAt.{alike-at, opened-at, passed-at, text-at, too-deep-at}
-use Rattle.laws.specs.Rooms.{end-alike, step-alike}
-use Rattle.laws.specs.Shapes.{InList}
+use Rattle.laws_steps.specs.AgentRooms.{addresses-else, addresses-resolvers, list-down, list-name, list-none, list-stop, list-up, stays-in-list}
+use Rattle.laws_steps.specs.Pouring.{ready-opened, ready-to, runAt, source, textAt}
+use Rattle.laws_steps.specs.ReadAt.{alike-at, opened-at, passed-at, text-at, too-deep-at}
+use Rattle.laws_steps.specs.Rooms.{end-alike, step-alike}
+use Rattle.laws_steps.specs.Shapes.{InList}
 use Rattle.table.specs.Told.{toldOf}
 use Rattle.read_rows.specs.Joining.{arrives, begun, foreign-byte, going, handed, moved-to, ready-inside, refusing, row-fits, went}
 use Rattle.read_rows.specs.Stages.{Ran}

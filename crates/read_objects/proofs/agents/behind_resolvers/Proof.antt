@@ -2,8 +2,8 @@
 use mathlib.Core.Path.{_∙_, refl, sym}
 use borrow.Author.Needs.{needs}
 use Rattle.meaning.specs.Editions.{afterResolvers, agentEnds, agentExtra, go, state}
-use Rattle.laws.specs.AgentRooms.{agent-code, agent-extras}
-use Rattle.laws.specs.Pouring.{source}
+use Rattle.laws_steps.specs.AgentRooms.{agent-code, agent-extras}
+use Rattle.laws_steps.specs.Pouring.{source}
 use Rattle.table.specs.Told.{editionOf, toldOf}
 use Rattle.read_rows.specs.Joining.{no-extras}
 use Rattle.read_objects.proofs.agents.behind_resolvers.Statement.{statement}

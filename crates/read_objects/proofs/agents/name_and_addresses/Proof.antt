@@ -7,10 +7,10 @@ use borrow.Author.Needs.{needs}
 use Rattle.meaning.specs.Editions.{addressTexts, afterAddresses, afterName, parameters, state, stay}
 use Rattle.meaning.specs.Kinds.{addressesOpen}
 use Rattle.meaning.specs.Told.{B, told}
-use Rattle.laws.specs.AgentRooms.{address-texts, name-addresses, name-else}
-use Rattle.laws.specs.Pouring.{ready-opened, ready-to, source}
-use Rattle.laws.specs.ReadAt.{alike-at, opened-at}
-use Rattle.laws.specs.Rooms.{end-alike, step-alike}
+use Rattle.laws_steps.specs.AgentRooms.{address-texts, name-addresses, name-else}
+use Rattle.laws_steps.specs.Pouring.{ready-opened, ready-to, source}
+use Rattle.laws_steps.specs.ReadAt.{alike-at, opened-at}
+use Rattle.laws_steps.specs.Rooms.{end-alike, step-alike}
 use Rattle.read_rows.specs.Joining.{begun, going, handed, moved-to, ready-inside, row-fits, went}
 use Rattle.read_objects.proofs.agents.name_and_addresses.Statement.{statement}
 use Rattle.read_objects.proofs.agents.name_and_addresses.Tie as tie

@@ -6,9 +6,9 @@ use borrow.Author.Needs.{needs}
 use Rattle.meaning.specs.Bytes.{line}
 use Rattle.meaning.specs.Editions.{afterName, oneAgent, state, stay}
 use Rattle.meaning.specs.Kinds.{agentName}
-use Rattle.laws.specs.AgentRooms.{one-name, one-none}
-use Rattle.laws.specs.Pouring.{ready-next, source}
-use Rattle.laws.specs.ReadAt.{text-at}
+use Rattle.laws_steps.specs.AgentRooms.{one-name, one-none}
+use Rattle.laws_steps.specs.Pouring.{ready-next, source}
+use Rattle.laws_steps.specs.ReadAt.{text-at}
 use Rattle.table.specs.Told.{toldOf}
 use Rattle.read_rows.specs.Joining.{begun, foreign-byte}
 use Rattle.read_objects.proofs.agents.read_one.Statement.{statement}

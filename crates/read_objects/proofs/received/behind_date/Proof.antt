@@ -3,8 +3,8 @@ use mathlib.Core.Bool.{false}
 use native.Mathlib.Omega.{arith}
 use borrow.Author.Needs.{needs}
 use Rattle.meaning.specs.Editions.{afterDate, afterFrom, afterId, afterVia, state}
-use Rattle.laws.specs.Pouring.{ready-to}
-use Rattle.laws.specs.Rooms.{from-optional, id-optional, via-optional}
+use Rattle.laws_steps.specs.Pouring.{ready-to}
+use Rattle.laws_steps.specs.Rooms.{from-optional, id-optional, via-optional}
 use Rattle.table.specs.Told.{toldOf}
 use Rattle.read_rows.specs.Joining.{begun, handed, moved-to, went}
 use Rattle.read_rows.specs.Stages.{StateRead}

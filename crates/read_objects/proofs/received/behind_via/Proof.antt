@@ -3,7 +3,7 @@ use mathlib.Core.Bool.{false}
 use mathlib.Core.Path.{_∙_, refl, sym}
 use borrow.Author.Needs.{needs}
 use Rattle.meaning.specs.Editions.{afterVia, parameters, receivedExtra, state}
-use Rattle.laws.specs.Pouring.{source}
+use Rattle.laws_steps.specs.Pouring.{source}
 use Rattle.table.specs.Told.{editionOf, toldOf}
 use Rattle.read_rows.specs.Joining.{no-extras}
 use Rattle.read_objects.proofs.ReceivedRooms.{received-code, received-extras}

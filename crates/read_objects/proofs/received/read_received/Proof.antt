@@ -6,9 +6,9 @@ use borrow.Author.Needs.{needs}
 use Rattle.meaning.specs.Bytes.{line}
 use Rattle.meaning.specs.Editions.{afterDate, inner, receivedBegins, receivedDate, state}
 use Rattle.meaning.specs.Kinds.{receivedBy}
-use Rattle.laws.specs.Pouring.{ready-to, source}
-use Rattle.laws.specs.ReadAt.{only-text}
-use Rattle.laws.specs.Rooms.{by-look, date-room}
+use Rattle.laws_steps.specs.Pouring.{ready-to, source}
+use Rattle.laws_steps.specs.ReadAt.{only-text}
+use Rattle.laws_steps.specs.Rooms.{by-look, date-room}
 use Rattle.table.specs.Told.{toldOf}
 use Rattle.read_rows.specs.Joining.{begun, handed, moved-to, went}
 use Rattle.read_rows.specs.Stages.{StateRead}

@@ -3,7 +3,7 @@ use native.Mathlib.Omega.{arith}
 use lib.ListN.{getD}
 use borrow.Author.Needs.{needs}
 use borrow.Author.Tests.{lt-ltb}
-use Rattle.laws.specs.From.{from-cons, from-end}
+use Rattle.laws_steps.specs.From.{from-cons, from-end}
 use Rattle.read_rows.proofs.look.peek.Statement.{statement}
 use Rattle.read_rows.proofs.look.peek.Tie as tie
 

@@ -2,7 +2,7 @@
 use native.Mathlib.Omega.{arith}
 use borrow.Author.Needs.{needs}
 use Rattle.meaning.specs.Editions.{anyValues}
-use Rattle.laws.specs.Pouring.{source}
+use Rattle.laws_steps.specs.Pouring.{source}
 use Rattle.table.specs.Told.{toldOf}
 use Rattle.read_rows.proofs.Values.{coded-fits, coded-kept}
 use Rattle.read_rows.proofs.rows.any.Statement.{statement}

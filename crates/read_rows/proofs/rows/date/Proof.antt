@@ -1,7 +1,7 @@
 -- `rows::date`: the value's stage in the edition, and its row kept.
 use native.Mathlib.Omega.{arith}
 use borrow.Author.Needs.{needs}
-use Rattle.laws.specs.Pouring.{source}
+use Rattle.laws_steps.specs.Pouring.{source}
 use Rattle.table.specs.Told.{editionOf, toldOf}
 use Rattle.date.specs.Dates.{datesOf}
 use Rattle.read_rows.proofs.Values.{coded-fits, coded-kept}

@@ -4,8 +4,8 @@ use native.Mathlib.Omega.{arith}
 use borrow.Author.Needs.{needs}
 use Rattle.meaning.specs.Bytes.{takeNumber}
 use Rattle.meaning.specs.Kinds.{payloadLength}
-use Rattle.laws.specs.From.{from}
-use Rattle.laws.specs.Pouring.{source}
+use Rattle.laws_steps.specs.From.{from}
+use Rattle.laws_steps.specs.Pouring.{source}
 use Rattle.read_rows.proofs.Values.{value-fits, value-kept}
 use Rattle.read_rows.proofs.rows.number.Statement.{statement}
 use Rattle.read_rows.proofs.rows.number.Tie as tie

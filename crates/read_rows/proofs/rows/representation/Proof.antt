@@ -3,7 +3,7 @@ use native.Mathlib.Omega.{arith}
 use borrow.Author.Needs.{needs}
 use Rattle.meaning.specs.Editions.{representations}
 use Rattle.meaning.specs.Told.{B, told}
-use Rattle.laws.specs.Pouring.{source}
+use Rattle.laws_steps.specs.Pouring.{source}
 use Rattle.read_rows.proofs.Values.{coded-fits, coded-kept}
 use Rattle.read_rows.proofs.rows.representation.Statement.{statement}
 use Rattle.read_rows.proofs.rows.representation.Tie as tie

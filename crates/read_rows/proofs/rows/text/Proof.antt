@@ -2,8 +2,8 @@
 use native.Mathlib.Omega.{arith}
 use borrow.Author.Needs.{needs}
 use Rattle.meaning.specs.Bytes.{takeText}
-use Rattle.laws.specs.From.{from}
-use Rattle.laws.specs.Pouring.{source}
+use Rattle.laws_steps.specs.From.{from}
+use Rattle.laws_steps.specs.Pouring.{source}
 use Rattle.values.specs.Stages.{ruleOf}
 use Rattle.read_rows.proofs.Values.{value-fits, value-kept}
 use Rattle.read_rows.proofs.rows.text.Statement.{statement}

@@ -11,10 +11,10 @@ use Rattle.meaning.specs.Bytes.{line}
 use Rattle.meaning.specs.Editions.{State, afterResolvers, agentExtra, go, state}
 use Rattle.meaning.specs.Kinds.{extraKey}
 use Rattle.meaning.specs.Told.{told}
-use Rattle.laws.specs.AgentRooms.{agent-any}
-use Rattle.laws.specs.Pouring.{Peeked, runAt, source, textAt}
-use Rattle.laws.specs.ReadAt.{passed-at, text-at}
-use Rattle.laws.specs.Shapes.{Extras}
+use Rattle.laws_steps.specs.AgentRooms.{agent-any}
+use Rattle.laws_steps.specs.Pouring.{Peeked, runAt, source, textAt}
+use Rattle.laws_steps.specs.ReadAt.{passed-at, text-at}
+use Rattle.laws_steps.specs.Shapes.{Extras}
 use Rattle.table.specs.Told.{toldOf}
 use Rattle.read_rows.specs.Joining.{arrives, begun, foreign-byte, going, handed, moved-to, went}
 use Rattle.read_rows.specs.Stages.{Ran}

@@ -6,8 +6,8 @@ use native.Mathlib.Omega.{arith}
 use borrow.Author.Needs.{needs}
 use Rattle.meaning.specs.Bytes.{line}
 use Rattle.meaning.specs.Editions.{go}
-use Rattle.laws.specs.Pouring.{not-deep, source, textAt}
-use Rattle.laws.specs.ReadAt.{alike-at, text-at}
+use Rattle.laws_steps.specs.Pouring.{not-deep, source, textAt}
+use Rattle.laws_steps.specs.ReadAt.{alike-at, text-at}
 use Rattle.read_rows.specs.Joining.{arrives, begun, going}
 use Rattle.read_rows.proofs.texts.optional.Statement.{statement}
 use Rattle.read_rows.proofs.texts.optional.Tie as tie

@@ -10,9 +10,9 @@ use Rattle.meaning.specs.Bytes.{line}
 use Rattle.meaning.specs.Editions.{State, go, parameters, state}
 use Rattle.meaning.specs.Headers.{read}
 use Rattle.meaning.specs.Told.{B, Told, told}
-use Rattle.laws.specs.Pouring.{not-deep, runAt, source, textAt}
-use Rattle.laws.specs.ReadAt.{passed-at, uncoded}
-use Rattle.laws.specs.Shapes.{Texts}
+use Rattle.laws_steps.specs.Pouring.{not-deep, runAt, source, textAt}
+use Rattle.laws_steps.specs.ReadAt.{passed-at, uncoded}
+use Rattle.laws_steps.specs.Shapes.{Texts}
 use Rattle.read_rows.specs.Joining.{arrives, begun, going, handed, moved-to, went}
 use Rattle.read_rows.specs.Stages.{Ran}
 use Rattle.read_rows.proofs.texts.texts.Statement.{statement}

@@ -2,7 +2,7 @@
 use Prim.Native.Nat.{_-_}
 use native.Mathlib.Omega.{arith}
 use borrow.Author.Needs.{needs}
-use Rattle.laws.specs.Hopping.{HopsTo, hop-begins}
+use Rattle.laws_steps.specs.Hopping.{HopsTo, hop-begins}
 use Rattle.skips.specs.Owners.{aboveTest}
 use Rattle.skips.specs.Hops.{hops, hop-falls, stops, ends}
 use Rattle.skips.proofs.hop.above_end.Statement.{statement}

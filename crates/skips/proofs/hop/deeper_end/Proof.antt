@@ -3,7 +3,7 @@ use Prim.Native.Nat.{_-_}
 use mathlib.Core.Path.{refl}
 use native.Mathlib.Omega.{arith}
 use borrow.Author.Tests.{lt-ltb, le-ltb}
-use Rattle.laws.specs.Hopping.{HopsTo, hop-begins}
+use Rattle.laws_steps.specs.Hopping.{HopsTo, hop-begins}
 use Rattle.skips.specs.Owners.{deeperTest}
 use Rattle.skips.specs.Hops.{hops, hop-falls, stops, ends}
 use Rattle.skips.proofs.hop.deeper_end.Statement.{statement}

@@ -3,7 +3,7 @@ use native.Mathlib.Omega.{arith}
 use borrow.Author.Needs.{needs}
 use borrow.Author.Tests.{le-leb, lt-leb}
 use lib.ListN.{length-set}
-use Rattle.laws.specs.Rows.{put}
+use Rattle.laws_steps.specs.Rows.{put}
 use Rattle.table.proofs.rows.put_row.Statement.{statement}
 use Rattle.table.proofs.rows.put_row.Tie as tie
 

@@ -5,7 +5,7 @@ use mathlib.Core.Path.{_≡_, ap, _∙_}
 use native.Mathlib.Omega.{arith}
 use borrow.Author.Needs.{needs}
 use Rattle.meaning.specs.Bytes.{takeNumber, numberMost}
-use Rattle.laws.specs.From.{from}
+use Rattle.laws_steps.specs.From.{from}
 use Rattle.values.specs.Numbers.{tally, tallied, Ends}
 use Rattle.values.proofs.Numbers.{more-fits, number-ends, number-wrong, number-stops, number-goes}
 use Rattle.values.proofs.number.count.Statement.{statement}

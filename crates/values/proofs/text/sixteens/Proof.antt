@@ -3,7 +3,7 @@ use Prim.Native.Nat.{ℕ, _-_}
 use mathlib.Core.Path.{_≡_, ap, sym, _∙_}
 use native.Mathlib.Omega.{arith}
 use Rattle.meaning.specs.Bytes.{Rule, line, takeText}
-use Rattle.laws.specs.From.{from}
+use Rattle.laws_steps.specs.From.{from}
 use Rattle.values.specs.Stages.{span, Skipped}
 use Rattle.values.proofs.Texts.{line-in, text-runs}
 use Rattle.values.proofs.text.sixteens.Statement.{statement}

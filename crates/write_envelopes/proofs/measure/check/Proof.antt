@@ -6,7 +6,7 @@ use Rattle.meaning.specs.Headers.{envelopeMost, envelopesMost}
 use Rattle.write_envelopes.proofs.Checking.{check-base, check-extension, check-none, check-stuck, ends-later, ends-small, here, measured-ended, measured-stuck, rest, row-inside}
 use Rattle.write_envelopes.proofs.Noting.{Noting, checked-bad, noting-ends, noting-on, noting-starts}
 use Rattle.write_envelopes.proofs.Wholes.{whole-edge}
-use Rattle.laws.specs.Rows.{cellsAt}
+use Rattle.laws_steps.specs.Rows.{cellsAt}
 use Rattle.table.specs.Told.{editionOf}
 use Rattle.write_envelopes.specs.Whole.{Begins, checkedOf, insidesOf, limitOf, needs as needed, verdict}
 use borrow.Author.Needs.{needs}

@@ -2,7 +2,7 @@
 use Rattle.meaning.specs.Headers.{start}
 use Rattle.write_envelopes.proofs.Envelopes.{measured}
 use Rattle.write_rows.specs.Bodies.{bodyOf}
-use Rattle.laws.specs.Rows.{cellsAt}
+use Rattle.laws_steps.specs.Rows.{cellsAt}
 use Rattle.table.specs.Told.{editionOf}
 use borrow.Author.Needs.{needs}
 use Rattle.write_envelopes.proofs.measure.measure.Statement.{statement}

@@ -1,6 +1,6 @@
 -- `parameter::encrypted`: by edition; D has no such parameter.
 use Rattle.table.specs.Told.{editionOf}
-use Rattle.laws.specs.Rows.{cellsAt}
+use Rattle.laws_steps.specs.Rows.{cellsAt}
 use Rattle.write_inside.proofs.Choosing.{encrypted-as}
 use Rattle.write_rows.specs.Among.{nothing-among}
 use Rattle.write_inside.specs.declared.parameter.Parameter.the-variants.{Last}

@@ -1,6 +1,6 @@
 -- `parameter::received_in`: the code 0A leads to the received object.
 use Rattle.meaning.specs.Kinds.{receivedBy}
-use Rattle.laws.specs.Rows.{cellsAt}
+use Rattle.laws_steps.specs.Rows.{cellsAt}
 use Rattle.table.specs.Told.{editionOf}
 use Rattle.write_inside.proofs.Rooms.{none-represents, pass-receives}
 use Rattle.write_inside.proofs.Choosing.{found-advance, pass-on, way-ahead}

@@ -2,7 +2,7 @@
 use Rattle.meaning.specs.Bytes.{line}
 use Rattle.meaning.specs.Editions.{parameters, outer, text, on_▸_▸_▸_}
 use Rattle.meaning.specs.Kinds.{standardRepresentation, ownRepresentation}
-use Rattle.laws.specs.Rows.{cellsAt}
+use Rattle.laws_steps.specs.Rows.{cellsAt}
 use Rattle.write_inside.proofs.Represented.{represented-found}
 use Rattle.write_inside.proofs.Rooms.{none-represents}
 use Rattle.write_inside.specs.Parameters.{KindAhead}

@@ -1,7 +1,7 @@
 -- `representation::standard`: one is ahead, and its byte is its code or no code; or none is.
 use Rattle.meaning.specs.Kinds.{standardRepresentation}
 use Rattle.write_rows.specs.Among.{nothing-among, sought-away, sought-row, tried-away}
-use Rattle.laws.specs.Rows.{cellsAt}
+use Rattle.laws_steps.specs.Rows.{cellsAt}
 use Rattle.write_rows.specs.Rooms.{standards}
 use Rattle.write_rows.specs.declared.advance.Tried.the-variants.{Other}
 use Rattle.write_rows.proofs.Forms.{standard-none, standard-other, standard-taken, unpicked, view-length}

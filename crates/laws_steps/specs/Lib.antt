@@ -1,0 +1,25 @@
+-- What the stages of reader and writer cite: the machine step by step, its rooms, rows in lent memory. Each file by those before it.
+pub mod Logic
+pub mod From
+pub mod HighFirst
+pub mod Nesting
+pub mod Rows
+pub mod Hopping
+pub mod Values
+pub mod Tables
+pub mod Lookups
+pub mod Steps
+pub mod Pouring
+pub mod ReadAt
+pub mod Shapes
+pub mod Rooms
+pub mod AgentRooms
+pub mod Finishing
+pub mod Frames
+pub mod Fits
+pub mod WrittenRead
+pub mod PlainRows
+pub mod Clashes
+pub mod Crossing
+pub mod Envelopes
+pub mod Plans

@@ -1,0 +1,20 @@
+-- `pen::put`: one byte stored.
+use borrow.Author.Needs.{needs}
+use Rattle.pen.specs.Written.{wrote-one}
+use Rattle.pen.proofs.put.Statement.{statement}
+use Rattle.pen.proofs.put.Tie as tie
+
+slice-write-out : tie.Need-slice-write-out
+slice-write-out c = search needs
+
+add-result : tie.Need-add-result
+add-result c = search needs
+
+same-length : tie.Need-same-length
+same-length c = search needs
+
+returns : tie.Need-returns
+returns c = wrote-one (c .args .out .now) (c .args .at) (c .args .b) (c .pre)
+
+pub put-spec : {M : Type 1} → statement M
+put-spec = tie.close (tie.spec slice-write-out add-result same-length returns)
