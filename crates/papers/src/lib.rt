@@ -1,0 +1,1 @@
+// What is proved of the meaning: the laws are in specs/, and nothing in them has to be believed.
