@@ -3,4 +3,11 @@ pub mod Notation
 pub mod Papers
 pub mod Moves
 pub mod Texts
+pub mod Dates
 pub mod Walks
+pub mod Walked
+pub mod Pieces
+pub mod Chains
+pub mod AgentCuts
+pub mod ObjectCuts
+pub mod Chained
