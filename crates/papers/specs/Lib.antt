@@ -11,3 +11,6 @@ pub mod Chains
 pub mod AgentCuts
 pub mod ObjectCuts
 pub mod Chained
+pub mod Envelopes
+pub mod Headed
+pub mod Header
