@@ -14,3 +14,4 @@ pub mod Chained
 pub mod Envelopes
 pub mod Headed
 pub mod Header
+pub mod Reads
