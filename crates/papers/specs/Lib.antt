@@ -15,3 +15,5 @@ pub mod Envelopes
 pub mod Headed
 pub mod Header
 pub mod Reads
+pub mod ReadBack
+pub mod HeaderBack
