@@ -17,3 +17,9 @@ pub mod Header
 pub mod Reads
 pub mod ReadBack
 pub mod HeaderBack
+pub mod TreeSkips
+pub mod Nesting
+pub mod Nested
+pub mod Laid
+pub mod OneTree
+pub mod Same

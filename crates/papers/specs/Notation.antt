@@ -33,6 +33,11 @@ abbrev pub skipNumbers : ℕ → Trees → List ℕ
 skipNumbers i end = []
 skipNumbers i (tree k n s v inside beside) = (suc i + size inside) ∷ (skipNumbers (suc i) inside ++ skipNumbers (suc i + size inside) beside)
 
+-- .. and the table itself, as it stands in memory: kind, level, start, length and skip number of each row
+abbrev pub laid : ℕ → Trees → List ℕ
+laid i end = []
+laid i (tree k n s v inside beside) = k ∷ n ∷ s ∷ length v ∷ (suc i + size inside) ∷ (laid (suc i) inside ++ laid (suc i + size inside) beside)
+
 -- a syntax: the place of the first byte, the bytes, the trees
 abbrev pub Syntax : Type 1
 Syntax = ℕ → List ℕ → Trees → Type 0
