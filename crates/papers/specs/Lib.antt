@@ -23,3 +23,4 @@ pub mod Nested
 pub mod Laid
 pub mod OneTree
 pub mod Same
+pub mod WritesTrees
