@@ -3,6 +3,7 @@ pub mod OneAnswer
 pub mod Lent
 pub mod Calls
 pub mod Exact
+pub mod Papers
 pub mod Tolerant
 pub mod Walks
 pub mod Presence
