@@ -22,5 +22,10 @@ pub mod Nesting
 pub mod Nested
 pub mod Laid
 pub mod OneTree
+pub mod Simple
+pub mod Aspects
+pub mod EveryParameter
+pub mod EverySlot
+pub mod Examples
 pub mod Same
 pub mod WritesTrees
