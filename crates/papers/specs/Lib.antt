@@ -1,6 +1,7 @@
 -- The papers' own grammar, and that it is the reader's.
 pub mod Notation
 pub mod Papers
+pub mod Page
 pub mod Moves
 pub mod Texts
 pub mod Dates
