@@ -18,7 +18,8 @@ use Rattle.meaning.specs.Headers.{Placed, placedRow}
 use Rattle.meaning.specs.Grammar.{standing, startIn}
 use Rattle.papers.specs.Notation.{Trees, flat, Syntax, _⨾_, _then_, optional, many, only, leaf}
 use Rattle.laws.specs.Values.{allowed}
-use Rattle.papers.specs.Papers.{NullTerminatedString, Any, UserDefinedParameter, UrlSequence, Addresses, AgentIdentifier, AgentIdentifierSequence, Resolvers, EndOfCollection, ReceivedObject, ACLRepresentation, Date, Parameter, StringSequence}
+use Rattle.papers.specs.Values.{NullTerminatedString}
+use Rattle.papers.specs.Papers.{Any, UserDefinedParameter, UrlSequence, Addresses, AgentIdentifier, AgentIdentifierSequence, Resolvers, EndOfCollection, ReceivedObject, ACLRepresentation, Date, Parameter, StringSequence}
 use Rattle.papers.specs.Walks.{and-false}
 use Rattle.papers.specs.Walked.{AfterDate, AfterFrom, AfterId}
 

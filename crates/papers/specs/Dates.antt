@@ -9,7 +9,7 @@ use lib.Dec.{T, eqb, leb, le→leb, leb→le, eqb→eq, eqb-refl}
 use Rattle.meaning.specs.Basics.{pick}
 use Rattle.meaning.specs.Bytes.{Reach, absolute, relative, Check, pair, day, half, letter, isDigit, digitOf, twoDigits, pairWithin, passes, isLeap, lastDay, lastDayAfter, checksOf, designator, dateChecks, dateOk}
 use Rattle.laws.specs.Lookups.{date-length}
-use Rattle.papers.specs.Papers.{BinDate, inTime, span, designated, by, TypeDesignator, capital, small, two, padded, dateBytes}
+use Rattle.papers.specs.Values.{BinDate, inTime, span, designated, by, TypeDesignator, capital, small, two, padded, dateBytes}
 
 and-T : (a b : Bool) → T a → T b → T (a && b)
 and-T true b s t = t

@@ -8,8 +8,9 @@ use Rattle.meaning.specs.Told.{Edition, D, told}
 use Rattle.meaning.specs.Bytes.{Rule, lastDay}
 use Rattle.meaning.specs.Cases.{hex}
 use Rattle.papers.specs.Notation.{Trees, end, tree, laid, _then_, first, other, absent, present, many, upTo, byte, these, shows, holds, coded, opens, itself}
-use Rattle.papers.specs.Papers.{plain, empty, character, NullTerminatedString, string, BinDate, inTime, short, of, any, AgentIdentifier, BinNumber, binNumber, digit, another, odd, even, MessageEnvelope}
-use Rattle.papers.specs.Papers
+use Rattle.papers.specs.Values.{plain, empty, character, NullTerminatedString, string, BinDate, inTime, short, BinNumber, binNumber, digit, another, odd, even}
+use Rattle.papers.specs.Papers.{of, any, AgentIdentifier, MessageEnvelope}
+use Rattle.papers.specs.Values
 
 -- M = FE 00 0F 12 20 31 11 16 19 15 37 62 59 20 01
 abbrev M : List ℕ
@@ -19,7 +20,7 @@ abbrev aDate : List ℕ
 aDate = hex 0x1_31_11_16_19_15_37_62_59_20
 
 -- 8 May 2000, 04:26:51.481
-the-date : Papers.BinDate Rattle.meaning.specs.Bytes.absolute aDate 0 aDate
+the-date : Values.BinDate Rattle.meaning.specs.Bytes.absolute aDate 0 aDate
 unfolding lastDay
 the-date = inTime 2000 5 8 4 26 51 481 (omega arith) (omega arith) (omega arith) (omega arith) (omega arith) (omega arith) (omega arith) (omega arith) (omega arith)
 
@@ -74,4 +75,4 @@ pub seven-is : BinNumber (0x80 ∷ []) 0 (0x80 ∷ [])
 seven-is = binNumber {n = 7} (leb→le 7 4294967295 tt) (digit {d = 7} (leb→le 7 9 tt)) odd
 
 pub twelve-is : BinNumber (0x23 ∷ (0x00 ∷ [])) 0 (0x23 ∷ (0x00 ∷ []))
-twelve-is = binNumber {n = 12} (leb→le 12 4294967295 tt) (another {n = 1} {d = 2} (digit {d = 1} (leb→le 1 9 tt)) (leb→le 1 1 tt) (leb→le 2 9 tt)) (Papers.Digits.both even)
+twelve-is = binNumber {n = 12} (leb→le 12 4294967295 tt) (another {n = 1} {d = 2} (digit {d = 1} (leb→le 1 9 tt)) (leb→le 1 1 tt) (leb→le 2 9 tt)) (Values.Digits.both even)

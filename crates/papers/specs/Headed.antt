@@ -13,7 +13,8 @@ use Rattle.meaning.specs.Headers.{envelopeMost}
 use Rattle.meaning.specs.Writing.{isShort, envelopeSize, envelopeLength}
 use Rattle.meaning.specs.Grammar.{headSize}
 use Rattle.papers.specs.Notation.{Trees, end, tree, _⊕_, Syntax, _⨾_, _then_, _∣_, first, other, byte, unseen, these, when, met}
-use Rattle.papers.specs.Papers.{short, long, EnvLen, envelope, of}
+use Rattle.papers.specs.Values.{short, long}
+use Rattle.papers.specs.Papers.{EnvLen, envelope, of}
 use Rattle.papers.specs.Pieces.{⊕-assoc}
 
 -- "Parentheses are used to group expansions": grouping changes nothing

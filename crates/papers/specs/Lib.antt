@@ -1,5 +1,6 @@
 -- The papers' own grammar, and that it is the reader's.
 pub mod Notation
+pub mod Values
 pub mod Papers
 pub mod Page
 pub mod Moves

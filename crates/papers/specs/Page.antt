@@ -8,8 +8,9 @@ use Rattle.meaning.specs.Told.{B, D, strict, Told}
 use Rattle.meaning.specs.Bytes.{Rule, line, note, absolute, relative}
 use Rattle.meaning.specs.Kinds.{extensionOpens, baseOpens, standardRepresentation, ownRepresentation, dateAbsolute, dateForward, dateBackward, receivedBy, receivedFrom, receivedId, receivedVia, toOpens, fromOpens, receiverOpens, agentName, addressesOpen, address, resolversOpen, extraKey, anyText, anyBytes, comments, payloadLength, payloadEncoding, encryptedOpens, encryptedItem, ownKey, ownValue, behaviourOpens}
 use Rattle.papers.specs.Notation.{end, Syntax, _⨾_, _∣_, optional, many, upTo, byte, unseen, when, only, leaf, node, opens, itself, _⊳_}
-use Rattle.papers.specs.Papers.{TypeDesignator, capital, small, CodedNumber, padded, TextByte, String, character, short, long, string, both, binNumber, any, counted, Millisecond, Second, Minute, Hour, Day, Month, Year, Len32, Len16, Len8, EmptyLen16, EndOfCollection, dateBytes, BinDate, designated, NullTerminatedString, KeyWord, URL, AgentName, PayloadEncoding, Comments, Decimal, Digits, BinNumber, PayloadLength, Payload, EndOfEnvelope, ExtMsgId, BaseMsgId, JumboEnvelope, EnvLen, envelope, ByteSequence, ByteLenEncoded, Any, TransportBehaviour, UserDefinedACLRepresentation, ACLRepresentation, BinDateTimeToken, Date, StringSequence, Encrypted, UrlSequence, UserDefinedParameter, AgentIdentifierSequence, Resolvers, Addresses, AgentIdentifier, agent, IntendedReceiver, Via, Id, From, By, ReceivedObject, UserDefinedSlot, PredefinedParameter, Parameter, ExtEnvelopeHeader, BaseEnvelopeHeader, ExtEnvelope, BaseEnvelope, MessageEnvelope}
-use Rattle.papers.specs.Papers
+use Rattle.papers.specs.Values.{TypeDesignator, capital, small, CodedNumber, padded, TextByte, String, character, short, long, string, both, binNumber, Millisecond, Second, Minute, Hour, Day, Month, Year, Len32, Len16, Len8, dateBytes, BinDate, designated, NullTerminatedString, Decimal, Digits, BinNumber}
+use Rattle.papers.specs.Papers.{any, counted, EmptyLen16, EndOfCollection, KeyWord, URL, AgentName, PayloadEncoding, Comments, PayloadLength, Payload, EndOfEnvelope, ExtMsgId, BaseMsgId, JumboEnvelope, EnvLen, envelope, ByteSequence, ByteLenEncoded, Any, TransportBehaviour, UserDefinedACLRepresentation, ACLRepresentation, BinDateTimeToken, Date, StringSequence, Encrypted, UrlSequence, UserDefinedParameter, AgentIdentifierSequence, Resolvers, Addresses, AgentIdentifier, agent, IntendedReceiver, Via, Id, From, By, ReceivedObject, UserDefinedSlot, PredefinedParameter, Parameter, ExtEnvelopeHeader, BaseEnvelopeHeader, ExtEnvelope, BaseEnvelope, MessageEnvelope}
+use Rattle.papers.specs.Values
 
 module _ (t : Told) where
   -- 002: 95; 004: 95
@@ -229,7 +230,7 @@ module _ (t : Told) where
 
   -- 002: 221; 004: 219
   Len8-is : {n : ℕ} → n < 256 → Len8 n (n ∷ [])
-  Len8-is = Papers.Len8.one
+  Len8-is = Values.Len8.one
 
   -- 002: 223; 004: 221
   Len16-is : {n : ℕ} → n < 65536 → Len16 n (n / 256 ∷ n % 256 ∷ [])

@@ -1,73 +1,14 @@
--- The grammar of the two papers, section 2.3 of each, under their own rule names: edition D is source document 002, edition B 004. Each rule's line is quoted.
--- What document 01 adds (kinds, levels, limits) and where it is stricter is said there. A rule stands after those it names; `Page` has all in the papers' order.
-use Prim.Native.Nat.{ℕ, zero, suc, _+_, _*_, _/_, _%_, _≤_, _<_}
-use mathlib.Core.List.{List, [], _∷_, _++_}
+-- The grammar of the two papers, section 2.3 of each, under their own rule names: edition D is source document 002, edition B 004. Each rule's line is quoted, and
+-- document 01 where it is stricter or adds: kinds, levels, limits. A rule stands after those it names, the values in `Values`; `Page` has all in the papers' order.
+use Prim.Native.Nat.{ℕ, zero, suc, _≤_}
+use mathlib.Core.List.{List, [], _++_}
 use mathlib.Core.Path.{_≡_}
 use lib.ListN.{length}
 use Rattle.meaning.specs.Told.{B, D, strict, Told}
-use Rattle.meaning.specs.Bytes.{Rule, line, note, Reach, absolute, relative, lastDay}
+use Rattle.meaning.specs.Bytes.{line, note, absolute, relative}
 use Rattle.meaning.specs.Kinds.{extensionOpens, baseOpens, standardRepresentation, ownRepresentation, dateAbsolute, dateForward, dateBackward, receivedBy, receivedFrom, receivedId, receivedVia, toOpens, fromOpens, receiverOpens, agentName, addressesOpen, address, resolversOpen, extraKey, anyText, anyBytes, comments, payloadLength, payloadEncoding, encryptedOpens, encryptedItem, ownKey, ownValue, behaviourOpens}
 use Rattle.papers.specs.Notation.{Trees, end, tree, Syntax, Value, _⨾_, _∣_, optional, many, upTo, byte, unseen, when, only, leaf, node, opens, itself, _⊳_}
-
--- "TypeDesignator = /* As in [FIPA00070] */"; document 01: "The designator is one ASCII letter"
-pub data TypeDesignator : ℕ → Type 0 where
-  capital : {c : ℕ} → 0x41 ≤ c → c ≤ 0x5a → TypeDesignator c
-  small : {c : ℕ} → 0x61 ≤ c → c ≤ 0x7a → TypeDesignator c
-
--- "CodedNumber = /* See comment 4 */": "two ASCII numbers are coded into one byte"; Table 2: digit n is n + 1
-abbrev pub CodedNumber : ℕ → ℕ → ℕ
-CodedNumber high low = 16 * (high + 1) + (low + 1)
-
--- .. one digit, and "the last four bits .. set to zero (the Padding token)"
-abbrev pub padded : ℕ → ℕ
-padded digit = 16 * (digit + 1)
-
--- "String = /* As in [FIPA00070] */"; document 01: "Text: bytes 20 to FF, possibly none"; order 5: "09, 0A and 0D become allowed in kinds 20, 22 and 28", the notes
-pub data TextByte : Rule → ℕ → Type 0 where
-  plain : {rule : Rule} {b : ℕ} → 0x20 ≤ b → TextByte rule b
-  tab : TextByte note 0x09
-  newLine : TextByte note 0x0a
-  carriageReturn : TextByte note 0x0d
-
-pub data String (rule : Rule) : List ℕ → Type 0 where
-  empty : String rule []
-  character : {b : ℕ} {text : List ℕ} → TextByte rule b → String rule text → String rule (b ∷ text)
-
--- comment 3: "two bytes for year and milliseconds, one byte for other components", coded as numbers: two digits a byte
-abbrev pub two : ℕ → ℕ
-two n = CodedNumber (n / 10) (n % 10)
-
--- "Millisecond = Byte Byte.", "Second = Byte.", "Minute = Byte.", "Hour = Byte.", "Day = Byte.", "Month = Byte.", "Year = Byte Byte."
-abbrev pub Millisecond : ℕ → List ℕ
-Millisecond n = two (n / 10) ∷ padded (n % 10) ∷ []
-
-abbrev pub Second : ℕ → List ℕ
-Second n = two n ∷ []
-
-abbrev pub Minute : ℕ → List ℕ
-Minute n = two n ∷ []
-
-abbrev pub Hour : ℕ → List ℕ
-Hour n = two n ∷ []
-
-abbrev pub Day : ℕ → List ℕ
-Day n = two n ∷ []
-
-abbrev pub Month : ℕ → List ℕ
-Month n = two n ∷ []
-
-abbrev pub Year : ℕ → List ℕ
-Year n = two (n / 100) ∷ two (n % 100) ∷ []
-
--- "Len32 = Long.", "Len16 = Short.", "Len8 = Byte."; comment 6: "network byte order"
-pub data Len32 (n : ℕ) : List ℕ → Type 0 where
-  long : n < 4294967296 → Len32 n (n / 16777216 ∷ n / 65536 % 256 ∷ n / 256 % 256 ∷ n % 256 ∷ [])
-
-pub data Len16 (n : ℕ) : List ℕ → Type 0 where
-  short : n < 65536 → Len16 n (n / 256 ∷ n % 256 ∷ [])
-
-pub data Len8 (n : ℕ) : List ℕ → Type 0 where
-  one : n < 256 → Len8 n (n ∷ [])
+use Rattle.papers.specs.Values.{Len32, Len16, Len8, BinDate, designated, NullTerminatedString, BinNumber}
 
 -- "EmptyLen16 = 0x00 0x00."
 abbrev pub EmptyLen16 : Syntax
@@ -77,56 +18,25 @@ EmptyLen16 = byte 0x00 ⨾ byte 0x00
 abbrev pub EndOfCollection : Syntax
 EndOfCollection = byte 0x01
 
--- "BinDate = Year Month Day Hour Minute Second Millisecond."
-abbrev pub dateBytes : ℕ → ℕ → ℕ → ℕ → ℕ → ℕ → ℕ → List ℕ
-dateBytes year month day hour minute second millisecond = Year year ++ (Month month ++ (Day day ++ (Hour hour ++ (Minute minute ++ (Second second ++ Millisecond millisecond)))))
-
--- document 01: "Absolute dates have month 1 to 12, .. hour to 23, minute and second to 59; relative ones have any digits"; order 3: "the days of their month"
-pub data BinDate : Reach → List ℕ → ℕ → List ℕ → Type 0 where
-  inTime : (year month day hour minute second millisecond : ℕ) → year ≤ 9999 → 1 ≤ month → month ≤ 12 → 1 ≤ day → day ≤ lastDay year month → hour ≤ 23 → minute ≤ 59 → second ≤ 59 → millisecond ≤ 999
-      → BinDate absolute (dateBytes year month day hour minute second millisecond) 0 (dateBytes year month day hour minute second millisecond)
-  span : (year month day hour minute second millisecond : ℕ) → year ≤ 9999 → month ≤ 99 → day ≤ 99 → hour ≤ 99 → minute ≤ 99 → second ≤ 99 → millisecond ≤ 999
-      → BinDate relative (dateBytes year month day hour minute second millisecond) 0 (dateBytes year month day hour minute second millisecond)
-
--- "BinDate TypeDesignator"
-pub data designated (X : Value) : List ℕ → ℕ → List ℕ → Type 0 where
-  by : {a view : List ℕ} {before c : ℕ} → X a before view → TypeDesignator c → designated X (a ++ (c ∷ [])) before (view ++ (c ∷ []))
-
--- "NullTerminatedString = String 0x00."
-pub data NullTerminatedString (rule : Rule) : List ℕ → ℕ → List ℕ → Type 0 where
-  string : {text : List ℕ} → String rule text → NullTerminatedString rule (text ++ (0x00 ∷ [])) 0 text
-
--- "KeyWord = NullTerminatedString." "URL = NullTerminatedString." "AgentName = NullTerminatedString." "PayloadEncoding = NullTerminatedString."
+-- "KeyWord = NullTerminatedString."
 abbrev pub KeyWord : Value
 KeyWord = NullTerminatedString line
 
+-- "URL = NullTerminatedString."
 abbrev pub URL : Value
 URL = NullTerminatedString line
 
+-- "AgentName = NullTerminatedString."
 abbrev pub AgentName : Value
 AgentName = NullTerminatedString line
 
+-- "PayloadEncoding = NullTerminatedString."
 abbrev pub PayloadEncoding : Value
 PayloadEncoding = NullTerminatedString line
 
 -- "Comments = NullTerminatedString."
 abbrev pub Comments : Value
 Comments = NullTerminatedString note
-
--- a number's decimal digits, the first one first; document 01: "decimal digits only, no leading zero"
-pub data Decimal : ℕ → List ℕ → Type 0 where
-  digit : {d : ℕ} → d ≤ 9 → Decimal d (d ∷ [])
-  another : {n d : ℕ} {digits : List ℕ} → Decimal n digits → 1 ≤ n → d ≤ 9 → Decimal (10 * n + d) (digits ++ (d ∷ []))
-
--- "Digits = CodedNumber+."; comment 4: an odd number of digits ends with the Padding, "otherwise an additional 0x00 byte is added"
-pub data Digits : List ℕ → List ℕ → Type 0 where
-  even : Digits [] (0x00 ∷ [])
-  odd : {d : ℕ} → Digits (d ∷ []) (padded d ∷ [])
-  both : {d c : ℕ} {digits bytes : List ℕ} → Digits digits bytes → Digits (d ∷ (c ∷ digits)) (CodedNumber d c ∷ bytes)
-
--- "BinNumber = Digits."; document 01: "Payload length has no identifier byte", "at most 4,294,967,295"
-pub data BinNumber : List ℕ → ℕ → List ℕ → Type 0 where
-  binNumber : {n : ℕ} {digits bytes : List ℕ} → n ≤ 4294967295 → Decimal n digits → Digits digits bytes → BinNumber bytes 0 bytes
 
 -- "PayloadLength = BinNumber."
 abbrev pub PayloadLength : Value
@@ -136,13 +46,15 @@ PayloadLength = BinNumber
 pub data Payload : ℕ → List ℕ → Trees → Type 0 where
   any : {at : ℕ} {a : List ℕ} → Payload at a end
 
--- "EndOfEnvelope = EndOfCollection." "ExtMsgId = 0xFD." "BaseMsgId = 0xFE."
+-- "EndOfEnvelope = EndOfCollection."
 abbrev pub EndOfEnvelope : Syntax
 EndOfEnvelope = EndOfCollection
 
+-- "ExtMsgId = 0xFD."
 abbrev pub ExtMsgId : Syntax
 ExtMsgId = byte 0xfd
 
+-- "BaseMsgId = 0xFE."
 abbrev pub BaseMsgId : Syntax
 BaseMsgId = byte 0xfe
 
@@ -201,10 +113,11 @@ module _ (t : Told) where
   abbrev pub Date : ℕ → Syntax
   Date level = BinDateTimeToken level
 
-  -- B: "StringSequence = (NullTerminatedString)* EndOfCollection." "Encrypted = StringSequence."
+  -- "StringSequence = (NullTerminatedString)* EndOfCollection."
   abbrev pub StringSequence : Syntax
   StringSequence = many (leaf encryptedItem 0 (NullTerminatedString line)) ⨾ EndOfCollection
 
+  -- B: "Encrypted = StringSequence."
   abbrev pub Encrypted : Syntax
   Encrypted = StringSequence
 
@@ -238,20 +151,23 @@ module _ (t : Told) where
   AgentIdentifier (suc left) level =
       node agentName level (0x02 ⊳ AgentName) (optional (Addresses level) ⨾ optional (Resolvers level (AgentIdentifier left (suc level))) ⨾ many (UserDefinedParameter level) ⨾ EndOfCollection)
 
-  -- .. directly under a parameter; "IntendedReceiver = AgentIdentifierSequence."
+  -- .. directly under a parameter: level 1, and eight levels from there on
   abbrev pub agent : Syntax
   agent = AgentIdentifier 8 1
 
+  -- "IntendedReceiver = AgentIdentifierSequence."
   abbrev pub IntendedReceiver : Syntax
   IntendedReceiver = AgentIdentifierSequence agent
 
-  -- "Via = 0x04 NullTerminatedString." "Id = 0x03 NullTerminatedString." "From = 0x02 URL."
+  -- "Via = 0x04 NullTerminatedString."
   abbrev pub Via : Syntax
   Via = leaf receivedVia 1 (0x04 ⊳ NullTerminatedString line)
 
+  -- "Id = 0x03 NullTerminatedString."
   abbrev pub Id : Syntax
   Id = leaf receivedId 1 (0x03 ⊳ NullTerminatedString line)
 
+  -- "From = 0x02 URL."
   abbrev pub From : Syntax
   From = leaf receivedFrom 1 (0x02 ⊳ URL)
 

@@ -14,7 +14,8 @@ use Rattle.meaning.specs.Editions.{Room, encryptedTexts, receivedExtra, Next, o
 use Rattle.meaning.specs.Writing.{writeValue, isOnly}
 use Rattle.meaning.specs.Grammar.{standing, startIn}
 use Rattle.papers.specs.Notation.{Trees, end, tree, _⊕_, Syntax, _⨾_, _then_, first, other, optional, absent, present, many, met, node, opens, _⊳_, coded}
-use Rattle.papers.specs.Papers.{NullTerminatedString, Any, UserDefinedParameter}
+use Rattle.papers.specs.Values.{NullTerminatedString}
+use Rattle.papers.specs.Papers.{Any, UserDefinedParameter}
 use Rattle.papers.specs.Texts.{textual}
 
 pub ⊕-assoc : (ts us vs : Trees) → (ts ⊕ us) ⊕ vs ≡ ts ⊕ (us ⊕ vs)

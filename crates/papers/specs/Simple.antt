@@ -7,7 +7,8 @@ use Rattle.meaning.specs.Told.{B, D, told}
 use Rattle.meaning.specs.Bytes.{textByte, textOk, turn, numberOk, lastDay, passes, dateOk, absolute, tooWide}
 use Rattle.meaning.specs.Cases.{hex}
 use Rattle.papers.specs.Notation.{Trees, end, tree, laid, _then_, first, other, absent, present, many, upTo, byte, these, met, shows, holds, opens, itself, coded}
-use Rattle.papers.specs.Papers.{short, of, Header}
+use Rattle.papers.specs.Values.{short}
+use Rattle.papers.specs.Papers.{of, Header}
 use Rattle.papers.specs.Texts.{textual}
 use Rattle.papers.specs.Dates.{plain-coded}
 
@@ -23,23 +24,23 @@ simple-base =
 abbrev simple-trees : Trees
 simple-trees =
     tree 2 0 0 [] (
-        tree 3 0 3 (0x12 ∷ []) end (
-        tree 5 0 5 (hex 0x1_31_11_16_19_15_37_62_59_20) end (
-        tree 12 0 14 [] (tree 15 1 16 (hex 0x1_72_65_63_65_69_76_65_72_40_66_6f_6f_2e_63_6f_6d) (tree 16 1 33 [] (tree 17 1 34 (hex 0x1_68_74_74_70_3a_2f_2f_66_6f_6f_2e_63_6f_6d_2f_61_63_63) end end) end) end) (
-        tree 13 0 56 [] (tree 15 1 58 (hex 0x1_73_65_6e_64_65_72_40_62_61_72_2e_63_6f_6d) (tree 16 1 73 [] (tree 17 1 74 (hex 0x1_68_74_74_70_3a_2f_2f_62_61_72_2e_63_6f_6d_2f_61_63_63) end end) end) end) (
-        tree 8 0 96 (hex 0x1_68_74_74_70_3a_2f_2f_66_6f_6f_2e_63_6f_6d_2f_61_63_63) (
-          tree 5 1 116 (hex 0x1_31_11_16_19_15_37_62_59_20) end (
-          tree 10 1 126 (hex 0x1_31_32_33_34_35_36_37_38_39) end end)) end))))) end
+    tree 3 0 3 (0x12 ∷ []) end (
+    tree 5 0 5 (hex 0x1_31_11_16_19_15_37_62_59_20) end (
+    tree 12 0 14 [] (tree 15 1 16 (hex 0x1_72_65_63_65_69_76_65_72_40_66_6f_6f_2e_63_6f_6d) (tree 16 1 33 [] (tree 17 1 34 (hex 0x1_68_74_74_70_3a_2f_2f_66_6f_6f_2e_63_6f_6d_2f_61_63_63) end end) end) end) (
+    tree 13 0 56 [] (tree 15 1 58 (hex 0x1_73_65_6e_64_65_72_40_62_61_72_2e_63_6f_6d) (tree 16 1 73 [] (tree 17 1 74 (hex 0x1_68_74_74_70_3a_2f_2f_62_61_72_2e_63_6f_6d_2f_61_63_63) end end) end) end) (
+    tree 8 0 96 (hex 0x1_68_74_74_70_3a_2f_2f_66_6f_6f_2e_63_6f_6d_2f_61_63_63) (
+    tree 5 1 116 (hex 0x1_31_11_16_19_15_37_62_59_20) end (
+    tree 10 1 126 (hex 0x1_31_32_33_34_35_36_37_38_39) end end)) end))))) end
 
 pub simple-is : Header (told D) 0 (simple-base) simple-trees
 unfolding textOk textByte dateOk passes lastDay numberOk turn tooWide
 simple-is =
     (upTo.none) then
     of {bytes = simple-base} (leb→le 138 1048576 tt) ((byte.it then first (these (short (ltb→lt 138 65536 tt))) then (other (other (other (shows itself.it)))) then (first (shows (coded (plain-coded absolute (hex 0x1_31_11_16_19_15_37_62_59_20) tt))))) then
-      (many.more (first (first (holds opens.it ((many.more (holds (coded (textual {v = (hex 0x1_72_65_63_65_69_76_65_72_40_66_6f_6f_2e_63_6f_6d)} tt)) (present (holds opens.it ((many.more (shows (textual {v = (hex 0x1_68_74_74_70_3a_2f_2f_66_6f_6f_2e_63_6f_6d_2f_61_63_63)} tt)) many.none) then byte.it)) then absent then many.none then byte.it)) many.none) then byte.it))))
-      (many.more (first (other (first (holds opens.it (holds (coded (textual {v = (hex 0x1_73_65_6e_64_65_72_40_62_61_72_2e_63_6f_6d)} tt)) (present (holds opens.it ((many.more (shows (textual {v = (hex 0x1_68_74_74_70_3a_2f_2f_62_61_72_2e_63_6f_6d_2f_61_63_63)} tt)) many.none) then byte.it)) then absent then many.none then byte.it))))))
-      (many.more (first (other (other (other (other (other (other (other (other (first (byte.it then (holds (textual {v = (hex 0x1_68_74_74_70_3a_2f_2f_66_6f_6f_2e_63_6f_6d_2f_61_63_63)} tt) ((first (shows (coded (plain-coded absolute (hex 0x1_31_11_16_19_15_37_62_59_20) tt)))) then absent then present (shows (coded (textual {v = (hex 0x1_31_32_33_34_35_36_37_38_39)} tt))) then absent then many.none then byte.it)))))))))))))
-      many.none))) then byte.it)
+    (many.more (first (first (holds opens.it ((many.more (holds (coded (textual {v = (hex 0x1_72_65_63_65_69_76_65_72_40_66_6f_6f_2e_63_6f_6d)} tt)) (present (holds opens.it ((many.more (shows (textual {v = (hex 0x1_68_74_74_70_3a_2f_2f_66_6f_6f_2e_63_6f_6d_2f_61_63_63)} tt)) many.none) then byte.it)) then absent then many.none then byte.it)) many.none) then byte.it))))
+    (many.more (first (other (first (holds opens.it (holds (coded (textual {v = (hex 0x1_73_65_6e_64_65_72_40_62_61_72_2e_63_6f_6d)} tt)) (present (holds opens.it ((many.more (shows (textual {v = (hex 0x1_68_74_74_70_3a_2f_2f_62_61_72_2e_63_6f_6d_2f_61_63_63)} tt)) many.none) then byte.it)) then absent then many.none then byte.it))))))
+    (many.more (first (other (other (other (other (other (other (other (other (first (byte.it then (holds (textual {v = (hex 0x1_68_74_74_70_3a_2f_2f_66_6f_6f_2e_63_6f_6d_2f_61_63_63)} tt) ((first (shows (coded (plain-coded absolute (hex 0x1_31_11_16_19_15_37_62_59_20) tt)))) then absent then present (shows (coded (textual {v = (hex 0x1_31_32_33_34_35_36_37_38_39)} tt))) then absent then many.none then byte.it)))))))))))))
+    many.none))) then byte.it)
 
 -- its rows: kind, level, start, length, skip number
 pub simple-laid : laid 0 simple-trees
@@ -71,25 +72,25 @@ simple-slots-base =
 abbrev simple-slots-trees : Trees
 simple-slots-trees =
     tree 2 0 0 [] (
-        tree 3 0 3 (0x12 ∷ []) end (
-        tree 5 0 5 (hex 0x1_31_11_16_19_15_37_62_59_20) end (
-        tree 12 0 14 [] (tree 15 1 16 (hex 0x1_72_65_63_65_69_76_65_72_40_66_6f_6f_2e_63_6f_6d) (tree 16 1 33 [] (tree 17 1 34 (hex 0x1_68_74_74_70_3a_2f_2f_66_6f_6f_2e_63_6f_6d_2f_61_63_63) end end) end) end) (
-        tree 13 0 56 [] (tree 15 1 58 (hex 0x1_73_65_6e_64_65_72_40_62_61_72_2e_63_6f_6d) (tree 16 1 73 [] (tree 17 1 74 (hex 0x1_68_74_74_70_3a_2f_2f_62_61_72_2e_63_6f_6d_2f_61_63_63) end end) end) end) (
-        tree 25 0 95 [] (tree 26 0 96 (hex 0x1_6e_6f_20_65_6e_63_72_79_70_74_69_6f_6e) end end) (
-        tree 8 0 112 (hex 0x1_68_74_74_70_3a_2f_2f_66_6f_6f_2e_63_6f_6d_2f_61_63_63) (
-          tree 5 1 132 (hex 0x1_31_11_16_19_15_37_62_59_20) end (
-          tree 10 1 142 (hex 0x1_31_32_33_34_35_36_37_38_39) end end)) end)))))) end
+    tree 3 0 3 (0x12 ∷ []) end (
+    tree 5 0 5 (hex 0x1_31_11_16_19_15_37_62_59_20) end (
+    tree 12 0 14 [] (tree 15 1 16 (hex 0x1_72_65_63_65_69_76_65_72_40_66_6f_6f_2e_63_6f_6d) (tree 16 1 33 [] (tree 17 1 34 (hex 0x1_68_74_74_70_3a_2f_2f_66_6f_6f_2e_63_6f_6d_2f_61_63_63) end end) end) end) (
+    tree 13 0 56 [] (tree 15 1 58 (hex 0x1_73_65_6e_64_65_72_40_62_61_72_2e_63_6f_6d) (tree 16 1 73 [] (tree 17 1 74 (hex 0x1_68_74_74_70_3a_2f_2f_62_61_72_2e_63_6f_6d_2f_61_63_63) end end) end) end) (
+    tree 25 0 95 [] (tree 26 0 96 (hex 0x1_6e_6f_20_65_6e_63_72_79_70_74_69_6f_6e) end end) (
+    tree 8 0 112 (hex 0x1_68_74_74_70_3a_2f_2f_66_6f_6f_2e_63_6f_6d_2f_61_63_63) (
+    tree 5 1 132 (hex 0x1_31_11_16_19_15_37_62_59_20) end (
+    tree 10 1 142 (hex 0x1_31_32_33_34_35_36_37_38_39) end end)) end)))))) end
 
 pub simple-slots-is : Header (told B) 0 (simple-slots-base) simple-slots-trees
 unfolding textOk textByte dateOk passes lastDay numberOk turn tooWide
 simple-slots-is =
     (upTo.none) then
     of {bytes = simple-slots-base} (leb→le 154 1048576 tt) ((byte.it then first (these (short (ltb→lt 154 65536 tt))) then (other (other (other (shows itself.it)))) then (first (shows (coded (plain-coded absolute (hex 0x1_31_11_16_19_15_37_62_59_20) tt))))) then
-      (many.more (first (first (holds opens.it ((many.more (holds (coded (textual {v = (hex 0x1_72_65_63_65_69_76_65_72_40_66_6f_6f_2e_63_6f_6d)} tt)) (present (holds opens.it ((many.more (shows (textual {v = (hex 0x1_68_74_74_70_3a_2f_2f_66_6f_6f_2e_63_6f_6d_2f_61_63_63)} tt)) many.none) then byte.it)) then absent then many.none then byte.it)) many.none) then byte.it))))
-      (many.more (first (other (first (holds opens.it (holds (coded (textual {v = (hex 0x1_73_65_6e_64_65_72_40_62_61_72_2e_63_6f_6d)} tt)) (present (holds opens.it ((many.more (shows (textual {v = (hex 0x1_68_74_74_70_3a_2f_2f_62_61_72_2e_63_6f_6d_2f_61_63_63)} tt)) many.none) then byte.it)) then absent then many.none then byte.it))))))
-      (many.more (first (other (other (other (other (other (other (first (met refl (holds opens.it ((many.more (shows (textual {v = (hex 0x1_6e_6f_20_65_6e_63_72_79_70_74_69_6f_6e)} tt)) many.none) then byte.it)))))))))))
-      (many.more (first (other (other (other (other (other (other (other (other (first (byte.it then (holds (textual {v = (hex 0x1_68_74_74_70_3a_2f_2f_66_6f_6f_2e_63_6f_6d_2f_61_63_63)} tt) ((first (shows (coded (plain-coded absolute (hex 0x1_31_11_16_19_15_37_62_59_20) tt)))) then absent then present (shows (coded (textual {v = (hex 0x1_31_32_33_34_35_36_37_38_39)} tt))) then absent then many.none then byte.it)))))))))))))
-      many.none)))) then byte.it)
+    (many.more (first (first (holds opens.it ((many.more (holds (coded (textual {v = (hex 0x1_72_65_63_65_69_76_65_72_40_66_6f_6f_2e_63_6f_6d)} tt)) (present (holds opens.it ((many.more (shows (textual {v = (hex 0x1_68_74_74_70_3a_2f_2f_66_6f_6f_2e_63_6f_6d_2f_61_63_63)} tt)) many.none) then byte.it)) then absent then many.none then byte.it)) many.none) then byte.it))))
+    (many.more (first (other (first (holds opens.it (holds (coded (textual {v = (hex 0x1_73_65_6e_64_65_72_40_62_61_72_2e_63_6f_6d)} tt)) (present (holds opens.it ((many.more (shows (textual {v = (hex 0x1_68_74_74_70_3a_2f_2f_62_61_72_2e_63_6f_6d_2f_61_63_63)} tt)) many.none) then byte.it)) then absent then many.none then byte.it))))))
+    (many.more (first (other (other (other (other (other (other (first (met refl (holds opens.it ((many.more (shows (textual {v = (hex 0x1_6e_6f_20_65_6e_63_72_79_70_74_69_6f_6e)} tt)) many.none) then byte.it)))))))))))
+    (many.more (first (other (other (other (other (other (other (other (other (first (byte.it then (holds (textual {v = (hex 0x1_68_74_74_70_3a_2f_2f_66_6f_6f_2e_63_6f_6d_2f_61_63_63)} tt) ((first (shows (coded (plain-coded absolute (hex 0x1_31_11_16_19_15_37_62_59_20) tt)))) then absent then present (shows (coded (textual {v = (hex 0x1_31_32_33_34_35_36_37_38_39)} tt))) then absent then many.none then byte.it)))))))))))))
+    many.none)))) then byte.it)
 
 -- its rows: kind, level, start, length, skip number
 pub simple-slots-laid : laid 0 simple-slots-trees

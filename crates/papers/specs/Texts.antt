@@ -16,8 +16,9 @@ use Rattle.laws.specs.Logic.{left-of, right-of, both, either, or-left, or-right
 use Rattle.laws.specs.Values.{mayStand}
 use Rattle.laws.specs.CodedNumbers.{coded-value}
 use Rattle.laws.specs.PlainNumbers.{value-coded}
-use Rattle.papers.specs.Papers.{TextByte, plain, tab, newLine, carriageReturn, String, empty, character, NullTerminatedString, string, Len8, Len16, Len32, ByteSequence, counted, Decimal, digit, another, Digits, even, odd, BinNumber, binNumber}
-use Rattle.papers.specs.Papers
+use Rattle.papers.specs.Values.{TextByte, plain, tab, newLine, carriageReturn, String, empty, character, NullTerminatedString, string, Len8, Len16, Len32, Decimal, digit, another, Digits, even, odd, BinNumber, binNumber}
+use Rattle.papers.specs.Papers.{ByteSequence, counted}
+use Rattle.papers.specs.Values
 
 -- Texts
 
@@ -68,14 +69,14 @@ LenOf twoBytes = Len16
 LenOf fourBytes = Len32
 
 pub length-out : (w : Width) (n : ℕ) (a : List ℕ) → LenOf w n a → (a ≡ lengthBytes w n) × (length a ≡ bytesOf w) × (n < past w)
-length-out oneByte n _ (Papers.Len8.one h) = (refl, refl, h)
-length-out twoBytes n _ (Papers.Len16.short h) = (refl, refl, h)
-length-out fourBytes n _ (Papers.Len32.long h) = (refl, refl, h)
+length-out oneByte n _ (Values.Len8.one h) = (refl, refl, h)
+length-out twoBytes n _ (Values.Len16.short h) = (refl, refl, h)
+length-out fourBytes n _ (Values.Len32.long h) = (refl, refl, h)
 
 pub length-in : (w : Width) (n : ℕ) → n < past w → LenOf w n (lengthBytes w n)
-length-in oneByte n h = Papers.Len8.one h
-length-in twoBytes n h = Papers.Len16.short h
-length-in fourBytes n h = Papers.Len32.long h
+length-in oneByte n h = Values.Len8.one h
+length-in twoBytes n h = Values.Len16.short h
+length-in fourBytes n h = Values.Len32.long h
 
 length-long : (w : Width) (n : ℕ) → length (lengthBytes w n) ≡ bytesOf w
 length-long oneByte n = refl
@@ -144,13 +145,13 @@ digits-in : (digits : List ℕ) → Digits digits (packed digits)
 unfolding packed
 digits-in [] = even
 digits-in (d ∷ []) = odd
-digits-in (d ∷ (c ∷ digits)) = Papers.Digits.both (digits-in digits)
+digits-in (d ∷ (c ∷ digits)) = Values.Digits.both (digits-in digits)
 
 digits-out : (digits bytes : List ℕ) → Digits digits bytes → bytes ≡ packed digits
 unfolding packed
 digits-out _ _ even = refl
 digits-out _ _ odd = refl
-digits-out _ _ (Papers.Digits.both {d} {c} {digits} {bytes} more) = ap (λ (l : List ℕ). (16 * (d + 1) + (c + 1)) ∷ l) (digits-out digits bytes more)
+digits-out _ _ (Values.Digits.both {d} {c} {digits} {bytes} more) = ap (λ (l : List ℕ). (16 * (d + 1) + (c + 1)) ∷ l) (digits-out digits bytes more)
 
 pub number-out : (a : List ℕ) (before : ℕ) (v : List ℕ) → BinNumber a before v → (a ≡ v) × (before ≡ 0) × T (numberOk 0 true v)
 unfolding numberBytes digitsOf

@@ -16,7 +16,8 @@ use Rattle.papers.specs.Notation.{Trees, Syntax, _⨾_, _then_, optional
 use lib.Dec.{eqb-refl}
 use Rattle.meaning.specs.Editions.{representations, anyValues}
 use Rattle.laws.specs.Values.{allowed}
-use Rattle.papers.specs.Papers.{Any, UserDefinedParameter, AgentIdentifier, AgentIdentifierSequence, agent, Via, Id, From, ReceivedObject, ACLRepresentation, Date, Parameter, StringSequence, BinDate, designated, BinNumber, PredefinedParameter, UserDefinedSlot}
+use Rattle.papers.specs.Values.{BinDate, designated, BinNumber}
+use Rattle.papers.specs.Papers.{Any, UserDefinedParameter, AgentIdentifier, AgentIdentifierSequence, agent, Via, Id, From, ReceivedObject, ACLRepresentation, Date, Parameter, StringSequence, PredefinedParameter, UserDefinedSlot}
 use Rattle.papers.specs.Texts.{number-out}
 use Rattle.papers.specs.Dates.{plain-passes, lettered-passes}
 use Rattle.papers.specs.Walks.{not-agent, ends-moving, more-moving, optional-moving, B≢D, Walk, Stands, walk-then, walk-either, walk-many, walk-node, walk-leaf, walk-byte, walk-optional, coded-text, bare-text, opening, coded-block, agent-walks}

@@ -18,7 +18,8 @@ use Rattle.meaning.specs.Writing.{valid, writeValue}
 use Rattle.meaning.specs.Grammar.{standing, startIn}
 use Rattle.laws.specs.Values.{allowed}
 use Rattle.papers.specs.Notation.{Trees, end, tree, _⊕_, flat, Syntax, Value, _⨾_, _then_, _∣_, first, other, optional, absent, present, many, byte, when, met, only, leaf, shows, node, holds, opens, _⊳_, coded}
-use Rattle.papers.specs.Papers.{NullTerminatedString, string, ByteSequence, Any, UserDefinedParameter, Addresses, AgentIdentifier, Resolvers}
+use Rattle.papers.specs.Values.{NullTerminatedString, string}
+use Rattle.papers.specs.Papers.{ByteSequence, Any, UserDefinedParameter, Addresses, AgentIdentifier, Resolvers}
 use Rattle.papers.specs.Moves.{Steps, still, row, silent, re-place, re-byte, re-row, re-end, join, from-wider}
 use Rattle.papers.specs.Texts.{string-ok, LenOf, block-out}
 
