@@ -31,3 +31,5 @@ pub mod EverySlot
 pub mod Examples
 pub mod Same
 pub mod WritesTrees
+pub mod Holding
+pub mod Held
