@@ -1,7 +1,7 @@
 -- What stands inside a row, rule by rule: every header's trees hold what they may. Order 7's sentence, clause by clause, follows.
 use Prim.Native.Nat.{ℕ, zero, suc, _+_}
 use mathlib.Core.List.{List, []}
-use mathlib.Core.Bool.{Bool, true, false, false≢true}
+use mathlib.Core.Bool.{Bool, true, false, _&&_, false≢true}
 use mathlib.Core.Path.{_≡_, refl, sym, _∙_}
 use lib.Dec.{T, eqb, eqb-refl}
 use Rattle.meaning.specs.Told.{Told}
@@ -14,7 +14,7 @@ use Rattle.papers.specs.Holding.{inEnvelope, kindIn, levelIn, mayHold, h
 
 -- an envelope's row
 abbrev pub opensEnvelope : Rank → Bool
-opensEnvelope r = isEnvelope (r .kind)
+opensEnvelope r = isEnvelope (r .kind) && eqb (r .level) 0
 
 more-than-one : {A : Type 0} (k : ℕ) → holdsOne k ≡ false → holdsOne k ≡ true → A
 more-than-one k none q = absurd (false≢true (sym none ∙ q))

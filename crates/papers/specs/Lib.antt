@@ -33,3 +33,5 @@ pub mod Same
 pub mod WritesTrees
 pub mod Holding
 pub mod Held
+pub mod Children
+pub mod ByTrees
