@@ -1,27 +1,27 @@
 -- Orders 6 and 1 for every header of the papers: words by the rows are the words of its trees, and present values their first children.
-use Prim.Native.Nat.{ℕ, zero, suc, _+_}
+use Prim.Native.Nat.{ℕ, suc, _+_}
 use mathlib.Core.List.{List, [], _∷_, _++_, append-nil}
-use mathlib.Core.Bool.{Bool, true, false, _&&_, _||_, false≢true}
+use mathlib.Core.Bool.{Bool, true, false, _||_, false≢true}
 use mathlib.Core.Path.{_≡_, refl, ap, ap₂, sym, _∙_, subst}
 use native.Mathlib.Omega.{arith}
 use lib.Dec.{T, eqb, eqb→eq}
-use lib.ListN.{length, take, length-append}
+use lib.ListN.{length, take}
 use lib.Seq.{take-append-seam}
 use borrow.Author.Tests.{eqb-true}
 use Rattle.meaning.specs.Basics.{pick}
 use Rattle.meaning.specs.Told.{Told}
 use Rattle.meaning.specs.Kinds.{extensionOpens, baseOpens, receivedBy, agentName, addressesOpen, extraKey, encryptedOpens, ownKey, behaviourOpens}
 use Rattle.meaning.specs.Skips.{Rank, rank, isEnvelope, belonging}
-use Rattle.meaning.specs.Codes.{codeOf, hasValue}
+use Rattle.meaning.specs.Codes.{codeOf}
 use Rattle.meaning.specs.Words.{occurs, parameterCodes, wordOf, wordsOf}
 use Rattle.meaning.specs.Present.{Value, noValue, atRow, AllParameters, emptyEnvelope, valueIn, unless, copyRow, copyAll, allEnvelopes, rowOr, present}
-use Rattle.meaning.specs.Headers.{Placed}
-use Rattle.meaning.specs.Memory.{wordsRead, rankOf, numbersOf}
+use Rattle.meaning.specs.Memory.{wordsRead}
 use Rattle.laws.specs.Logic.{left-of, right-of, is-true}
 use Rattle.papers.specs.Notation.{Trees, end, tree, flat, size}
 use Rattle.papers.specs.Papers.{Header}
 use Rattle.papers.specs.TreeSkips.{ranks, NotNext, Nested, belonging-is, size-is}
 use Rattle.papers.specs.Nested.{header-nested}
+use Rattle.papers.specs.Laid.{ranks-flat}
 use Rattle.papers.specs.Holding.{listsAgents, kindIn, levelIn, mayHold, Tops, Each}
 use Rattle.papers.specs.Held.{opensEnvelope, header-holding}
 use Rattle.papers.specs.Children.{NoValues, Children, children-of, children-occur, childBits, treeWords, firstChild, firstValue}
@@ -176,6 +176,10 @@ module _ (t : Told) (at : ℕ) (bytes : List ℕ) (ts : Trees) (x : Header t at 
   -- order 6
   pub words-by-trees : wordsOf (ranks ts) ≡ treeWords ts
   words-by-trees = words-of-trees ts (header-holding t .tops at bytes ts x) (header-holding t .each at bytes ts x) (header-nested t at bytes ts x)
+
+  -- .. as the reader leaves them
+  pub words-read-by-trees : wordsRead (flat ts) ≡ treeWords ts
+  words-read-by-trees = ap wordsOf (ranks-flat ts) ∙ words-by-trees
 
   -- order 1; no parameter has the code 01
   pub present-by-trees : (code : ℕ) → (code ≡ 1 → ⊥) → present code (ranks ts) ≡ rowOr (size ts) (firstValue code 0 ts)

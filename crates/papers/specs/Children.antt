@@ -1,30 +1,24 @@
 -- Orders 6 and 1, read off a header's trees: a word has the codes of an envelope's own children, and a present value is the first child with the code.
-use Prim.Native.Nat.{ℕ, zero, suc, _+_, _^_}
-use mathlib.Core.List.{List, [], _∷_, _++_, append-nil}
+use Prim.Native.Nat.{ℕ, suc, _+_, _^_}
+use mathlib.Core.List.{List, [], _∷_}
 use mathlib.Core.Bool.{Bool, true, false, _&&_, _||_, false≢true}
 use mathlib.Core.Logic.{_⊎_, inl, inr}
-use mathlib.Core.Path.{_≡_, refl, ap, ap₂, sym, _∙_, subst}
+use mathlib.Core.Path.{_≡_, refl, ap, sym, _∙_, subst}
 use native.Mathlib.Omega.{arith}
 use lib.Dec.{T, eqb, eqb→eq}
-use lib.ListN.{length, take}
-use lib.Seq.{take-append-seam}
 use borrow.Author.Tests.{eqb-true, ne-eqb}
 use Rattle.meaning.specs.Basics.{pick}
-use Rattle.meaning.specs.Told.{Told}
-use Rattle.meaning.specs.Kinds.{agentName, address, anyText, anyBytes, encryptedItem, ownValue}
-use Rattle.meaning.specs.Skips.{Rank, rank, isEnvelope, beside, belongs, belonging}
+use Rattle.meaning.specs.Kinds.{agentName, address, encryptedItem, ownValue}
+use Rattle.meaning.specs.Skips.{Rank, rank, isEnvelope, beside, belongs}
 use Rattle.meaning.specs.Codes.{codeOf, hasValue}
-use Rattle.meaning.specs.Words.{occurs, parameterCodes, bitsOf, wordOf, wordsOf}
-use Rattle.meaning.specs.Present.{Value, noValue, atRow, AllParameters, emptyEnvelope, valueIn, unless, copyRow, copyAll, nextEnvelope, allEnvelopes, rowOr, present}
+use Rattle.meaning.specs.Words.{occurs, parameterCodes}
+use Rattle.meaning.specs.Present.{Value, noValue, atRow, unless}
 use Rattle.laws.specs.Logic.{left-of, right-of}
 use Rattle.laws.specs.Nesting.{by-beside, false-not, value-is, Belongs, belongs-how}
-use Rattle.laws.specs.Presence.{occurs-append, same-word}
+use Rattle.laws.specs.Presence.{occurs-append}
 use Rattle.papers.specs.Notation.{Trees, end, tree, size}
-use Rattle.papers.specs.Papers.{Header}
-use Rattle.papers.specs.TreeSkips.{ranks, AllBelong, NotNext, Nested, belonging-is, size-is}
-use Rattle.papers.specs.Nested.{header-nested}
-use Rattle.papers.specs.Holding.{inEnvelope, kindIn, levelIn, mayHold, Tops, Each}
-use Rattle.papers.specs.Held.{opensEnvelope, header-holding}
+use Rattle.papers.specs.TreeSkips.{ranks, AllBelong, Nested}
+use Rattle.papers.specs.Holding.{inEnvelope, kindIn, levelIn, mayHold, Tops}
 
 -- Read off the trees
 

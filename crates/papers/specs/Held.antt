@@ -1,16 +1,16 @@
 -- What stands inside a row, rule by rule: every header's trees hold what they may. Order 7's sentence, clause by clause, follows.
-use Prim.Native.Nat.{ℕ, zero, suc, _+_}
-use mathlib.Core.List.{List, []}
+use Prim.Native.Nat.{ℕ, zero, suc}
+use mathlib.Core.List.{List}
 use mathlib.Core.Bool.{Bool, true, false, _&&_, false≢true}
 use mathlib.Core.Path.{_≡_, refl, sym, _∙_}
 use lib.Dec.{T, eqb, eqb-refl}
 use Rattle.meaning.specs.Told.{Told}
 use Rattle.meaning.specs.Kinds.{extensionOpens, baseOpens, standardRepresentation, ownRepresentation, dateAbsolute, dateForward, dateBackward, receivedBy, receivedFrom, receivedId, receivedVia, toOpens, fromOpens, receiverOpens, agentName, addressesOpen, address, resolversOpen, extraKey, anyText, anyBytes, comments, payloadLength, payloadEncoding, encryptedOpens, encryptedItem, ownKey, ownValue, behaviourOpens}
 use Rattle.meaning.specs.Skips.{Rank, rank, isEnvelope}
-use Rattle.papers.specs.Notation.{Trees, end, tree, size, Value, _⨾_, _∣_, first, other, many, byte, leaf, shows, node}
+use Rattle.papers.specs.Notation.{Trees, size, Value, _⨾_, first, other, many, byte, leaf, shows}
 use Rattle.papers.specs.Papers.{EnvLen, Any, ACLRepresentation, Date, UserDefinedParameter, Addresses, AgentIdentifierSequence, Resolvers, AgentIdentifier, agent, ReceivedObject, UserDefinedSlot, PredefinedParameter, Parameter, BaseEnvelope, ExtEnvelope, Header}
-use Rattle.laws.specs.Logic.{left-of, both}
-use Rattle.papers.specs.Holding.{inEnvelope, kindIn, levelIn, mayHold, holdsOne, Tops, Each, Holding, holding-then, holding-either, holding-byte, holding-unseen, holding-when, holding-optional, holding-many, holding-upTo, holding-leaf, holding-node, holding-envelope}
+use Rattle.laws.specs.Logic.{both}
+use Rattle.papers.specs.Holding.{inEnvelope, mayHold, holdsOne, Holding, holding-then, holding-either, holding-byte, holding-unseen, holding-when, holding-optional, holding-many, holding-upTo, holding-leaf, holding-node, holding-envelope}
 
 -- an envelope's row
 abbrev pub opensEnvelope : Rank → Bool
@@ -114,22 +114,3 @@ module _ (t : Told) where
 
   pub header-holding : Holding (Header t) opensEnvelope
   header-holding = holding-then (holding-upTo extension-holding 15) base-holding
-
--- Order 7, clause by clause, of a row in a header's trees. Its skip number, by `laid`, is the row after what is inside it; and inside it stand
-
--- "For an envelope that is the next envelope's row, or the row count": all its own rows, none of which opens an envelope; what is beside it does
--- "for any other opening row, an agent or a received object, the row after its contents": agents, addresses, resolvers and extras, and so on, by `kindIn`
--- "an own or extra key includes its value": that one row
--- "otherwise it is the next row": nothing
-
--- the kinds that hold nothing
-abbrev pub holdsNone : ℕ → Type 0
-holdsNone k = (j : ℕ) → kindIn k j ≡ false
-
-pub empty-inside : (k n : ℕ) (inside : Trees) → holdsNone k → Tops (mayHold (rank k n)) inside → inside ≡ end
-empty-inside k n end none h = refl
-empty-inside k n (tree j m s v inside beside) none h = absurd (nothing (kindIn k j) (none j) (left-of (kindIn k j) (eqb m (levelIn (rank k n))) (h .0)))
-  where
-    nothing : (b : Bool) → b ≡ false → T b → ⊥
-    nothing true q u = absurd (false≢true (sym q))
-    nothing false q u = u

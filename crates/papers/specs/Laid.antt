@@ -58,3 +58,7 @@ laid-before i (tree k n s v inside beside) more h =
 pub laid-flat : (t : Told) (at : ℕ) (bytes : List ℕ) (ts : Trees) → Header t at bytes ts → tableOf (flat ts) ≡ laid 0 ts
 laid-flat t at bytes ts h =
     ap (rowsFrom 0) (numbers-flat ts ∙ sym (append-nil (numbers ts))) ∙ laid-before 0 ts [] (header-nested t at bytes ts h) ∙ append-nil (laid 0 ts)
+
+-- where its rows stand
+pub ranks-flat : (ts : Trees) → map rankOf (map numbersOf (flat ts)) ≡ ranks ts
+ranks-flat ts = ap (map rankOf) (numbers-flat ts) ∙ ranks-numbers ts

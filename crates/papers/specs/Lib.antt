@@ -35,3 +35,4 @@ pub mod Holding
 pub mod Held
 pub mod Children
 pub mod ByTrees
+pub mod OrderSeven
