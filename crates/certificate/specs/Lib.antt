@@ -3,11 +3,11 @@ pub mod OneAnswer
 pub mod Lent
 pub mod Calls
 pub mod Exact
-pub mod Papers
 pub mod Tolerant
 pub mod Walks
 pub mod Presence
 pub mod Present
+pub mod Papers
 pub mod Lookup
 pub mod Which
 pub mod PayloadPart

@@ -6,16 +6,21 @@ use mathlib.Core.Logic.{_↔_}
 use mathlib.Core.Path.{_≡_, refl, ap, sym, _∙_, subst}
 use native.Mathlib.Omega.{arith}
 use lib.ListN.{length}
-use Rattle.meaning.specs.Told.{Strictness, strict, tolerant}
+use Rattle.meaning.specs.Told.{Strictness, strict, tolerant, toldBy}
 use Rattle.meaning.specs.Headers.{Placed, accepted, readBy}
-use Rattle.meaning.specs.Memory.{roomWith, laidOver, wordsRead}
+use Rattle.meaning.specs.Memory.{roomWith, laidOver}
 use Rattle.papers.specs.Notation.{Trees, flat, size, laid}
 use Rattle.papers.specs.OneTree.{flat-size}
 use Rattle.papers.specs.Same.{Message, accepts-messages, message-laid}
 use Rattle.papers.specs.WritesTrees.{WritesTrees, writes-trees}
+use Rattle.papers.specs.Children.{treeWords}
+use Rattle.papers.specs.ByTrees.{words-read-by-trees}
+use Rattle.papers.specs.PresentTrees.{PresentIn, present-in-trees}
 use Rattle.table.specs.declared.reply.Reply as declared
 use Rattle.reader.specs.Promises.{ReadsBy, ReadPromise, TolerantPromise}
 use Rattle.writer.specs.Promise.{WritePromise}
+use Rattle.present.specs.Promise.{PresentPromise}
+use Rattle.certificate.specs.Present.{present-by-procedure, well}
 use Rattle.certificate.specs.Calls.{had-room}
 use Rattle.certificate.specs.Lent.{Filled, Laid, accepted-call, fills, written-call, lays}
 
@@ -25,7 +30,7 @@ pub record TreeFilled (place : ℕ) (trees : Trees) (before words : List ℕ) (a
   pub ends : a .place ≡ place
   pub count : a .rows ≡ size trees
   pub leaves : after ≡ laidOver before (laid 0 trees)
-  pub carries : words′ ≡ laidOver words (wordsRead (flat trees))
+  pub carries : words′ ≡ laidOver words (treeWords trees)
 
 -- "The reader accepts exactly the edition's headers and gives exactly the rows."
 -- A call answers 0 if and only if the input is a MessageEnvelope of the edition's paper whose rows have room; then it leaves that tree.
@@ -38,8 +43,8 @@ pub record MessageFilled (strictness : Strictness) (edition : ℕ) (input before
 
 tree-filled : {strictness : Strictness} {edition : ℕ} {input before words after words′ : List ℕ} {a : declared.Reply} (place : ℕ) (trees : Trees) → Message strictness edition input place trees
     → Filled place (flat trees) before words a after words′ → TreeFilled place trees before words a after words′
-tree-filled {before = before} place trees m f =
-    record { answers = f .answers; ends = f .ends; count = f .count ∙ flat-size trees; leaves = f .leaves ∙ ap (laidOver before) (message-laid m); carries = f .carries }
+tree-filled {strictness} {before = before} {words = words} place trees m f =
+    record { answers = f .answers; ends = f .ends; count = f .count ∙ flat-size trees; leaves = f .leaves ∙ ap (laidOver before) (message-laid m); carries = f .carries ∙ ap (laidOver words) (words-read-by-trees (toldBy strictness (m .e)) 0 (m .bytes) trees (m .is)) }
 
 module _ {strictness : Strictness} {edition : ℕ} {input before words after words′ : List ℕ} {a : declared.Reply} (p : ReadsBy strictness edition input before words a after words′) where
   -- every such message is accepted, where its rows have room
@@ -78,3 +83,8 @@ module _ {edition : ℕ} {rows pool before after : List ℕ} {a : declared.Reply
 
   pub call-wrote-trees : a .answer ≡ 0 → (bytes : List ℕ) × WritesTrees edition rows pool (length before) bytes × Laid bytes rows before a after
   call-wrote-trees z = let (bytes, w, l) = written-call p z in (bytes, writes-trees edition rows pool (length before) bytes .0 w, l)
+
+-- `gamulisyan_present`: an answer of 0 is the first child with the code, envelopes in order, or the row count for none
+
+pub call-present-in-trees : {edition : ℕ} {rows pool : List ℕ} {code : ℕ} {a : declared.Reply} → PresentPromise edition rows pool code a → a .answer ≡ 0 → PresentIn edition rows pool code (a .place)
+call-present-in-trees {edition} {rows} {pool} {code} p z = subst (PresentIn edition rows pool code) (sym (present-by-procedure p z .0)) (present-in-trees edition rows pool code (well p z))

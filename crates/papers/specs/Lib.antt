@@ -36,3 +36,4 @@ pub mod Held
 pub mod Children
 pub mod ByTrees
 pub mod OrderSeven
+pub mod PresentTrees

@@ -83,3 +83,7 @@ writes-trees edition rows pool room bytes = ((λ q. to (writes-exactly edition r
           few = t .few;
           fits = w .fits;
         }
+
+-- where the rows stand
+pub written-ranks : {edition : ℕ} {rows pool : List ℕ} {room : ℕ} {bytes : List ℕ} (w : WritesTrees edition rows pool room bytes) → ranksOf rows ≡ ranks (w .trees)
+written-ranks {rows = rows} {pool = pool} w = cells-ranks pool rows (map meant (flat (w .trees))) (w .say) ∙ ranks-meant (w .trees)
