@@ -1,13 +1,13 @@
 -- The papers' dates and the reader's checks of them, both ways.
-use Prim.Native.Nat.{ℕ, zero, suc, _+_, _-_, _*_, _/_, _%_, _≤_, _<_}
+use Prim.Native.Nat.{ℕ, _+_, _-_, _*_, _/_, _%_, _≤_}
 use mathlib.Core.List.{List, [], _∷_, _++_, append-nil}
-use mathlib.Core.Bool.{Bool, true, false, _&&_, _||_, not}
+use mathlib.Core.Bool.{Bool, true, false, _&&_, _||_}
 use mathlib.Core.Path.{_≡_, refl, ap, ap₂, sym, _∙_, subst}
 use native.Mathlib.Omega.{arith}
 use lib.ListN.{length}
-use lib.Dec.{T, eqb, leb, le→leb, leb→le, eqb→eq, eqb-refl}
+use lib.Dec.{T, eqb, leb, le→leb, leb→le, eqb→eq}
 use Rattle.meaning.specs.Basics.{pick}
-use Rattle.meaning.specs.Bytes.{Reach, absolute, relative, Check, pair, day, half, letter, isDigit, digitOf, twoDigits, pairWithin, passes, isLeap, lastDay, lastDayAfter, checksOf, designator, dateChecks, dateOk}
+use Rattle.meaning.specs.Bytes.{Reach, absolute, relative, Check, letter, isDigit, digitOf, twoDigits, pairWithin, passes, isLeap, lastDay, checksOf, dateChecks, dateOk}
 use Rattle.laws.specs.Lookups.{date-length}
 use Rattle.papers.specs.Values.{BinDate, inTime, span, designated, by, TypeDesignator, capital, small, two, padded, dateBytes}
 

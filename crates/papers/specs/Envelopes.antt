@@ -7,7 +7,6 @@ use native.Mathlib.Omega.{arith}
 use lib.Dec.{T, leb, ltb, le→leb}
 use lib.ListN.{length}
 use borrow.Author.Tests.{le-ltb, ltb-false}
-use Rattle.meaning.specs.Basics.{In}
 use Rattle.meaning.specs.Bytes.{Width, fewest, past, tooWide, blockOk}
 use Rattle.meaning.specs.Told.{Edition, Told, told}
 use Rattle.meaning.specs.Editions.{State, Form, text, date, number, block, itself, opens, quiet}

@@ -1,5 +1,5 @@
 -- An envelope of the papers, taken apart and put together: its identifier, its length, and what they stand before.
-use Prim.Native.Nat.{ℕ, zero, suc, _+_, _≤_, _<_}
+use Prim.Native.Nat.{ℕ, _+_, _≤_, _<_}
 use mathlib.Core.List.{List, [], _∷_, _++_, append-assoc}
 use mathlib.Core.Bool.{Bool, true, false}
 use mathlib.Core.Logic.{_⊎_, inl, inr}
@@ -12,7 +12,7 @@ use Rattle.meaning.specs.Bytes.{twoBytes, fourBytes, lengthBytes}
 use Rattle.meaning.specs.Headers.{envelopeMost}
 use Rattle.meaning.specs.Writing.{isShort, envelopeSize, envelopeLength}
 use Rattle.meaning.specs.Grammar.{headSize}
-use Rattle.papers.specs.Notation.{Trees, end, tree, _⊕_, Syntax, _⨾_, _then_, _∣_, first, other, byte, unseen, these, when, met}
+use Rattle.papers.specs.Notation.{Trees, end, tree, _⊕_, Syntax, _⨾_, _then_, first, other, byte, these, met}
 use Rattle.papers.specs.Values.{short, long}
 use Rattle.papers.specs.Papers.{EnvLen, envelope, of}
 use Rattle.papers.specs.Pieces.{⊕-assoc}

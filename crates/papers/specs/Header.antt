@@ -1,7 +1,7 @@
 -- A header of the papers, and envelopes by the reader's moves: the same bytes and rows, both ways.
-use Prim.Native.Nat.{ℕ, zero, suc, _+_, _≤_}
+use Prim.Native.Nat.{ℕ, suc, _+_, _≤_}
 use mathlib.Core.List.{List, [], _∷_, _++_, append-assoc, append-nil}
-use mathlib.Core.Bool.{Bool, true, false, false≢true}
+use mathlib.Core.Bool.{true, false, false≢true}
 use mathlib.Core.Path.{_≡_, refl, ap, ap₂, sym, _∙_, subst, subst₂}
 use native.Mathlib.Omega.{arith}
 use lib.ListN.{length, length-append}
@@ -10,7 +10,7 @@ use Rattle.meaning.specs.Kinds.{extensionOpens, baseOpens}
 use Rattle.meaning.specs.Editions.{State, state, closed, parameters}
 use Rattle.meaning.specs.Reading.{isClosed}
 use Rattle.meaning.specs.Headers.{Placed, placedRow, envelopeMost}
-use Rattle.meaning.specs.Writing.{envelopeSize, envelopeLength, wrap}
+use Rattle.meaning.specs.Writing.{envelopeSize, wrap}
 use Rattle.meaning.specs.Grammar.{headSize}
 use Rattle.laws.specs.Envelopes.{wrap-length}
 use Rattle.papers.specs.Notation.{Trees, end, tree, _⊕_, flat, Syntax, _⨾_, _then_, many, upTo, byte}
@@ -21,7 +21,7 @@ use Rattle.papers.specs.Pieces.{⊕-assoc}
 use Rattle.papers.specs.Chains.{rest, follow, Chain, over, link, begins, representation}
 use Rattle.papers.specs.Chained.{chained}
 use Rattle.papers.specs.Envelopes.{Inside, Envelopes, the-base, extension}
-use Rattle.papers.specs.Headed.{to-right, to-left, Opened, opened}
+use Rattle.papers.specs.Headed.{to-right, to-left, opened}
 use Rattle.papers.specs.Headed
 
 module _ (t : Told) where

@@ -1,14 +1,12 @@
 -- Which rows stand directly inside which, by the papers' rules: so order 7's sentence, clause by clause, is the tree's.
-use Prim.Native.Nat.{ℕ, zero, suc, _+_}
-use mathlib.Core.List.{List, []}
+use Prim.Native.Nat.{ℕ, suc, _+_}
+use mathlib.Core.List.{List}
 use mathlib.Core.Bool.{Bool, true, false, _&&_, _||_, false≢true}
-use mathlib.Core.Path.{_≡_, refl, ap, sym, _∙_}
-use native.Mathlib.Omega.{arith}
-use lib.Dec.{T, eqb, eqb-refl}
+use mathlib.Core.Path.{_≡_, sym, _∙_}
+use lib.Dec.{T, eqb}
 use lib.ListN.{length}
 use Rattle.meaning.specs.Basics.{pick}
-use Rattle.meaning.specs.Told.{Told}
-use Rattle.meaning.specs.Kinds.{extensionOpens, baseOpens, standardRepresentation, ownRepresentation, dateAbsolute, dateForward, dateBackward, receivedBy, receivedFrom, receivedId, receivedVia, toOpens, fromOpens, receiverOpens, agentName, addressesOpen, address, resolversOpen, extraKey, anyText, anyBytes, comments, payloadLength, payloadEncoding, encryptedOpens, encryptedItem, ownKey, ownValue, behaviourOpens}
+use Rattle.meaning.specs.Kinds.{receivedBy, receivedFrom, receivedId, receivedVia, toOpens, fromOpens, receiverOpens, agentName, addressesOpen, address, resolversOpen, extraKey, comments, payloadLength, payloadEncoding, encryptedOpens, encryptedItem, ownKey, ownValue, behaviourOpens}
 use Rattle.meaning.specs.Codes.{isRepresentation, isDate}
 use Rattle.meaning.specs.Skips.{Rank, rank, isEnvelope, isValue}
 use Rattle.papers.specs.Notation.{Trees, end, tree, _⊕_, size, Syntax, Value, _⨾_, _then_, _∣_, first, other, optional, absent, present, many, upTo, byte, unseen, these, when, met, leaf, shows, node, holds}

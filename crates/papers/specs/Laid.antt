@@ -1,17 +1,17 @@
 -- The table that is read is the tree laid flat: its skip numbers, by kinds and levels, are those of the tree. And a tree is told by its rows and skip numbers.
-use Prim.Native.Nat.{ℕ, zero, suc, _+_}
+use Prim.Native.Nat.{ℕ, suc, _+_}
 use mathlib.Core.List.{List, [], _∷_, _++_, append-assoc, append-nil, map}
 use mathlib.Core.Path.{_≡_, refl, ap, ap₂, sym, _∙_, subst}
 use native.Mathlib.Omega.{arith}
-use lib.ListN.{length, length-append}
+use lib.ListN.{length}
 use Rattle.meaning.specs.Told.{Told}
 use Rattle.meaning.specs.Skips.{Rank, rank, belonging, skipOf}
-use Rattle.meaning.specs.Headers.{Placed, placedRow}
-use Rattle.meaning.specs.Memory.{Numbers, row, rankOf, numbersIn, rowsFrom, numbersOf, tableOf, skipsOf}
-use Rattle.papers.specs.Notation.{Trees, end, tree, flat, size, skipNumbers, laid}
+use Rattle.meaning.specs.Headers.{Placed}
+use Rattle.meaning.specs.Memory.{Numbers, row, rankOf, numbersIn, rowsFrom, numbersOf, tableOf}
+use Rattle.papers.specs.Notation.{Trees, end, tree, flat, size, laid}
 use Rattle.papers.specs.Papers.{Header}
 use Rattle.papers.specs.TreeSkips.{ranks, Nested, belonging-is, size-is}
-use Rattle.papers.specs.Nested.{header-nested, header-skips}
+use Rattle.papers.specs.Nested.{header-nested}
 
 -- the rows of trees, as numbers
 abbrev numbers : Trees → List Numbers

@@ -1,11 +1,11 @@
 -- The reader's moves, for whatever a reading is told: what `Grammar` of `meaning` says of the strict one, with the blocks that a tolerant one takes too.
 -- This stands between the papers' grammar and the reader; nothing is believed of it.
-use Prim.Native.Nat.{ℕ, zero, suc, _+_, _≤_}
+use Prim.Native.Nat.{ℕ, _+_, _≤_}
 use mathlib.Core.List.{List, [], _∷_, _++_, append-assoc}
-use mathlib.Core.Bool.{Bool, true, false, _&&_, not}
-use mathlib.Core.Path.{_≡_, refl, ap, sym, _∙_, subst}
+use mathlib.Core.Bool.{true, false, not}
+use mathlib.Core.Path.{_≡_, refl, sym, subst}
 use native.Mathlib.Omega.{arith}
-use lib.Dec.{T, eqb}
+use lib.Dec.{T}
 use lib.ListN.{length, length-append}
 use Rattle.meaning.specs.Basics.{In, isEmpty}
 use Rattle.meaning.specs.Told.{Told}

@@ -1,6 +1,6 @@
 -- The papers' notation (Table 1, "EBNF Rules"), said once. A syntax says which bytes may stand at a place and which rows they show; the rows form trees, since
 -- one row may hold others.
-use Prim.Native.Nat.{ℕ, zero, suc, _+_}
+use Prim.Native.Nat.{ℕ, suc, _+_}
 use mathlib.Core.List.{List, [], _∷_, _++_}
 use mathlib.Core.Path.{_≡_}
 use lib.ListN.{length}

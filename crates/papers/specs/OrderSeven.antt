@@ -1,13 +1,13 @@
 -- Order 7's sentence, clause by clause, of every header of the papers. A row's skip number, by `laid`, is the row after what is inside it; here is what that is.
 use Prim.Native.Nat.{ℕ, suc, _+_}
-use mathlib.Core.List.{List, []}
-use mathlib.Core.Bool.{Bool, true, false, _&&_, _||_, false≢true}
-use mathlib.Core.Path.{_≡_, refl, ap, sym, _∙_}
+use mathlib.Core.List.{List}
+use mathlib.Core.Bool.{Bool, true, false, _||_, false≢true}
+use mathlib.Core.Path.{_≡_, refl, sym}
 use native.Mathlib.Omega.{arith}
 use lib.Dec.{T, eqb}
 use Rattle.meaning.specs.Told.{Told}
 use Rattle.meaning.specs.Kinds.{agentName, addressesOpen, resolversOpen, extraKey}
-use Rattle.meaning.specs.Skips.{Rank, rank, isEnvelope}
+use Rattle.meaning.specs.Skips.{rank, isEnvelope}
 use Rattle.laws.specs.Logic.{left-of}
 use Rattle.papers.specs.Notation.{Trees, end, tree, size}
 use Rattle.papers.specs.Papers.{Header}

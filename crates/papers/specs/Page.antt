@@ -9,7 +9,7 @@ use Rattle.meaning.specs.Bytes.{Rule, line, note, absolute, relative}
 use Rattle.meaning.specs.Kinds.{extensionOpens, baseOpens, standardRepresentation, ownRepresentation, dateAbsolute, dateForward, dateBackward, receivedBy, receivedFrom, receivedId, receivedVia, toOpens, fromOpens, receiverOpens, agentName, addressesOpen, address, resolversOpen, extraKey, anyText, anyBytes, comments, payloadLength, payloadEncoding, encryptedOpens, encryptedItem, ownKey, ownValue, behaviourOpens}
 use Rattle.papers.specs.Notation.{end, Syntax, _⨾_, _∣_, optional, many, upTo, byte, unseen, when, only, leaf, node, opens, itself, _⊳_}
 use Rattle.papers.specs.Values.{TypeDesignator, capital, small, CodedNumber, padded, TextByte, String, character, short, long, string, both, binNumber, Millisecond, Second, Minute, Hour, Day, Month, Year, Len32, Len16, Len8, dateBytes, BinDate, designated, NullTerminatedString, Decimal, Digits, BinNumber}
-use Rattle.papers.specs.Papers.{any, counted, EmptyLen16, EndOfCollection, KeyWord, URL, AgentName, PayloadEncoding, Comments, PayloadLength, Payload, EndOfEnvelope, ExtMsgId, BaseMsgId, JumboEnvelope, EnvLen, envelope, ByteSequence, ByteLenEncoded, Any, TransportBehaviour, UserDefinedACLRepresentation, ACLRepresentation, BinDateTimeToken, Date, StringSequence, Encrypted, UrlSequence, UserDefinedParameter, AgentIdentifierSequence, Resolvers, Addresses, AgentIdentifier, agent, IntendedReceiver, Via, Id, From, By, ReceivedObject, UserDefinedSlot, PredefinedParameter, Parameter, ExtEnvelopeHeader, BaseEnvelopeHeader, ExtEnvelope, BaseEnvelope, MessageEnvelope}
+use Rattle.papers.specs.Papers.{any, counted, EmptyLen16, EndOfCollection, KeyWord, URL, AgentName, PayloadEncoding, Comments, PayloadLength, Payload, EndOfEnvelope, ExtMsgId, BaseMsgId, JumboEnvelope, EnvLen, envelope, ByteSequence, ByteLenEncoded, Any, TransportBehaviour, UserDefinedACLRepresentation, ACLRepresentation, BinDateTimeToken, Date, StringSequence, Encrypted, UrlSequence, UserDefinedParameter, AgentIdentifierSequence, Resolvers, Addresses, AgentIdentifier, agent, IntendedReceiver, Via, Id, From, By, ReceivedObject, UserDefinedSlot, PredefinedParameter, PredefinedSlot, Parameter, Slot, ExtEnvelopeHeader, BaseEnvelopeHeader, ExtEnvelope, BaseEnvelope, MessageEnvelope}
 use Rattle.papers.specs.Values
 
 module _ (t : Told) where
@@ -57,9 +57,17 @@ module _ (t : Told) where
   Payload-is : {at : ℕ} {a : List ℕ} → Payload at a end
   Payload-is = any
 
-  -- 002: 118; 004: 118, Slot
+  -- 002: 118
   Parameter-is : Parameter t ≡ (PredefinedParameter t ∣ UserDefinedSlot t)
   Parameter-is = refl
+
+  -- 004: 118
+  Slot-is : Slot t ≡ (PredefinedSlot t ∣ UserDefinedSlot t)
+  Slot-is = refl
+
+  -- .. so B's is D's
+  Slot-is-Parameter : Slot t ≡ Parameter t
+  Slot-is-Parameter = refl
 
   -- 002: 121; 004: 121, PredefinedSlot
   PredefinedParameter-is : PredefinedParameter t ≡ (

@@ -185,7 +185,7 @@ module _ (t : Told) where
   UserDefinedSlot = node ownKey 0 (0x00 ⊳ KeyWord) (leaf ownValue 0 (NullTerminatedString note))
 
   -- D: "PredefinedParameter = 0x02 AgentIdentifierSequence | 0x03 AgentIdentifier | 0x04 ACLRepresentation | 0x05 Comments | 0x06 PayloadLength | 0x07 PayloadEncoding
-  -- | 0x09 IntendedReceiver | 0x0a ReceivedObject | 0x0b TransportBehaviour."; B, "PredefinedSlot": "| 0x08 Encrypted" too
+  -- | 0x09 IntendedReceiver | 0x0a ReceivedObject | 0x0b TransportBehaviour."; B, "PredefinedSlot", has "| 0x08 Encrypted" too
   abbrev pub PredefinedParameter : Syntax
   PredefinedParameter =
       node toOpens 0 (opens 0x02) (AgentIdentifierSequence agent)
@@ -199,9 +199,17 @@ module _ (t : Told) where
       ∣ byte 0x0a ⨾ ReceivedObject
       ∣ node behaviourOpens 0 (opens 0x0b) TransportBehaviour
 
-  -- D: "Parameter = PredefinedParameter | UserDefinedParameter."; B: "Slot = PredefinedSlot | UserDefinedSlot."
+  -- B's name for it
+  abbrev pub PredefinedSlot : Syntax
+  PredefinedSlot = PredefinedParameter
+
+  -- D: "Parameter = PredefinedParameter | UserDefinedParameter."
   abbrev pub Parameter : Syntax
   Parameter = PredefinedParameter ∣ UserDefinedSlot
+
+  -- B: "Slot = PredefinedSlot | UserDefinedSlot."
+  abbrev pub Slot : Syntax
+  Slot = PredefinedSlot ∣ UserDefinedSlot
 
   -- "ExtEnvelopeHeader = ExtMsgId EnvLen ReceivedObject.", of an envelope of n bytes
   abbrev pub ExtEnvelopeHeader : ℕ → Syntax

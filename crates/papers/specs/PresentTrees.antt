@@ -9,7 +9,7 @@ use Rattle.meaning.specs.Writing.{written}
 use Rattle.meaning.specs.Present.{rowOr, present}
 use Rattle.laws.specs.Ties.{write-as}
 use Rattle.laws.specs.PresentValues.{AllWell, passed-written, can-ask-open}
-use Rattle.papers.specs.Notation.{Trees, size}
+use Rattle.papers.specs.Notation.{size}
 use Rattle.papers.specs.WritesTrees.{WritesTrees, writes-trees, written-ranks}
 use Rattle.papers.specs.Children.{firstValue}
 use Rattle.papers.specs.ByTrees.{present-by-trees}

@@ -1,16 +1,16 @@
 -- What the reader accepts, the moves allow with the same rows, whatever it is told: a step of the reader is a move, an accepted inside a run of moves.
 use Prim.Native.Nat.{ℕ, zero, suc, _+_, _-_, _≤_}
-use mathlib.Core.List.{List, [], _∷_, _++_, append-nil, map}
+use mathlib.Core.List.{List, [], _∷_, _++_, map}
 use mathlib.Core.Bool.{Bool, true, false, _&&_}
 use mathlib.Core.Path.{_≡_, refl, ap, sym, _∙_, subst}
 use native.Mathlib.Omega.{arith}
-use lib.Dec.{T, eqb, ltb}
+use lib.Dec.{T, ltb}
 use lib.ListN.{length, length-append}
 use borrow.Author.Tests.{eq-eqb, ltb-false}
 use Rattle.meaning.specs.Kinds.{agentName}
 use Rattle.meaning.specs.Told.{Told}
 use Rattle.meaning.specs.Editions.{State, go, Form, text, date, number, block, itself, opens, quiet, isQuiet, Move}
-use Rattle.meaning.specs.Reading.{Seen, seen, seenBy, isClosed, levelMost, tooDeep, Step, fails, over, next, step, onward, run, inside, done, reachBack}
+use Rattle.meaning.specs.Reading.{Seen, seen, isClosed, levelMost, tooDeep, Step, fails, over, next, step, onward, run, inside, done, reachBack}
 use Rattle.meaning.specs.Headers.{Placed, placedRow, placed, start}
 use Rattle.meaning.specs.Writing.{writeValue, lead}
 use Rattle.meaning.specs.Grammar.{standing, startIn}

@@ -1,13 +1,12 @@
 -- The papers' grammar and the project's: for each edition the papers and `Grammar` of `meaning` allow the same bytes with the same rows, starts included; and the
 -- reader, strict and tolerant, accepts exactly the papers' message envelopes.
-use Prim.Native.Nat.{ℕ, suc, _+_}
-use mathlib.Core.List.{List, [], _∷_, _++_, append-nil}
+use Prim.Native.Nat.{ℕ, _+_}
+use mathlib.Core.List.{List, _++_}
 use mathlib.Core.Logic.{_↔_}
 use mathlib.Core.Path.{_≡_, refl, ap, sym, _∙_, subst}
-use native.Mathlib.Omega.{arith}
 use lib.Dec.{T}
 use lib.ListN.{length}
-use Rattle.meaning.specs.Told.{Edition, known, labelOf, Strictness, strict, told, toldBy, Told}
+use Rattle.meaning.specs.Told.{Edition, known, labelOf, Strictness, told, toldBy}
 use Rattle.meaning.specs.Headers.{Placed, accepted, header, envelopesMost, readBy}
 use Rattle.meaning.specs.Memory.{tableOf}
 use Rattle.meaning.specs.Grammar.{TableOf}

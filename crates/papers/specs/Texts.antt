@@ -12,7 +12,7 @@ use Rattle.meaning.specs.Basics.{pick}
 use Rattle.meaning.specs.Told.{Strictness, strict, tolerant, Told}
 use Rattle.meaning.specs.Bytes.{Rule, line, note, isBreak, textByte, textOk, Width, oneByte, twoBytes, fourBytes, bytesOf, fewest, past, shortestOnly, tooWide, lengthBytes, numberOk}
 use Rattle.meaning.specs.Plain.{digitsWithin, digitsOf, packed, numberBytes, numberValue}
-use Rattle.laws.specs.Logic.{left-of, right-of, both, either, or-left, or-right}
+use Rattle.laws.specs.Logic.{left-of, right-of, both, either, or-left}
 use Rattle.laws.specs.Values.{mayStand}
 use Rattle.laws.specs.CodedNumbers.{coded-value}
 use Rattle.laws.specs.PlainNumbers.{value-coded}

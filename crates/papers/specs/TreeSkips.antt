@@ -1,12 +1,11 @@
 -- Order 7's skip numbers, by kinds and levels (`Skips` of `meaning`), and those of trees: the same, where what stands inside a row belongs to it and what
 -- follows does not. That the papers' trees are so stands in `Nested`, rule by rule.
-use Prim.Native.Nat.{ℕ, zero, suc, _+_}
-use mathlib.Core.List.{List, [], _∷_, _++_, append-assoc, append-nil}
-use mathlib.Core.Bool.{Bool, true, false}
+use Prim.Native.Nat.{ℕ, suc, _+_}
+use mathlib.Core.List.{List, [], _∷_, _++_, append-assoc}
+use mathlib.Core.Bool.{true, false}
 use mathlib.Core.Path.{_≡_, refl, ap, ap₂, sym, _∙_}
 use native.Mathlib.Omega.{arith}
 use lib.ListN.{length, length-append}
-use Rattle.meaning.specs.Basics.{pick}
 use Rattle.meaning.specs.Skips.{Rank, rank, belongs, belonging, skipsFrom}
 use Rattle.papers.specs.Notation.{Trees, end, tree, size, skipNumbers}
 

@@ -1,23 +1,23 @@
 -- The papers' rules and the reader's moves, one way: what a rule allows, moves of the reader allow with the same rows. Here the notation, the values and agents.
-use Prim.Native.Nat.{ℕ, zero, suc, _+_, _≤_, _<_}
+use Prim.Native.Nat.{ℕ, zero, suc, _+_, _≤_}
 use mathlib.Core.List.{List, [], _∷_, _++_, append-assoc, append-nil}
 use mathlib.Core.Bool.{Bool, true, false, _&&_, not}
 use mathlib.Core.Path.{_≡_, refl, ap, sym, _∙_, subst}
 use native.Mathlib.Omega.{arith}
 use lib.Dec.{T, eqb}
-use lib.ListN.{length, length-append}
+use lib.ListN.{length}
 use borrow.Author.Tests.{ne-eqb, eqb-false}
 use Rattle.meaning.specs.Basics.{In, here, there, isEmpty}
 use Rattle.meaning.specs.Told.{Edition, B, D, Told}
 use Rattle.meaning.specs.Bytes.{Rule, line, note, Width, oneByte, twoBytes, fourBytes, fewest}
 use Rattle.meaning.specs.Kinds.{agentName, addressesOpen, address, resolversOpen, extraKey, anyText, anyBytes}
-use Rattle.meaning.specs.Editions.{Room, agentList, oneAgent, afterName, addressTexts, afterAddresses, afterResolvers, agentExtra, State, state, Next, stay, deeper, listEnds, agentEnds, go, Form, text, block, isQuiet, Move, on_▸_▸_▸_, pass_▸_, noCode, extraCode, shared, own, moves}
+use Rattle.meaning.specs.Editions.{Room, agentList, afterName, addressTexts, afterAddresses, afterResolvers, agentExtra, State, state, Next, stay, deeper, listEnds, agentEnds, go, Form, text, block, isQuiet, Move, on_▸_▸_▸_, pass_▸_, noCode, extraCode, shared, own, moves}
 use Rattle.meaning.specs.Reading.{levelMost}
 use Rattle.meaning.specs.Headers.{Placed, placedRow}
 use Rattle.meaning.specs.Writing.{valid, writeValue}
 use Rattle.meaning.specs.Grammar.{standing, startIn}
 use Rattle.laws.specs.Values.{allowed}
-use Rattle.papers.specs.Notation.{Trees, end, tree, _⊕_, flat, Syntax, Value, _⨾_, _then_, _∣_, first, other, optional, absent, present, many, byte, when, met, only, leaf, shows, node, holds, opens, _⊳_, coded}
+use Rattle.papers.specs.Notation.{Trees, end, tree, _⊕_, flat, Syntax, Value, _⨾_, _then_, _∣_, first, other, optional, absent, present, many, byte, met, leaf, shows, node, holds, opens, _⊳_, coded}
 use Rattle.papers.specs.Values.{NullTerminatedString, string}
 use Rattle.papers.specs.Papers.{ByteSequence, Any, UserDefinedParameter, Addresses, AgentIdentifier, Resolvers}
 use Rattle.papers.specs.Moves.{Steps, still, row, silent, re-place, re-byte, re-row, re-end, join, from-wider}

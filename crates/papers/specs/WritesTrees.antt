@@ -2,16 +2,13 @@
 use Prim.Native.Nat.{ℕ, suc, _≤_}
 use mathlib.Core.List.{List, [], _∷_, _++_, map}
 use mathlib.Core.Logic.{_↔_}
-use mathlib.Core.Path.{_≡_, refl, ap, ap₂, sym, _∙_, subst}
-use native.Mathlib.Omega.{arith}
+use mathlib.Core.Path.{_≡_, refl, ap, ap₂, sym, _∙_}
 use lib.ListN.{length}
 use borrow.Author.Tests.{eq-eqb}
-use Rattle.meaning.specs.Basics.{pick}
 use Rattle.meaning.specs.Told.{Edition, known, labelOf, told}
-use Rattle.meaning.specs.Skips.{Rank, rank, skipsFrom, Skips, right, heldAgainst}
-use Rattle.meaning.specs.Reading.{Row}
+use Rattle.meaning.specs.Skips.{Rank, rank, skipsFrom, right, heldAgainst}
 use Rattle.meaning.specs.Headers.{Placed, meant}
-use Rattle.meaning.specs.Writing.{Cell, cell, written}
+use Rattle.meaning.specs.Writing.{cell, written}
 use Rattle.meaning.specs.Memory.{cellsOf, ranksOf, skipsOf, skipsHeld, write}
 use Rattle.meaning.specs.Grammar.{TableOf}
 use Rattle.meaning.specs.WriterFaults.{WritesAs}
