@@ -21,7 +21,7 @@ use Rattle.papers.specs.Papers.{AgentName, AgentIdentifier}
 use Rattle.papers.specs.Texts.{textual, block-in}
 use Rattle.papers.specs.Walks.{agentMove}
 use Rattle.papers.specs.Pieces.{skip, taken, one-again, again, first-of, no-more, agent-extra, extraMove, extra-value}
-use Rattle.papers.specs.Chains.{Agent, Extras, FromResolvers, FromAddresses, left, behind, Chain, re-start, all-that, one-more, two-more, Back, never, never′, agent-ends, deep-list, list-ends, list, name, texts, addresses, resolvers, extra}
+use Rattle.papers.specs.Chains.{Agent, Extras, FromResolvers, FromAddresses, left, behind, Chain, re-start, all-that, one-more, two-more, Back, no-row, no-pass, agent-ends, deep-list, list-ends, list, name, texts, addresses, resolvers, extra}
 
 module _ (t : Told) where
   pub moved-extra : (n : ℕ) (o : Bool) (m : Move) → In m (moves (t .edition) agentExtra) → Back t (state agentExtra (suc n) o) m
@@ -33,13 +33,13 @@ module _ (t : Told) where
       let none : (m : Move) → In m [] → Back t st m = no-more (Back t st) in
       let block-move : ℕ → Width → Move = λ c w. on c ▸ anyBytes ▸ block w ▸ out in
       first-of (Back t st) (on 0x14 ▸ anyText ▸ text note ▸ out) _
-      (resolvers n o, λ q at v b rows ok deep c. all-that t st at (0x14 ∷ (v ++ (0 ∷ []))) (placedRow anyText k (at + 1) v ∷ []) (tree anyText k (at + 1) v end end) (first (shows (coded (textual ok)))) refl c, never′)
+      (resolvers n o, λ q at v b rows ok deep c. all-that t st at (0x14 ∷ (v ++ (0 ∷ []))) (placedRow anyText k (at + 1) v ∷ []) (tree anyText k (at + 1) v end end) (first (shows (coded (textual ok)))) refl c, no-pass)
       (first-of (Back t st) (block-move 0x16 oneByte) _
-      (resolvers n o, λ q at v b rows ok deep c. all-that t st at (0x16 ∷ (lengthBytes oneByte (length v) ++ v)) (placedRow anyBytes k (at + 2) v ∷ []) (tree anyBytes k (at + 2) v end end) (other (first (shows (coded (block-in t oneByte v ok))))) refl c, never′)
+      (resolvers n o, λ q at v b rows ok deep c. all-that t st at (0x16 ∷ (lengthBytes oneByte (length v) ++ v)) (placedRow anyBytes k (at + 2) v ∷ []) (tree anyBytes k (at + 2) v end end) (other (first (shows (coded (block-in t oneByte v ok))))) refl c, no-pass)
       (first-of (Back t st) (block-move 0x17 twoBytes) _
-      (resolvers n o, λ q at v b rows ok deep c. all-that t st at (0x17 ∷ (lengthBytes twoBytes (length v) ++ v)) (placedRow anyBytes k (at + 3) v ∷ []) (tree anyBytes k (at + 3) v end end) (other (other (first (shows (coded (block-in t twoBytes v ok)))))) refl c, never′)
+      (resolvers n o, λ q at v b rows ok deep c. all-that t st at (0x17 ∷ (lengthBytes twoBytes (length v) ++ v)) (placedRow anyBytes k (at + 3) v ∷ []) (tree anyBytes k (at + 3) v end end) (other (other (first (shows (coded (block-in t twoBytes v ok)))))) refl c, no-pass)
       (first-of (Back t st) (block-move 0x19 fourBytes) _
-      (resolvers n o, λ q at v b rows ok deep c. all-that t st at (0x19 ∷ (lengthBytes fourBytes (length v) ++ v)) (placedRow anyBytes k (at + 5) v ∷ []) (tree anyBytes k (at + 5) v end end) (other (other (other (shows (coded (block-in t fourBytes v ok)))))) refl c, never′)
+      (resolvers n o, λ q at v b rows ok deep c. all-that t st at (0x19 ∷ (lengthBytes fourBytes (length v) ++ v)) (placedRow anyBytes k (at + 5) v ∷ []) (tree anyBytes k (at + 5) v end end) (other (other (other (shows (coded (block-in t fourBytes v ok)))))) refl c, no-pass)
       none)))
 
   -- what the rooms behind an agent's name share: what is left there begins with what is left of them
@@ -53,19 +53,19 @@ module _ (t : Told) where
           extra n o,
           λ q at v b rows ok deep c. two-more t st at (standing m v) (placedRow extraKey (suc n) (at + startIn m) v ∷ []) (state agentExtra (suc n) o) (state afterResolvers (suc n) o) refl refl refl (sym same)
               (λ b c us vs y z. (tree extraKey (suc n) (at + startIn m) v us vs, wider _ _ _ (again (standing m v) b c (tree extraKey (suc n) (at + startIn m) v us end) vs (agent-extra t (suc n) at _ _ (holds (extra-value (t .edition) agentExtra v ok) y)) z), refl)) c,
-          never′,
+          no-pass,
         )
 
     closing-back : ((at : ℕ) (a : List ℕ) (ts : Trees) → Extras t (suc n) at a ts → left t r (suc n) at a ts) → Back t (state r (suc n) o) (pass 0x01 ▸ agentEnds)
     closing-back wider =
         let st = state r (suc n) o in
-        (agent-ends n o, never, λ q at b rows c. all-that t st at (0x01 ∷ []) [] end (wider at _ _ (many.none then byte.it)) refl (re-start t (sym same) c))
+        (agent-ends n o, no-row, λ q at b rows c. all-that t st at (0x01 ∷ []) [] end (wider at _ _ (many.none then byte.it)) refl (re-start t (sym same) c))
 
     resolvers-back : ((at : ℕ) (a : List ℕ) (ts : Trees) → FromResolvers t (suc n) at a ts → left t r (suc n) at a ts) → Back t (state r (suc n) o) (on 0x03 ▸ resolversOpen ▸ Form.opens ▸ deeper agentList)
     unfolding valid writeValue allowed
     resolvers-back wider =
         let st = state r (suc n) o in
-        (list (suc n) o (deep-list n o), λ q at v b rows ok deep c. empty-view v ok at b rows c, never′)
+        (list (suc n) o (deep-list n o), λ q at v b rows ok deep c. empty-view v ok at b rows c, no-pass)
       where
         empty-view : (v : List ℕ) → T (isEmpty v) → (at : ℕ) (b : List ℕ) (rows : List Placed) → Chain t (state agentList (suc (suc n)) o) (at + 1) b rows → Chain t (state r (suc n) o) at (0x03 ∷ b) (placedRow resolversOpen (suc n) (at + 0) v ∷ rows)
         empty-view [] ok at b rows c =
@@ -90,7 +90,7 @@ module _ (t : Told) where
 
   addresses-back : (n : ℕ) (o : Bool) → Back t (state afterName (suc n) o) (on 0x02 ▸ addressesOpen ▸ Form.opens ▸ stay addressTexts)
   unfolding valid writeValue allowed
-  addresses-back n o = (texts n o, λ q at v b rows ok deep c. empty-view v ok at b rows c, never′)
+  addresses-back n o = (texts n o, λ q at v b rows ok deep c. empty-view v ok at b rows c, no-pass)
     where
       empty-view : (v : List ℕ) → T (isEmpty v) → (at : ℕ) (b : List ℕ) (rows : List Placed) → Chain t (state addressTexts (suc n) o) (at + 1) b rows → Chain t (state afterName (suc n) o) at (0x02 ∷ b) (placedRow addressesOpen (suc n) (at + 0) v ∷ rows)
       empty-view [] ok at b rows c =
@@ -112,12 +112,12 @@ module _ (t : Told) where
   moved-texts n o =
       let st = state addressTexts (suc n) o in
       let C = Back t st in
-      first-of C (pass 0x01 ▸ stay afterAddresses) _ (addresses n o, never, λ q at b rows c. all-that t st at (0x01 ∷ []) [] end (many.none then byte.it) refl c)
+      first-of C (pass 0x01 ▸ stay afterAddresses) _ (addresses n o, no-row, λ q at b rows c. all-that t st at (0x01 ∷ []) [] end (many.none then byte.it) refl c)
       (first-of C (on noCode ▸ address ▸ text line ▸ stay addressTexts) _ (
         texts n o,
         λ q at v b rows ok deep c. one-more t st at (v ++ (0 ∷ [])) (placedRow address (suc n) (at + 0) v ∷ []) st refl refl
             (λ b us y. (tree address (suc n) (at + 0) v end us, one-again (at + length (v ++ (0 ∷ []))) (v ++ (0 ∷ [])) b (tree address (suc n) (at + 0) v end end) us (shows (textual ok)) refl y, refl)) c,
-        never′,
+        no-pass,
       )
       (no-more C))
 
@@ -138,9 +138,9 @@ module _ (t : Told) where
         name n o,
         λ q at v b rows ok deep c. two-more t st at (0x02 ∷ (v ++ (0 ∷ []))) (placedRow agentName (suc n) (at + 1) v ∷ []) (state afterName (suc n) o) st refl refl leads refl
             (λ b c us vs y z. (tree agentName (suc n) (at + 1) v us vs, again (0x02 ∷ (v ++ (0 ∷ []))) b c (tree agentName (suc n) (at + 1) v us end) vs (agent-made (suc n) at _ _ (deep refl) (holds (coded (textual ok)) y)) z, refl)) c,
-        never′,
+        no-pass,
       )
-      (first-of C (pass 0x01 ▸ listEnds) _ (list-ends n o, never, λ q at b rows c. all-that t st at (0x01 ∷ []) [] end (many.none then byte.it) refl c)
+      (first-of C (pass 0x01 ▸ listEnds) _ (list-ends n o, no-row, λ q at b rows c. all-that t st at (0x01 ∷ []) [] end (many.none then byte.it) refl c)
       (no-more C))
 
   pub moved-one : (n : ℕ) (o : Bool) (m : Move) → In m (moves (t .edition) oneAgent) → Back t (state oneAgent (suc n) o) m
@@ -152,6 +152,6 @@ module _ (t : Told) where
         name n o,
         λ q at v b rows ok deep c. one-more t st at (0x02 ∷ (v ++ (0 ∷ []))) (placedRow agentName (suc n) (at + 1) v ∷ []) (state afterName (suc n) o) refl refl
             (λ b us y. (tree agentName (suc n) (at + 1) v us end, agent-made (suc n) at _ _ (deep refl) (holds (coded (textual ok)) y), ap (λ (l : List Placed). placedRow agentName (suc n) (at + 1) v ∷ l) (append-nil (flat us)))) c,
-        never′,
+        no-pass,
       )
       (no-more C)

@@ -24,7 +24,7 @@ use Rattle.papers.specs.Nested.{header-nested}
 use Rattle.papers.specs.Laid.{ranks-flat}
 use Rattle.papers.specs.Holding.{listsAgents, kindIn, levelIn, mayHold, Tops, Each}
 use Rattle.papers.specs.Held.{opensEnvelope, header-holding}
-use Rattle.papers.specs.Children.{NoValues, Children, children-of, children-occur, childBits, treeWords, firstChild, firstValue}
+use Rattle.papers.specs.Children.{has, NoValues, Children, children-of, children-occur, childBits, treeWords, firstChild, firstValue}
 
 -- No envelope stands inside another row
 
@@ -99,7 +99,7 @@ passed-over (r ∷ l) rest h = rw (h .0) (passed-over l rest (h .1))
 word-is : (ts : Trees) → ((code : ℕ) → (code ≡ 1 → ⊥) → Children code ts) → wordOf (ranks ts) ≡ childBits parameterCodes ts
 unfolding wordOf
 word-is ts h =
-    let at : (code : ℕ) (o : code ≡ 1 → ⊥) → occurs code (ranks ts) ≡ Rattle.papers.specs.Children.has code ts = λ code o. children-occur code o ts (h code o) in
+    let at : (code : ℕ) (o : code ≡ 1 → ⊥) → occurs code (ranks ts) ≡ has code ts = λ code o. children-occur code o ts (h code o) in
     rw (at 0 (λ q. omega arith), at 2 (λ q. omega arith), at 3 (λ q. omega arith), at 4 (λ q. omega arith), at 5 (λ q. omega arith), at 6 (λ q. omega arith), at 7 (λ q. omega arith), at 8 (λ q. omega arith), at 9 (λ q. omega arith), at 10 (λ q. omega arith), at 11 (λ q. omega arith)) refl
 
 words-of-trees : (ts : Trees) → Tops opensEnvelope ts → Each ts → Nested ts [] → wordsOf (ranks ts) ≡ treeWords ts

@@ -76,11 +76,11 @@ pub data Fine : State → Type 0 where
   received-extra : Fine (state receivedExtra 1 false)
   shut : Fine (state closed 0 false)
 
-pub never : {A : Type 0} → true ≡ false → A
-never q = absurd (false≢true (sym q))
+pub no-row : {A : Type 0} → true ≡ false → A
+no-row q = absurd (false≢true (sym q))
 
-pub never′ : {A : Type 0} → false ≡ true → A
-never′ q = absurd (false≢true q)
+pub no-pass : {A : Type 0} → false ≡ true → A
+no-pass q = absurd (false≢true q)
 
 pub agent-ends : (n : ℕ) (o : Bool) → Fine (go agentEnds (state afterResolvers (suc n) o))
 agent-ends n o = by (o && eqb (suc n) 1) refl

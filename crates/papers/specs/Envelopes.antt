@@ -4,7 +4,7 @@ use mathlib.Core.List.{List, [], _∷_, _++_}
 use mathlib.Core.Bool.{Bool, true, false, _&&_, not}
 use mathlib.Core.Path.{_≡_, refl}
 use native.Mathlib.Omega.{arith}
-use lib.Dec.{T, leb, ltb, le→leb}
+use lib.Dec.{T, leb, ltb, le→leb, leb→le}
 use lib.ListN.{length}
 use borrow.Author.Tests.{le-ltb, ltb-false}
 use Rattle.meaning.specs.Bytes.{Width, fewest, past, tooWide, blockOk}
@@ -46,7 +46,7 @@ module _ (e : Edition) where
   block-strict : (w : Width) (v : List ℕ) → T (blockOk w v) → T (allowed (told e) (block w) 0 v)
   unfolding allowed blockOk tooWide
   block-strict w v ok =
-      let fits : fewest w ≤ length v = lib.Dec.leb→le (fewest w) (length v) (left-of (leb (fewest w) (length v)) (ltb (length v) (past w)) ok) in
+      let fits : fewest w ≤ length v = leb→le (fewest w) (length v) (left-of (leb (fewest w) (length v)) (ltb (length v) (past w)) ok) in
       rw (le-ltb (length v) (fewest w) fits) (right-of (leb (fewest w) (length v)) (ltb (length v) (past w)) ok)
 
   strict-valid : (f : Form) (c : ℕ) (v : List ℕ) → T (allowed (told e) f c v) → T (valid f c v)

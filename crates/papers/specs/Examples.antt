@@ -5,7 +5,7 @@ use mathlib.Core.Path.{_≡_, refl}
 use native.Mathlib.Omega.{arith}
 use lib.Dec.{leb→le, ltb→lt}
 use Rattle.meaning.specs.Told.{Edition, D, told}
-use Rattle.meaning.specs.Bytes.{Rule, lastDay}
+use Rattle.meaning.specs.Bytes.{Rule, absolute, lastDay}
 use Rattle.meaning.specs.Cases.{hex}
 use Rattle.papers.specs.Notation.{Trees, end, tree, laid, _then_, first, other, absent, present, many, upTo, byte, these, shows, holds, coded, opens, itself}
 use Rattle.papers.specs.Values.{plain, empty, character, NullTerminatedString, string, BinDate, inTime, short, BinNumber, binNumber, digit, another, odd, even}
@@ -20,7 +20,7 @@ abbrev aDate : List ℕ
 aDate = hex 0x1_31_11_16_19_15_37_62_59_20
 
 -- 8 May 2000, 04:26:51.481
-the-date : Values.BinDate Rattle.meaning.specs.Bytes.absolute aDate 0 aDate
+the-date : BinDate absolute aDate 0 aDate
 unfolding lastDay
 the-date = inTime 2000 5 8 4 26 51 481 (omega arith) (omega arith) (omega arith) (omega arith) (omega arith) (omega arith) (omega arith) (omega arith) (omega arith)
 

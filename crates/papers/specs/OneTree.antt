@@ -5,6 +5,7 @@ use mathlib.Core.Path.{_≡_, refl, ap, sym, _∙_}
 use native.Mathlib.Omega.{arith}
 use lib.ListN.{length, length-append}
 use Rattle.meaning.specs.Told.{Told}
+use Rattle.meaning.specs.Skips.{Rank, rank, skipsFrom}
 use Rattle.meaning.specs.Headers.{Placed, placedRow, accepted, header}
 use Rattle.papers.specs.Notation.{Trees, end, tree, flat, size, skipNumbers}
 use Rattle.papers.specs.Papers.{Header}
@@ -72,22 +73,22 @@ told-by-skips i (tree k n s v a b) (tree k′ n′ s′ v′ c d) q p =
 ranks-of-rows : (ts us : Trees) → flat ts ≡ flat us → ranks ts ≡ ranks us
 ranks-of-rows ts us q = sym (are ts) ∙ ap ranked q ∙ are us
   where
-    ranked : List Placed → List Rattle.meaning.specs.Skips.Rank
+    ranked : List Placed → List Rank
     ranked [] = []
-    ranked (x ∷ l) = Rattle.meaning.specs.Skips.rank (x .kind) (x .level) ∷ ranked l
+    ranked (x ∷ l) = rank (x .kind) (x .level) ∷ ranked l
 
     both : (l m : List Placed) → ranked (l ++ m) ≡ ranked l ++ ranked m
     both [] m = refl
-    both (x ∷ l) m = ap (λ (y : List Rattle.meaning.specs.Skips.Rank). Rattle.meaning.specs.Skips.rank (x .kind) (x .level) ∷ y) (both l m)
+    both (x ∷ l) m = ap (λ (y : List Rank). rank (x .kind) (x .level) ∷ y) (both l m)
 
     are : (ts : Trees) → ranked (flat ts) ≡ ranks ts
     are end = refl
-    are (tree k n s v inside beside) = ap (λ (y : List Rattle.meaning.specs.Skips.Rank). Rattle.meaning.specs.Skips.rank k n ∷ y) (both (flat inside) (flat beside) ∙ rw (are inside, are beside) refl)
+    are (tree k n s v inside beside) = ap (λ (y : List Rank). rank k n ∷ y) (both (flat inside) (flat beside) ∙ rw (are inside, are beside) refl)
 
 -- rows of a header of the papers stand in one tree, whatever bytes they come from
 pub one-nesting : (t t′ : Told) (at at′ : ℕ) (a b : List ℕ) (ts us : Trees) → Header t at a ts → Header t′ at′ b us → flat ts ≡ flat us → ts ≡ us
 one-nesting t t′ at at′ a b ts us x y q =
-    told-by-skips 0 ts us q (sym (header-skips t at 0 a ts x) ∙ ap (Rattle.meaning.specs.Skips.skipsFrom 0) (ranks-of-rows ts us q) ∙ header-skips t′ at′ 0 b us y)
+    told-by-skips 0 ts us q (sym (header-skips t at 0 a ts x) ∙ ap (skipsFrom 0) (ranks-of-rows ts us q) ∙ header-skips t′ at′ 0 b us y)
 
 same-end : {p q : ℕ} {rs ts : List Placed} → accepted p rs ≡ accepted q ts → p ≡ q
 same-end q = cc q

@@ -12,7 +12,7 @@ use Rattle.meaning.specs.Memory.{tableOf}
 use Rattle.meaning.specs.Grammar.{TableOf}
 use Rattle.laws.specs.Logic.{areBytes}
 use Rattle.laws.specs.Ties.{accepted-known, read-as, from-zero}
-use Rattle.papers.specs.Notation.{Trees, end, _⊕_, flat, laid, _then_}
+use Rattle.papers.specs.Notation.{Trees, end, tree, _⊕_, flat, laid, _then_}
 use Rattle.papers.specs.Papers.{Header, MessageEnvelope, any}
 use Rattle.papers.specs.Envelopes.{table-of, of-table}
 use Rattle.papers.specs.Header.{papers-in, header-out}
@@ -44,7 +44,7 @@ pub record Message (strictness : Strictness) (edition : ℕ) (input : List ℕ) 
 -- .. which is a MessageEnvelope of the papers, and every such envelope is one
 nothing-after : (ts : Trees) → ts ⊕ end ≡ ts
 nothing-after end = refl
-nothing-after (Rattle.papers.specs.Notation.tree k n s v inside beside) = ap (Rattle.papers.specs.Notation.tree k n s v inside) (nothing-after beside)
+nothing-after (tree k n s v inside beside) = ap (tree k n s v inside) (nothing-after beside)
 
 pub message-envelope : {strictness : Strictness} {edition : ℕ} {input : List ℕ} {place : ℕ} {trees : Trees} (m : Message strictness edition input place trees) → MessageEnvelope (toldBy strictness (m .e)) 0 input trees
 message-envelope {strictness} {input = input} {trees = trees} m =

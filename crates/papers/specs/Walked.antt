@@ -86,8 +86,8 @@ module _ (t : Told) where
 
   -- a received object, from the back
 
-  abbrev P₀ : State
-  P₀ = state parameters 0 false
+  abbrev atParameters : State
+  atParameters = state parameters 0 false
 
   received-extra-walks : Walk t (only t D (UserDefinedParameter t 1)) (state afterVia 1 false) (state afterVia 1 false)
   unfolding moves shared own
@@ -95,16 +95,16 @@ module _ (t : Told) where
       (walk-only D (λ q′. walk-node t (on 0x05 ▸ extraKey ▸ text line ▸ stay receivedExtra) (coded-text t 0x05 extraKey line (stay receivedExtra) refl)
       (subst (λ (z : Edition). In (on 0x05 ▸ extraKey ▸ text line ▸ stay receivedExtra) (moves z afterVia)) (sym q) (there here)) refl (not-agent extraKey 1 refl) (any-from (state receivedExtra 1 false) (stay afterVia) (λ m j. j)))))
 
-  via-walks : Walk t (many (only t D (UserDefinedParameter t 1)) ⨾ byte 0x01) (state afterVia 1 false) P₀
+  via-walks : Walk t (many (only t D (UserDefinedParameter t 1)) ⨾ byte 0x01) (state afterVia 1 false) atParameters
   unfolding moves shared own
   via-walks = walk-then t (walk-many t received-extra-walks) (walk-byte t (pass 0x01 ▸ outer parameters) here refl)
 
-  id-walks : Walk t AfterId (state afterId 1 false) P₀
+  id-walks : Walk t AfterId (state afterId 1 false) atParameters
   unfolding moves shared own
   id-walks = walk-optional t afterId afterVia 1 false (λ m j. there j) (λ at a ts x. ends-moving x)
       (walk-leaf t (on 0x04 ▸ receivedVia ▸ text line ▸ stay afterVia) (coded-text t 0x04 receivedVia line (stay afterVia) refl) here refl (not-agent receivedVia 1 refl)) via-walks
 
-  from-walks : Walk t AfterFrom (state afterFrom 1 false) P₀
+  from-walks : Walk t AfterFrom (state afterFrom 1 false) atParameters
   unfolding moves shared own
   from-walks = walk-optional t afterFrom afterId 1 false (λ m j. there j) (λ at a ts x. optional-moving at a ts x)
       (walk-leaf t (on 0x03 ▸ receivedId ▸ text line ▸ stay afterId) (coded-text t 0x03 receivedId line (stay afterId) refl) here refl (not-agent receivedId 1 refl)) id-walks
@@ -112,36 +112,36 @@ module _ (t : Told) where
   further-moving : {P Q R : Syntax} {c : ℕ} (at : ℕ) (a : List ℕ) (ts : Trees) → (P ⨾ (Q ⨾ (R ⨾ byte c))) at a ts → T (not (isEmpty a))
   further-moving _ _ _ (_then_ {at} {a} {b} {us} x y) = more-moving a b (optional-moving (at + length a) b us y)
 
-  after-date-walks : Walk t AfterDate (state afterDate 1 false) P₀
+  after-date-walks : Walk t AfterDate (state afterDate 1 false) atParameters
   unfolding moves shared own
   after-date-walks = walk-optional t afterDate afterFrom 1 false (λ m j. there j) (λ at a ts x. further-moving at a ts x)
       (walk-leaf t (on 0x02 ▸ receivedFrom ▸ text line ▸ stay afterFrom) (coded-text t 0x02 receivedFrom line (stay afterFrom) refl) here refl (not-agent receivedFrom 1 refl)) from-walks
 
-  received-date-walks : Walk t (Date t 1 ⨾ AfterDate) (state receivedDate 1 false) P₀
+  received-date-walks : Walk t (Date t 1 ⨾ AfterDate) (state receivedDate 1 false) atParameters
   unfolding moves shared own
   received-date-walks = walk-then t (date-from (state receivedDate 1 false) (stay afterDate) here (λ m j. there j)) after-date-walks
 
-  received-walks : Walk t (ReceivedObject t) (state receivedBegins 0 false) P₀
+  received-walks : Walk t (ReceivedObject t) (state receivedBegins 0 false) atParameters
   unfolding moves shared own
   received-walks = walk-node t (on noCode ▸ receivedBy ▸ text line ▸ inner receivedDate) (bare-text t receivedBy line (inner receivedDate)) here refl (not-agent receivedBy 0 refl) received-date-walks
 
   -- parameters
 
-  agents-walk : Walk t (AgentIdentifierSequence t (agent t)) (state agentList 1 false) P₀
+  agents-walk : Walk t (AgentIdentifierSequence t (agent t)) (state agentList 1 false) atParameters
   unfolding moves shared own
   agents-walk = walk-then t (walk-many t (agent-walks t 8 0 (omega arith) false agentList here)) (walk-byte t (pass 0x01 ▸ listEnds) (there here) refl)
 
-  one-walks : Walk t (AgentIdentifier t 8 1) (state oneAgent 1 true) P₀
+  one-walks : Walk t (AgentIdentifier t 8 1) (state oneAgent 1 true) atParameters
   unfolding moves shared own
   one-walks = agent-walks t 8 0 (omega arith) true oneAgent here
 
-  strings-walk : Walk t (StringSequence t) (state encryptedTexts 0 false) P₀
+  strings-walk : Walk t (StringSequence t) (state encryptedTexts 0 false) atParameters
   unfolding moves shared own
   strings-walk =
       walk-then t (walk-many t (walk-leaf t (on noCode ▸ encryptedItem ▸ text line ▸ outer encryptedTexts) (bare-text t encryptedItem line (outer encryptedTexts)) (there here) refl (not-agent encryptedItem 0 refl)))
       (walk-byte t (pass 0x01 ▸ outer parameters) here refl)
 
-  predefined-walks : Walk t (PredefinedParameter t) P₀ P₀
+  predefined-walks : Walk t (PredefinedParameter t) atParameters atParameters
   unfolding moves shared own
   predefined-walks =
       walk-either t (walk-node t (on 0x02 ▸ toOpens ▸ Form.opens ▸ inner agentList) (opening t 0x02 toOpens (inner agentList) refl) (there here) refl (not-agent toOpens 0 refl) agents-walk)
@@ -157,12 +157,12 @@ module _ (t : Told) where
       (walk-node t (on 0x0b ▸ behaviourOpens ▸ Form.opens ▸ outer behaviourValue) (opening t 0x0b behaviourOpens (outer behaviourValue) refl) (there (there (there (there (there (there (there (there (there here))))))))) refl (not-agent behaviourOpens 0 refl)
       (any-from (state behaviourValue 0 false) (outer parameters) (λ m j. j)))))))))))
 
-  own-walks : Walk t (UserDefinedSlot t) P₀ P₀
+  own-walks : Walk t (UserDefinedSlot t) atParameters atParameters
   unfolding moves shared own
   own-walks = walk-node t (on 0x00 ▸ ownKey ▸ text line ▸ outer ownText) (coded-text t 0x00 ownKey line (outer ownText) refl) here refl (not-agent ownKey 0 refl)
       (walk-leaf t (on noCode ▸ ownValue ▸ text note ▸ outer parameters) (bare-text t ownValue note (outer parameters)) here refl (not-agent ownValue 0 refl))
 
-  parameters-walk : Walk t (many (Parameter t) ⨾ byte 0x01) P₀ (state closed 0 false)
+  parameters-walk : Walk t (many (Parameter t) ⨾ byte 0x01) atParameters (state closed 0 false)
   unfolding moves shared own
   parameters-walk =
       walk-then t (walk-many t (walk-either t predefined-walks own-walks)) (walk-byte t (pass 0x01 ▸ outer closed) (there (there (there (there (there (there (there (there (there (there here)))))))))) refl)
