@@ -1,5 +1,5 @@
 -- A header with every rule of 002, derived by them, with the rows and skip numbers that the tree gives. The reading is tolerant, so that a block of one byte may
--- stand behind 17 and 19. A JumboEnvelope alone is not here: it takes 65,540 bytes.
+-- stand behind 17 and 19. A JumboEnvelope takes 65,540 bytes: `Jumbo` has it, for every length.
 use Prim.Native.Nat.{ℕ, _+_}
 use mathlib.Core.List.{List, [], _∷_, _++_}
 use mathlib.Core.Path.{_≡_, refl}

@@ -1,1 +1,1 @@
-// What is proved of the meaning: the laws are in specs/, and nothing in them has to be believed.
+// The papers' own grammar, to be read beside them and believed: specs/ Notation, Values, Papers and Page. The rest of specs/ proves that it is the reader's and the writer's, and nothing in it has to be believed but what its theorems say.
