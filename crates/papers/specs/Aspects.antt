@@ -6,11 +6,13 @@ use lib.Dec.{leb→le, ltb→lt}
 use Rattle.meaning.specs.Told.{B, D, told}
 use Rattle.meaning.specs.Bytes.{textByte, textOk, turn, numberOk, lastDay, passes, dateOk, absolute, tooWide}
 use Rattle.meaning.specs.Cases.{hex}
+use Rattle.meaning.specs.Kinds.{baseOpens, standardRepresentation, dateAbsolute, receivedBy, receivedFrom, receivedId, receivedVia, toOpens, fromOpens, receiverOpens, agentName, addressesOpen, address, resolversOpen, comments, payloadEncoding, encryptedOpens, encryptedItem}
 use Rattle.papers.specs.Notation.{Trees, end, tree, laid, _then_, first, other, absent, present, many, upTo, byte, these, met, shows, holds, opens, itself, coded}
 use Rattle.papers.specs.Values.{short}
 use Rattle.papers.specs.Papers.{of, Header}
 use Rattle.papers.specs.Texts.{textual}
 use Rattle.papers.specs.Dates.{plain-coded}
+use Rattle.papers.specs.ExampleTexts.{an-id, bar-acc, bar-acc-one, bar-acc-three, bar-acc-two, bar-resolver, foo-acc, foobar-acc, foobar-acc-one, foobar-acc-three, foobar-acc-two, foobar-resolver, intended, no-comments, no-encryption, receiver, sender, us-ascii, may-date}
 
 -- 002's second example, edition D, in which all aspects occur: samples/all-aspects.envelope
 abbrev aspects-base : List ℕ
@@ -40,64 +42,64 @@ aspects-base =
 
 abbrev aspects-trees : Trees
 aspects-trees =
-    tree 2 0 0 [] (
-    tree 3 0 3 (0x12 ∷ []) end (
-    tree 5 0 5 (hex 0x1_31_11_16_19_15_37_62_59_20) end (
-    tree 12 0 14 [] (
-    tree 15 1 16 (hex 0x1_72_65_63_65_69_76_65_72_40_66_6f_6f_2e_63_6f_6d) (
-    tree 16 1 33 [] (tree 17 1 34 (hex 0x1_68_74_74_70_3a_2f_2f_66_6f_6f_2e_63_6f_6d_2f_61_63_63) end end) (
-    tree 18 1 54 [] (
-    tree 15 2 56 (hex 0x1_72_65_73_6f_6c_76_65_72_40_62_61_72_2e_63_6f_6d) (
-    tree 16 2 73 [] (
-    tree 17 2 74 (hex 0x1_68_74_74_70_3a_2f_2f_62_61_72_2e_63_6f_6d_2f_61_63_63_31) end (
-    tree 17 2 94 (hex 0x1_68_74_74_70_3a_2f_2f_62_61_72_2e_63_6f_6d_2f_61_63_63_32) end (
-    tree 17 2 114 (hex 0x1_68_74_74_70_3a_2f_2f_62_61_72_2e_63_6f_6d_2f_61_63_63_33) end end))) end) end) end)) end) (
-    tree 13 0 139 [] (
-    tree 15 1 141 (hex 0x1_73_65_6e_64_65_72_40_62_61_72_2e_63_6f_6d) (
-    tree 16 1 156 [] (tree 17 1 157 (hex 0x1_68_74_74_70_3a_2f_2f_62_61_72_2e_63_6f_6d_2f_61_63_63) end end) (
-    tree 18 1 177 [] (
-    tree 15 2 179 (hex 0x1_72_65_73_6f_6c_76_65_72_40_66_6f_6f_62_61_72_2e_63_6f_6d) (
-    tree 16 2 199 [] (
-    tree 17 2 200 (hex 0x1_68_74_74_70_3a_2f_2f_66_6f_6f_62_61_72_2e_63_6f_6d_2f_61_63_63_31) end (
-    tree 17 2 223 (hex 0x1_68_74_74_70_3a_2f_2f_66_6f_6f_62_61_72_2e_63_6f_6d_2f_61_63_63_32) end (
-    tree 17 2 246 (hex 0x1_68_74_74_70_3a_2f_2f_66_6f_6f_62_61_72_2e_63_6f_6d_2f_61_63_63_33) end end))) end) end) end)) end) (
-    tree 22 0 274 (hex 0x1_4e_6f_20_63_6f_6d_6d_65_6e_74_73_21) end (
-    tree 24 0 288 (hex 0x1_55_53_2d_41_53_43_49_49) end (
-    tree 14 0 297 [] (
-    tree 15 1 299 (hex 0x1_69_6e_74_65_6e_64_65_64_72_65_63_65_69_76_65_72_40_66_6f_6f_62_61_72_2e_63_6f_6d) (
-    tree 16 1 327 [] (
-    tree 17 1 328 (hex 0x1_68_74_74_70_3a_2f_2f_66_6f_6f_62_61_72_2e_63_6f_6d_2f_61_63_63_31) end (
-    tree 17 1 351 (hex 0x1_68_74_74_70_3a_2f_2f_66_6f_6f_62_61_72_2e_63_6f_6d_2f_61_63_63_32) end (
-    tree 17 1 374 (hex 0x1_68_74_74_70_3a_2f_2f_66_6f_6f_62_61_72_2e_63_6f_6d_2f_61_63_63_33) end end))) (
-    tree 18 1 398 [] (
-    tree 15 2 400 (hex 0x1_72_65_73_6f_6c_76_65_72_40_66_6f_6f_62_61_72_2e_63_6f_6d) (
-    tree 16 2 420 [] (
-    tree 17 2 421 (hex 0x1_68_74_74_70_3a_2f_2f_66_6f_6f_62_61_72_2e_63_6f_6d_2f_61_63_63_31) end (
-    tree 17 2 444 (hex 0x1_68_74_74_70_3a_2f_2f_66_6f_6f_62_61_72_2e_63_6f_6d_2f_61_63_63_32) end (
-    tree 17 2 467 (hex 0x1_68_74_74_70_3a_2f_2f_66_6f_6f_62_61_72_2e_63_6f_6d_2f_61_63_63_33) end end))) (
-    tree 18 2 491 [] (
-    tree 15 3 493 (hex 0x1_72_65_73_6f_6c_76_65_72_40_66_6f_6f_62_61_72_2e_63_6f_6d) (
-    tree 16 3 513 [] (
-    tree 17 3 514 (hex 0x1_68_74_74_70_3a_2f_2f_66_6f_6f_62_61_72_2e_63_6f_6d_2f_61_63_63_31) end (
-    tree 17 3 537 (hex 0x1_68_74_74_70_3a_2f_2f_66_6f_6f_62_61_72_2e_63_6f_6d_2f_61_63_63_32) end (
-    tree 17 3 560 (hex 0x1_68_74_74_70_3a_2f_2f_66_6f_6f_62_61_72_2e_63_6f_6d_2f_61_63_63_33) end end))) end) end) end)) end) end)) end) (
-    tree 8 0 591 (hex 0x1_68_74_74_70_3a_2f_2f_66_6f_6f_2e_63_6f_6d_2f_61_63_63) (
-    tree 5 1 611 (hex 0x1_31_11_16_19_15_37_62_59_20) end (
-    tree 9 1 621 (hex 0x1_68_74_74_70_3a_2f_2f_66_6f_6f_62_61_72_2e_63_6f_6d_2f_61_63_63) end (
-    tree 10 1 644 (hex 0x1_31_32_33_34_35_36_37_38_39) end (
-    tree 11 1 655 (hex 0x1_68_74_74_70_3a_2f_2f_62_61_72_2e_63_6f_6d_2f_61_63_63) end end)))) end)))))))) end
+    tree baseOpens 0 0 [] (
+    tree standardRepresentation 0 3 (0x12 ∷ []) end (
+    tree dateAbsolute 0 5 may-date end (
+    tree toOpens 0 14 [] (
+    tree agentName 1 16 receiver (
+    tree addressesOpen 1 33 [] (tree address 1 34 foo-acc end end) (
+    tree resolversOpen 1 54 [] (
+    tree agentName 2 56 bar-resolver (
+    tree addressesOpen 2 73 [] (
+    tree address 2 74 bar-acc-one end (
+    tree address 2 94 bar-acc-two end (
+    tree address 2 114 bar-acc-three end end))) end) end) end)) end) (
+    tree fromOpens 0 139 [] (
+    tree agentName 1 141 sender (
+    tree addressesOpen 1 156 [] (tree address 1 157 bar-acc end end) (
+    tree resolversOpen 1 177 [] (
+    tree agentName 2 179 foobar-resolver (
+    tree addressesOpen 2 199 [] (
+    tree address 2 200 foobar-acc-one end (
+    tree address 2 223 foobar-acc-two end (
+    tree address 2 246 foobar-acc-three end end))) end) end) end)) end) (
+    tree comments 0 274 no-comments end (
+    tree payloadEncoding 0 288 us-ascii end (
+    tree receiverOpens 0 297 [] (
+    tree agentName 1 299 intended (
+    tree addressesOpen 1 327 [] (
+    tree address 1 328 foobar-acc-one end (
+    tree address 1 351 foobar-acc-two end (
+    tree address 1 374 foobar-acc-three end end))) (
+    tree resolversOpen 1 398 [] (
+    tree agentName 2 400 foobar-resolver (
+    tree addressesOpen 2 420 [] (
+    tree address 2 421 foobar-acc-one end (
+    tree address 2 444 foobar-acc-two end (
+    tree address 2 467 foobar-acc-three end end))) (
+    tree resolversOpen 2 491 [] (
+    tree agentName 3 493 foobar-resolver (
+    tree addressesOpen 3 513 [] (
+    tree address 3 514 foobar-acc-one end (
+    tree address 3 537 foobar-acc-two end (
+    tree address 3 560 foobar-acc-three end end))) end) end) end)) end) end)) end) (
+    tree receivedBy 0 591 foo-acc (
+    tree dateAbsolute 1 611 may-date end (
+    tree receivedFrom 1 621 foobar-acc end (
+    tree receivedId 1 644 an-id end (
+    tree receivedVia 1 655 bar-acc end end)))) end)))))))) end
 
-pub aspects-is : Header (told D) 0 (aspects-base) aspects-trees
+pub aspects-is : Header (told D) 0 aspects-base aspects-trees
 unfolding textOk textByte dateOk passes lastDay numberOk turn tooWide
 aspects-is =
-    (upTo.none) then
-    of {bytes = aspects-base} (leb→le 676 1048576 tt) ((byte.it then first (these (short (ltb→lt 676 65536 tt))) then (other (other (other (shows itself.it)))) then (first (shows (coded (plain-coded absolute (hex 0x1_31_11_16_19_15_37_62_59_20) tt))))) then
-    (many.more (first (first (holds opens.it ((many.more (holds (coded (textual {v = (hex 0x1_72_65_63_65_69_76_65_72_40_66_6f_6f_2e_63_6f_6d)} tt)) (present (holds opens.it ((many.more (shows (textual {v = (hex 0x1_68_74_74_70_3a_2f_2f_66_6f_6f_2e_63_6f_6d_2f_61_63_63)} tt)) many.none) then byte.it)) then present (holds opens.it ((many.more (holds (coded (textual {v = (hex 0x1_72_65_73_6f_6c_76_65_72_40_62_61_72_2e_63_6f_6d)} tt)) (present (holds opens.it ((many.more (shows (textual {v = (hex 0x1_68_74_74_70_3a_2f_2f_62_61_72_2e_63_6f_6d_2f_61_63_63_31)} tt)) (many.more (shows (textual {v = (hex 0x1_68_74_74_70_3a_2f_2f_62_61_72_2e_63_6f_6d_2f_61_63_63_32)} tt)) (many.more (shows (textual {v = (hex 0x1_68_74_74_70_3a_2f_2f_62_61_72_2e_63_6f_6d_2f_61_63_63_33)} tt)) many.none))) then byte.it)) then absent then many.none then byte.it)) many.none) then byte.it)) then many.none then byte.it)) many.none) then byte.it))))
-    (many.more (first (other (first (holds opens.it (holds (coded (textual {v = (hex 0x1_73_65_6e_64_65_72_40_62_61_72_2e_63_6f_6d)} tt)) (present (holds opens.it ((many.more (shows (textual {v = (hex 0x1_68_74_74_70_3a_2f_2f_62_61_72_2e_63_6f_6d_2f_61_63_63)} tt)) many.none) then byte.it)) then present (holds opens.it ((many.more (holds (coded (textual {v = (hex 0x1_72_65_73_6f_6c_76_65_72_40_66_6f_6f_62_61_72_2e_63_6f_6d)} tt)) (present (holds opens.it ((many.more (shows (textual {v = (hex 0x1_68_74_74_70_3a_2f_2f_66_6f_6f_62_61_72_2e_63_6f_6d_2f_61_63_63_31)} tt)) (many.more (shows (textual {v = (hex 0x1_68_74_74_70_3a_2f_2f_66_6f_6f_62_61_72_2e_63_6f_6d_2f_61_63_63_32)} tt)) (many.more (shows (textual {v = (hex 0x1_68_74_74_70_3a_2f_2f_66_6f_6f_62_61_72_2e_63_6f_6d_2f_61_63_63_33)} tt)) many.none))) then byte.it)) then absent then many.none then byte.it)) many.none) then byte.it)) then many.none then byte.it))))))
-    (many.more (first (other (other (other (first (shows (coded (textual {v = (hex 0x1_4e_6f_20_63_6f_6d_6d_65_6e_74_73_21)} tt))))))))
-    (many.more (first (other (other (other (other (other (first (shows (coded (textual {v = (hex 0x1_55_53_2d_41_53_43_49_49)} tt))))))))))
-    (many.more (first (other (other (other (other (other (other (other (first (holds opens.it ((many.more (holds (coded (textual {v = (hex 0x1_69_6e_74_65_6e_64_65_64_72_65_63_65_69_76_65_72_40_66_6f_6f_62_61_72_2e_63_6f_6d)} tt)) (present (holds opens.it ((many.more (shows (textual {v = (hex 0x1_68_74_74_70_3a_2f_2f_66_6f_6f_62_61_72_2e_63_6f_6d_2f_61_63_63_31)} tt)) (many.more (shows (textual {v = (hex 0x1_68_74_74_70_3a_2f_2f_66_6f_6f_62_61_72_2e_63_6f_6d_2f_61_63_63_32)} tt)) (many.more (shows (textual {v = (hex 0x1_68_74_74_70_3a_2f_2f_66_6f_6f_62_61_72_2e_63_6f_6d_2f_61_63_63_33)} tt)) many.none))) then byte.it)) then present (holds opens.it ((many.more (holds (coded (textual {v = (hex 0x1_72_65_73_6f_6c_76_65_72_40_66_6f_6f_62_61_72_2e_63_6f_6d)} tt)) (present (holds opens.it ((many.more (shows (textual {v = (hex 0x1_68_74_74_70_3a_2f_2f_66_6f_6f_62_61_72_2e_63_6f_6d_2f_61_63_63_31)} tt)) (many.more (shows (textual {v = (hex 0x1_68_74_74_70_3a_2f_2f_66_6f_6f_62_61_72_2e_63_6f_6d_2f_61_63_63_32)} tt)) (many.more (shows (textual {v = (hex 0x1_68_74_74_70_3a_2f_2f_66_6f_6f_62_61_72_2e_63_6f_6d_2f_61_63_63_33)} tt)) many.none))) then byte.it)) then present (holds opens.it ((many.more (holds (coded (textual {v = (hex 0x1_72_65_73_6f_6c_76_65_72_40_66_6f_6f_62_61_72_2e_63_6f_6d)} tt)) (present (holds opens.it ((many.more (shows (textual {v = (hex 0x1_68_74_74_70_3a_2f_2f_66_6f_6f_62_61_72_2e_63_6f_6d_2f_61_63_63_31)} tt)) (many.more (shows (textual {v = (hex 0x1_68_74_74_70_3a_2f_2f_66_6f_6f_62_61_72_2e_63_6f_6d_2f_61_63_63_32)} tt)) (many.more (shows (textual {v = (hex 0x1_68_74_74_70_3a_2f_2f_66_6f_6f_62_61_72_2e_63_6f_6d_2f_61_63_63_33)} tt)) many.none))) then byte.it)) then absent then many.none then byte.it)) many.none) then byte.it)) then many.none then byte.it)) many.none) then byte.it)) then many.none then byte.it)) many.none) then byte.it)))))))))))
-    (many.more (first (other (other (other (other (other (other (other (other (first (byte.it then (holds (textual {v = (hex 0x1_68_74_74_70_3a_2f_2f_66_6f_6f_2e_63_6f_6d_2f_61_63_63)} tt) ((first (shows (coded (plain-coded absolute (hex 0x1_31_11_16_19_15_37_62_59_20) tt)))) then present (shows (coded (textual {v = (hex 0x1_68_74_74_70_3a_2f_2f_66_6f_6f_62_61_72_2e_63_6f_6d_2f_61_63_63)} tt))) then present (shows (coded (textual {v = (hex 0x1_31_32_33_34_35_36_37_38_39)} tt))) then present (shows (coded (textual {v = (hex 0x1_68_74_74_70_3a_2f_2f_62_61_72_2e_63_6f_6d_2f_61_63_63)} tt))) then many.none then byte.it)))))))))))))
+    upTo.none then
+    of {bytes = aspects-base} (leb→le 676 1048576 tt) ((byte.it then first (these (short (ltb→lt 676 65536 tt))) then (other (other (other (shows itself.it)))) then (first (shows (coded (plain-coded absolute may-date tt))))) then
+    (many.more (first (first (holds opens.it ((many.more (holds (coded (textual {v = receiver} tt)) (present (holds opens.it ((many.more (shows (textual {v = foo-acc} tt)) many.none) then byte.it)) then present (holds opens.it ((many.more (holds (coded (textual {v = bar-resolver} tt)) (present (holds opens.it ((many.more (shows (textual {v = bar-acc-one} tt)) (many.more (shows (textual {v = bar-acc-two} tt)) (many.more (shows (textual {v = bar-acc-three} tt)) many.none))) then byte.it)) then absent then many.none then byte.it)) many.none) then byte.it)) then many.none then byte.it)) many.none) then byte.it))))
+    (many.more (first (other (first (holds opens.it (holds (coded (textual {v = sender} tt)) (present (holds opens.it ((many.more (shows (textual {v = bar-acc} tt)) many.none) then byte.it)) then present (holds opens.it ((many.more (holds (coded (textual {v = foobar-resolver} tt)) (present (holds opens.it ((many.more (shows (textual {v = foobar-acc-one} tt)) (many.more (shows (textual {v = foobar-acc-two} tt)) (many.more (shows (textual {v = foobar-acc-three} tt)) many.none))) then byte.it)) then absent then many.none then byte.it)) many.none) then byte.it)) then many.none then byte.it))))))
+    (many.more (first (other (other (other (first (shows (coded (textual {v = no-comments} tt))))))))
+    (many.more (first (other (other (other (other (other (first (shows (coded (textual {v = us-ascii} tt))))))))))
+    (many.more (first (other (other (other (other (other (other (other (first (holds opens.it ((many.more (holds (coded (textual {v = intended} tt)) (present (holds opens.it ((many.more (shows (textual {v = foobar-acc-one} tt)) (many.more (shows (textual {v = foobar-acc-two} tt)) (many.more (shows (textual {v = foobar-acc-three} tt)) many.none))) then byte.it)) then present (holds opens.it ((many.more (holds (coded (textual {v = foobar-resolver} tt)) (present (holds opens.it ((many.more (shows (textual {v = foobar-acc-one} tt)) (many.more (shows (textual {v = foobar-acc-two} tt)) (many.more (shows (textual {v = foobar-acc-three} tt)) many.none))) then byte.it)) then present (holds opens.it ((many.more (holds (coded (textual {v = foobar-resolver} tt)) (present (holds opens.it ((many.more (shows (textual {v = foobar-acc-one} tt)) (many.more (shows (textual {v = foobar-acc-two} tt)) (many.more (shows (textual {v = foobar-acc-three} tt)) many.none))) then byte.it)) then absent then many.none then byte.it)) many.none) then byte.it)) then many.none then byte.it)) many.none) then byte.it)) then many.none then byte.it)) many.none) then byte.it)))))))))))
+    (many.more (first (other (other (other (other (other (other (other (other (first (byte.it then (holds (textual {v = foo-acc} tt) ((first (shows (coded (plain-coded absolute may-date tt)))) then present (shows (coded (textual {v = foobar-acc} tt))) then present (shows (coded (textual {v = an-id} tt))) then present (shows (coded (textual {v = bar-acc} tt))) then many.none then byte.it)))))))))))))
     many.none)))))) then byte.it)
 
 -- its rows: kind, level, start, length, skip number
@@ -180,66 +182,66 @@ aspects-slots-base =
 
 abbrev aspects-slots-trees : Trees
 aspects-slots-trees =
-    tree 2 0 0 [] (
-    tree 3 0 3 (0x12 ∷ []) end (
-    tree 5 0 5 (hex 0x1_31_11_16_19_15_37_62_59_20) end (
-    tree 12 0 14 [] (
-    tree 15 1 16 (hex 0x1_72_65_63_65_69_76_65_72_40_66_6f_6f_2e_63_6f_6d) (
-    tree 16 1 33 [] (tree 17 1 34 (hex 0x1_68_74_74_70_3a_2f_2f_66_6f_6f_2e_63_6f_6d_2f_61_63_63) end end) (
-    tree 18 1 54 [] (
-    tree 15 2 56 (hex 0x1_72_65_73_6f_6c_76_65_72_40_62_61_72_2e_63_6f_6d) (
-    tree 16 2 73 [] (
-    tree 17 2 74 (hex 0x1_68_74_74_70_3a_2f_2f_62_61_72_2e_63_6f_6d_2f_61_63_63_31) end (
-    tree 17 2 94 (hex 0x1_68_74_74_70_3a_2f_2f_62_61_72_2e_63_6f_6d_2f_61_63_63_32) end (
-    tree 17 2 114 (hex 0x1_68_74_74_70_3a_2f_2f_62_61_72_2e_63_6f_6d_2f_61_63_63_33) end end))) end) end) end)) end) (
-    tree 13 0 139 [] (
-    tree 15 1 141 (hex 0x1_73_65_6e_64_65_72_40_62_61_72_2e_63_6f_6d) (
-    tree 16 1 156 [] (tree 17 1 157 (hex 0x1_68_74_74_70_3a_2f_2f_62_61_72_2e_63_6f_6d_2f_61_63_63) end end) (
-    tree 18 1 177 [] (
-    tree 15 2 179 (hex 0x1_72_65_73_6f_6c_76_65_72_40_66_6f_6f_62_61_72_2e_63_6f_6d) (
-    tree 16 2 199 [] (
-    tree 17 2 200 (hex 0x1_68_74_74_70_3a_2f_2f_66_6f_6f_62_61_72_2e_63_6f_6d_2f_61_63_63_31) end (
-    tree 17 2 223 (hex 0x1_68_74_74_70_3a_2f_2f_66_6f_6f_62_61_72_2e_63_6f_6d_2f_61_63_63_32) end (
-    tree 17 2 246 (hex 0x1_68_74_74_70_3a_2f_2f_66_6f_6f_62_61_72_2e_63_6f_6d_2f_61_63_63_33) end end))) end) end) end)) end) (
-    tree 22 0 274 (hex 0x1_4e_6f_20_63_6f_6d_6d_65_6e_74_73_21) end (
-    tree 24 0 288 (hex 0x1_55_53_2d_41_53_43_49_49) end (
-    tree 25 0 297 [] (tree 26 0 298 (hex 0x1_6e_6f_20_65_6e_63_72_79_70_74_69_6f_6e) end end) (
-    tree 14 0 313 [] (
-    tree 15 1 315 (hex 0x1_69_6e_74_65_6e_64_65_64_72_65_63_65_69_76_65_72_40_66_6f_6f_62_61_72_2e_63_6f_6d) (
-    tree 16 1 343 [] (
-    tree 17 1 344 (hex 0x1_68_74_74_70_3a_2f_2f_66_6f_6f_62_61_72_2e_63_6f_6d_2f_61_63_63_31) end (
-    tree 17 1 367 (hex 0x1_68_74_74_70_3a_2f_2f_66_6f_6f_62_61_72_2e_63_6f_6d_2f_61_63_63_32) end (
-    tree 17 1 390 (hex 0x1_68_74_74_70_3a_2f_2f_66_6f_6f_62_61_72_2e_63_6f_6d_2f_61_63_63_33) end end))) (
-    tree 18 1 414 [] (
-    tree 15 2 416 (hex 0x1_72_65_73_6f_6c_76_65_72_40_66_6f_6f_62_61_72_2e_63_6f_6d) (
-    tree 16 2 436 [] (
-    tree 17 2 437 (hex 0x1_68_74_74_70_3a_2f_2f_66_6f_6f_62_61_72_2e_63_6f_6d_2f_61_63_63_31) end (
-    tree 17 2 460 (hex 0x1_68_74_74_70_3a_2f_2f_66_6f_6f_62_61_72_2e_63_6f_6d_2f_61_63_63_32) end (
-    tree 17 2 483 (hex 0x1_68_74_74_70_3a_2f_2f_66_6f_6f_62_61_72_2e_63_6f_6d_2f_61_63_63_33) end end))) (
-    tree 18 2 507 [] (
-    tree 15 3 509 (hex 0x1_72_65_73_6f_6c_76_65_72_40_66_6f_6f_62_61_72_2e_63_6f_6d) (
-    tree 16 3 529 [] (
-    tree 17 3 530 (hex 0x1_68_74_74_70_3a_2f_2f_66_6f_6f_62_61_72_2e_63_6f_6d_2f_61_63_63_31) end (
-    tree 17 3 553 (hex 0x1_68_74_74_70_3a_2f_2f_66_6f_6f_62_61_72_2e_63_6f_6d_2f_61_63_63_32) end (
-    tree 17 3 576 (hex 0x1_68_74_74_70_3a_2f_2f_66_6f_6f_62_61_72_2e_63_6f_6d_2f_61_63_63_33) end end))) end) end) end)) end) end)) end) (
-    tree 8 0 607 (hex 0x1_68_74_74_70_3a_2f_2f_66_6f_6f_2e_63_6f_6d_2f_61_63_63) (
-    tree 5 1 627 (hex 0x1_31_11_16_19_15_37_62_59_20) end (
-    tree 9 1 637 (hex 0x1_68_74_74_70_3a_2f_2f_66_6f_6f_62_61_72_2e_63_6f_6d_2f_61_63_63) end (
-    tree 10 1 660 (hex 0x1_31_32_33_34_35_36_37_38_39) end (
-    tree 11 1 671 (hex 0x1_68_74_74_70_3a_2f_2f_62_61_72_2e_63_6f_6d_2f_61_63_63) end end)))) end))))))))) end
+    tree baseOpens 0 0 [] (
+    tree standardRepresentation 0 3 (0x12 ∷ []) end (
+    tree dateAbsolute 0 5 may-date end (
+    tree toOpens 0 14 [] (
+    tree agentName 1 16 receiver (
+    tree addressesOpen 1 33 [] (tree address 1 34 foo-acc end end) (
+    tree resolversOpen 1 54 [] (
+    tree agentName 2 56 bar-resolver (
+    tree addressesOpen 2 73 [] (
+    tree address 2 74 bar-acc-one end (
+    tree address 2 94 bar-acc-two end (
+    tree address 2 114 bar-acc-three end end))) end) end) end)) end) (
+    tree fromOpens 0 139 [] (
+    tree agentName 1 141 sender (
+    tree addressesOpen 1 156 [] (tree address 1 157 bar-acc end end) (
+    tree resolversOpen 1 177 [] (
+    tree agentName 2 179 foobar-resolver (
+    tree addressesOpen 2 199 [] (
+    tree address 2 200 foobar-acc-one end (
+    tree address 2 223 foobar-acc-two end (
+    tree address 2 246 foobar-acc-three end end))) end) end) end)) end) (
+    tree comments 0 274 no-comments end (
+    tree payloadEncoding 0 288 us-ascii end (
+    tree encryptedOpens 0 297 [] (tree encryptedItem 0 298 no-encryption end end) (
+    tree receiverOpens 0 313 [] (
+    tree agentName 1 315 intended (
+    tree addressesOpen 1 343 [] (
+    tree address 1 344 foobar-acc-one end (
+    tree address 1 367 foobar-acc-two end (
+    tree address 1 390 foobar-acc-three end end))) (
+    tree resolversOpen 1 414 [] (
+    tree agentName 2 416 foobar-resolver (
+    tree addressesOpen 2 436 [] (
+    tree address 2 437 foobar-acc-one end (
+    tree address 2 460 foobar-acc-two end (
+    tree address 2 483 foobar-acc-three end end))) (
+    tree resolversOpen 2 507 [] (
+    tree agentName 3 509 foobar-resolver (
+    tree addressesOpen 3 529 [] (
+    tree address 3 530 foobar-acc-one end (
+    tree address 3 553 foobar-acc-two end (
+    tree address 3 576 foobar-acc-three end end))) end) end) end)) end) end)) end) (
+    tree receivedBy 0 607 foo-acc (
+    tree dateAbsolute 1 627 may-date end (
+    tree receivedFrom 1 637 foobar-acc end (
+    tree receivedId 1 660 an-id end (
+    tree receivedVia 1 671 bar-acc end end)))) end))))))))) end
 
-pub aspects-slots-is : Header (told B) 0 (aspects-slots-base) aspects-slots-trees
+pub aspects-slots-is : Header (told B) 0 aspects-slots-base aspects-slots-trees
 unfolding textOk textByte dateOk passes lastDay numberOk turn tooWide
 aspects-slots-is =
-    (upTo.none) then
-    of {bytes = aspects-slots-base} (leb→le 692 1048576 tt) ((byte.it then first (these (short (ltb→lt 692 65536 tt))) then (other (other (other (shows itself.it)))) then (first (shows (coded (plain-coded absolute (hex 0x1_31_11_16_19_15_37_62_59_20) tt))))) then
-    (many.more (first (first (holds opens.it ((many.more (holds (coded (textual {v = (hex 0x1_72_65_63_65_69_76_65_72_40_66_6f_6f_2e_63_6f_6d)} tt)) (present (holds opens.it ((many.more (shows (textual {v = (hex 0x1_68_74_74_70_3a_2f_2f_66_6f_6f_2e_63_6f_6d_2f_61_63_63)} tt)) many.none) then byte.it)) then present (holds opens.it ((many.more (holds (coded (textual {v = (hex 0x1_72_65_73_6f_6c_76_65_72_40_62_61_72_2e_63_6f_6d)} tt)) (present (holds opens.it ((many.more (shows (textual {v = (hex 0x1_68_74_74_70_3a_2f_2f_62_61_72_2e_63_6f_6d_2f_61_63_63_31)} tt)) (many.more (shows (textual {v = (hex 0x1_68_74_74_70_3a_2f_2f_62_61_72_2e_63_6f_6d_2f_61_63_63_32)} tt)) (many.more (shows (textual {v = (hex 0x1_68_74_74_70_3a_2f_2f_62_61_72_2e_63_6f_6d_2f_61_63_63_33)} tt)) many.none))) then byte.it)) then absent then many.none then byte.it)) many.none) then byte.it)) then many.none then byte.it)) many.none) then byte.it))))
-    (many.more (first (other (first (holds opens.it (holds (coded (textual {v = (hex 0x1_73_65_6e_64_65_72_40_62_61_72_2e_63_6f_6d)} tt)) (present (holds opens.it ((many.more (shows (textual {v = (hex 0x1_68_74_74_70_3a_2f_2f_62_61_72_2e_63_6f_6d_2f_61_63_63)} tt)) many.none) then byte.it)) then present (holds opens.it ((many.more (holds (coded (textual {v = (hex 0x1_72_65_73_6f_6c_76_65_72_40_66_6f_6f_62_61_72_2e_63_6f_6d)} tt)) (present (holds opens.it ((many.more (shows (textual {v = (hex 0x1_68_74_74_70_3a_2f_2f_66_6f_6f_62_61_72_2e_63_6f_6d_2f_61_63_63_31)} tt)) (many.more (shows (textual {v = (hex 0x1_68_74_74_70_3a_2f_2f_66_6f_6f_62_61_72_2e_63_6f_6d_2f_61_63_63_32)} tt)) (many.more (shows (textual {v = (hex 0x1_68_74_74_70_3a_2f_2f_66_6f_6f_62_61_72_2e_63_6f_6d_2f_61_63_63_33)} tt)) many.none))) then byte.it)) then absent then many.none then byte.it)) many.none) then byte.it)) then many.none then byte.it))))))
-    (many.more (first (other (other (other (first (shows (coded (textual {v = (hex 0x1_4e_6f_20_63_6f_6d_6d_65_6e_74_73_21)} tt))))))))
-    (many.more (first (other (other (other (other (other (first (shows (coded (textual {v = (hex 0x1_55_53_2d_41_53_43_49_49)} tt))))))))))
-    (many.more (first (other (other (other (other (other (other (first (met refl (holds opens.it ((many.more (shows (textual {v = (hex 0x1_6e_6f_20_65_6e_63_72_79_70_74_69_6f_6e)} tt)) many.none) then byte.it)))))))))))
-    (many.more (first (other (other (other (other (other (other (other (first (holds opens.it ((many.more (holds (coded (textual {v = (hex 0x1_69_6e_74_65_6e_64_65_64_72_65_63_65_69_76_65_72_40_66_6f_6f_62_61_72_2e_63_6f_6d)} tt)) (present (holds opens.it ((many.more (shows (textual {v = (hex 0x1_68_74_74_70_3a_2f_2f_66_6f_6f_62_61_72_2e_63_6f_6d_2f_61_63_63_31)} tt)) (many.more (shows (textual {v = (hex 0x1_68_74_74_70_3a_2f_2f_66_6f_6f_62_61_72_2e_63_6f_6d_2f_61_63_63_32)} tt)) (many.more (shows (textual {v = (hex 0x1_68_74_74_70_3a_2f_2f_66_6f_6f_62_61_72_2e_63_6f_6d_2f_61_63_63_33)} tt)) many.none))) then byte.it)) then present (holds opens.it ((many.more (holds (coded (textual {v = (hex 0x1_72_65_73_6f_6c_76_65_72_40_66_6f_6f_62_61_72_2e_63_6f_6d)} tt)) (present (holds opens.it ((many.more (shows (textual {v = (hex 0x1_68_74_74_70_3a_2f_2f_66_6f_6f_62_61_72_2e_63_6f_6d_2f_61_63_63_31)} tt)) (many.more (shows (textual {v = (hex 0x1_68_74_74_70_3a_2f_2f_66_6f_6f_62_61_72_2e_63_6f_6d_2f_61_63_63_32)} tt)) (many.more (shows (textual {v = (hex 0x1_68_74_74_70_3a_2f_2f_66_6f_6f_62_61_72_2e_63_6f_6d_2f_61_63_63_33)} tt)) many.none))) then byte.it)) then present (holds opens.it ((many.more (holds (coded (textual {v = (hex 0x1_72_65_73_6f_6c_76_65_72_40_66_6f_6f_62_61_72_2e_63_6f_6d)} tt)) (present (holds opens.it ((many.more (shows (textual {v = (hex 0x1_68_74_74_70_3a_2f_2f_66_6f_6f_62_61_72_2e_63_6f_6d_2f_61_63_63_31)} tt)) (many.more (shows (textual {v = (hex 0x1_68_74_74_70_3a_2f_2f_66_6f_6f_62_61_72_2e_63_6f_6d_2f_61_63_63_32)} tt)) (many.more (shows (textual {v = (hex 0x1_68_74_74_70_3a_2f_2f_66_6f_6f_62_61_72_2e_63_6f_6d_2f_61_63_63_33)} tt)) many.none))) then byte.it)) then absent then many.none then byte.it)) many.none) then byte.it)) then many.none then byte.it)) many.none) then byte.it)) then many.none then byte.it)) many.none) then byte.it)))))))))))
-    (many.more (first (other (other (other (other (other (other (other (other (first (byte.it then (holds (textual {v = (hex 0x1_68_74_74_70_3a_2f_2f_66_6f_6f_2e_63_6f_6d_2f_61_63_63)} tt) ((first (shows (coded (plain-coded absolute (hex 0x1_31_11_16_19_15_37_62_59_20) tt)))) then present (shows (coded (textual {v = (hex 0x1_68_74_74_70_3a_2f_2f_66_6f_6f_62_61_72_2e_63_6f_6d_2f_61_63_63)} tt))) then present (shows (coded (textual {v = (hex 0x1_31_32_33_34_35_36_37_38_39)} tt))) then present (shows (coded (textual {v = (hex 0x1_68_74_74_70_3a_2f_2f_62_61_72_2e_63_6f_6d_2f_61_63_63)} tt))) then many.none then byte.it)))))))))))))
+    upTo.none then
+    of {bytes = aspects-slots-base} (leb→le 692 1048576 tt) ((byte.it then first (these (short (ltb→lt 692 65536 tt))) then (other (other (other (shows itself.it)))) then (first (shows (coded (plain-coded absolute may-date tt))))) then
+    (many.more (first (first (holds opens.it ((many.more (holds (coded (textual {v = receiver} tt)) (present (holds opens.it ((many.more (shows (textual {v = foo-acc} tt)) many.none) then byte.it)) then present (holds opens.it ((many.more (holds (coded (textual {v = bar-resolver} tt)) (present (holds opens.it ((many.more (shows (textual {v = bar-acc-one} tt)) (many.more (shows (textual {v = bar-acc-two} tt)) (many.more (shows (textual {v = bar-acc-three} tt)) many.none))) then byte.it)) then absent then many.none then byte.it)) many.none) then byte.it)) then many.none then byte.it)) many.none) then byte.it))))
+    (many.more (first (other (first (holds opens.it (holds (coded (textual {v = sender} tt)) (present (holds opens.it ((many.more (shows (textual {v = bar-acc} tt)) many.none) then byte.it)) then present (holds opens.it ((many.more (holds (coded (textual {v = foobar-resolver} tt)) (present (holds opens.it ((many.more (shows (textual {v = foobar-acc-one} tt)) (many.more (shows (textual {v = foobar-acc-two} tt)) (many.more (shows (textual {v = foobar-acc-three} tt)) many.none))) then byte.it)) then absent then many.none then byte.it)) many.none) then byte.it)) then many.none then byte.it))))))
+    (many.more (first (other (other (other (first (shows (coded (textual {v = no-comments} tt))))))))
+    (many.more (first (other (other (other (other (other (first (shows (coded (textual {v = us-ascii} tt))))))))))
+    (many.more (first (other (other (other (other (other (other (first (met refl (holds opens.it ((many.more (shows (textual {v = no-encryption} tt)) many.none) then byte.it)))))))))))
+    (many.more (first (other (other (other (other (other (other (other (first (holds opens.it ((many.more (holds (coded (textual {v = intended} tt)) (present (holds opens.it ((many.more (shows (textual {v = foobar-acc-one} tt)) (many.more (shows (textual {v = foobar-acc-two} tt)) (many.more (shows (textual {v = foobar-acc-three} tt)) many.none))) then byte.it)) then present (holds opens.it ((many.more (holds (coded (textual {v = foobar-resolver} tt)) (present (holds opens.it ((many.more (shows (textual {v = foobar-acc-one} tt)) (many.more (shows (textual {v = foobar-acc-two} tt)) (many.more (shows (textual {v = foobar-acc-three} tt)) many.none))) then byte.it)) then present (holds opens.it ((many.more (holds (coded (textual {v = foobar-resolver} tt)) (present (holds opens.it ((many.more (shows (textual {v = foobar-acc-one} tt)) (many.more (shows (textual {v = foobar-acc-two} tt)) (many.more (shows (textual {v = foobar-acc-three} tt)) many.none))) then byte.it)) then absent then many.none then byte.it)) many.none) then byte.it)) then many.none then byte.it)) many.none) then byte.it)) then many.none then byte.it)) many.none) then byte.it)))))))))))
+    (many.more (first (other (other (other (other (other (other (other (other (first (byte.it then (holds (textual {v = foo-acc} tt) ((first (shows (coded (plain-coded absolute may-date tt)))) then present (shows (coded (textual {v = foobar-acc} tt))) then present (shows (coded (textual {v = an-id} tt))) then present (shows (coded (textual {v = bar-acc} tt))) then many.none then byte.it)))))))))))))
     many.none))))))) then byte.it)
 
 -- its rows: kind, level, start, length, skip number

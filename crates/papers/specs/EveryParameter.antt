@@ -7,11 +7,13 @@ use lib.Dec.{leb→le, ltb→lt}
 use Rattle.meaning.specs.Told.{D, toldBy, tolerant}
 use Rattle.meaning.specs.Bytes.{textByte, textOk, turn, numberOk, lastDay, passes, dateOk, absolute, relative, tooWide, oneByte, twoBytes, fourBytes}
 use Rattle.meaning.specs.Cases.{hex}
+use Rattle.meaning.specs.Kinds.{extensionOpens, baseOpens, standardRepresentation, ownRepresentation, dateAbsolute, dateForward, dateBackward, receivedBy, receivedFrom, receivedId, receivedVia, toOpens, fromOpens, receiverOpens, agentName, addressesOpen, address, resolversOpen, extraKey, anyText, anyBytes, comments, payloadLength, payloadEncoding, ownKey, ownValue, behaviourOpens}
 use Rattle.papers.specs.Notation.{Trees, end, tree, laid, _then_, first, other, absent, present, many, upTo, byte, these, met, shows, holds, opens, itself, coded}
 use Rattle.papers.specs.Values.{short}
 use Rattle.papers.specs.Papers.{of, Header}
 use Rattle.papers.specs.Texts.{textual, block-in, number-in}
 use Rattle.papers.specs.Dates.{plain-coded, lettered-coded}
+use Rattle.papers.specs.ExampleTexts.{may-date}
 
 abbrev whole-extension : List ℕ
 whole-extension =
@@ -30,64 +32,64 @@ whole-base =
 
 abbrev whole-trees : Trees
 whole-trees =
-    tree 1 0 0 [] (
-    tree 8 0 3 (hex 0x1_62_79) (
-    tree 5 1 7 (hex 0x1_31_11_16_19_15_37_62_59_20_5a) end (
-    tree 9 1 18 (hex 0x1_66_72_6f_6d) end (
-    tree 10 1 24 (hex 0x1_69_64) end (
-    tree 11 1 28 (hex 0x1_76_69_61) end (
-    tree 19 1 33 (0x6b ∷ []) (tree 20 1 36 (hex 0x1_76_0a) end end) (
-    tree 19 1 40 (0x6c ∷ []) (tree 21 1 44 (0xaa ∷ []) end end) end)))))) end) (
-    tree 2 0 47 [] (
-    tree 4 0 51 (hex 0x1_6f_77_6e) end (
-    tree 5 0 56 (hex 0x1_31_11_16_19_15_37_62_59_20) end (
-    tree 27 0 66 (hex 0x1_6b_65_79) (tree 28 0 70 (hex 0x1_76_61_6c_75_65) end end) (
-    tree 12 0 76 [] (
-    tree 15 1 78 (0x78 ∷ []) (
-    tree 16 1 80 [] (
-    tree 17 1 81 (0x75 ∷ []) end (
-    tree 17 1 83 (0x77 ∷ []) end end)) (
-    tree 18 1 86 [] (tree 15 2 88 (0x79 ∷ []) end end) (
-    tree 19 1 93 (0x6b ∷ []) (tree 20 1 96 (hex 0x1_76_0a) end end) (
-    tree 19 1 100 (0x6c ∷ []) (tree 21 1 104 (0xaa ∷ []) end end) end)))) (
-    tree 15 1 107 (0x7a ∷ []) end end)) (
-    tree 13 0 111 [] (
-    tree 15 1 113 (0x78 ∷ []) (
-    tree 16 1 115 [] (
-    tree 17 1 116 (0x75 ∷ []) end (
-    tree 17 1 118 (0x77 ∷ []) end end)) (
-    tree 18 1 121 [] (tree 15 2 123 (0x79 ∷ []) end end) (
-    tree 19 1 128 (0x6b ∷ []) (tree 20 1 131 (hex 0x1_76_0a) end end) (
-    tree 19 1 135 (0x6c ∷ []) (tree 21 1 139 (0xaa ∷ []) end end) end)))) end) (
-    tree 3 0 142 (0x10 ∷ []) end (
-    tree 3 0 144 (0x11 ∷ []) end (
-    tree 3 0 146 (0x12 ∷ []) end (
-    tree 4 0 149 (0x72 ∷ []) end (
-    tree 22 0 152 (hex 0x1_61_09_62_0d_0a_63) end (
-    tree 23 0 160 (hex 0x1_23_00) end (
-    tree 23 0 163 (0x80 ∷ []) end (
-    tree 24 0 165 (0x65 ∷ []) end (
-    tree 14 0 167 [] end (
-    tree 8 0 170 (hex 0x1_62_79) (tree 5 1 174 (hex 0x1_31_11_16_19_15_37_62_59_20) end end) (
-    tree 8 0 185 [] (tree 6 1 187 (hex 0x1_11_11_11_11_11_21_11_11_10) end end) (
-    tree 8 0 198 [] (tree 7 1 200 (hex 0x1_11_11_11_11_11_21_11_11_10) end end) (
-    tree 8 0 211 [] (
-    tree 6 1 213 (hex 0x1_11_11_11_11_11_21_11_11_10_61) end (
-    tree 10 1 224 (hex 0x1_69_64) end end)) (
-    tree 8 0 229 [] (
-    tree 7 1 231 (hex 0x1_11_11_11_11_11_21_11_11_10_61) end (
-    tree 10 1 242 (hex 0x1_69_64) end end)) (
-    tree 29 0 246 [] (tree 20 0 248 (hex 0x1_61_6e_79) end end) (
-    tree 29 0 252 [] (tree 21 0 255 (hex 0x1_00_ff) end end) (
-    tree 29 0 257 [] (tree 21 0 261 (0xbb ∷ []) end end) (
-    tree 29 0 262 [] (tree 21 0 268 (0xcc ∷ []) end end) end))))))))))))))))))))))) end)
+    tree extensionOpens 0 0 [] (
+    tree receivedBy 0 3 (hex 0x1_62_79) (
+    tree dateAbsolute 1 7 (hex 0x1_31_11_16_19_15_37_62_59_20_5a) end (
+    tree receivedFrom 1 18 (hex 0x1_66_72_6f_6d) end (
+    tree receivedId 1 24 (hex 0x1_69_64) end (
+    tree receivedVia 1 28 (hex 0x1_76_69_61) end (
+    tree extraKey 1 33 (0x6b ∷ []) (tree anyText 1 36 (hex 0x1_76_0a) end end) (
+    tree extraKey 1 40 (0x6c ∷ []) (tree anyBytes 1 44 (0xaa ∷ []) end end) end)))))) end) (
+    tree baseOpens 0 47 [] (
+    tree ownRepresentation 0 51 (hex 0x1_6f_77_6e) end (
+    tree dateAbsolute 0 56 may-date end (
+    tree ownKey 0 66 (hex 0x1_6b_65_79) (tree ownValue 0 70 (hex 0x1_76_61_6c_75_65) end end) (
+    tree toOpens 0 76 [] (
+    tree agentName 1 78 (0x78 ∷ []) (
+    tree addressesOpen 1 80 [] (
+    tree address 1 81 (0x75 ∷ []) end (
+    tree address 1 83 (0x77 ∷ []) end end)) (
+    tree resolversOpen 1 86 [] (tree agentName 2 88 (0x79 ∷ []) end end) (
+    tree extraKey 1 93 (0x6b ∷ []) (tree anyText 1 96 (hex 0x1_76_0a) end end) (
+    tree extraKey 1 100 (0x6c ∷ []) (tree anyBytes 1 104 (0xaa ∷ []) end end) end)))) (
+    tree agentName 1 107 (0x7a ∷ []) end end)) (
+    tree fromOpens 0 111 [] (
+    tree agentName 1 113 (0x78 ∷ []) (
+    tree addressesOpen 1 115 [] (
+    tree address 1 116 (0x75 ∷ []) end (
+    tree address 1 118 (0x77 ∷ []) end end)) (
+    tree resolversOpen 1 121 [] (tree agentName 2 123 (0x79 ∷ []) end end) (
+    tree extraKey 1 128 (0x6b ∷ []) (tree anyText 1 131 (hex 0x1_76_0a) end end) (
+    tree extraKey 1 135 (0x6c ∷ []) (tree anyBytes 1 139 (0xaa ∷ []) end end) end)))) end) (
+    tree standardRepresentation 0 142 (0x10 ∷ []) end (
+    tree standardRepresentation 0 144 (0x11 ∷ []) end (
+    tree standardRepresentation 0 146 (0x12 ∷ []) end (
+    tree ownRepresentation 0 149 (0x72 ∷ []) end (
+    tree comments 0 152 (hex 0x1_61_09_62_0d_0a_63) end (
+    tree payloadLength 0 160 (hex 0x1_23_00) end (
+    tree payloadLength 0 163 (0x80 ∷ []) end (
+    tree payloadEncoding 0 165 (0x65 ∷ []) end (
+    tree receiverOpens 0 167 [] end (
+    tree receivedBy 0 170 (hex 0x1_62_79) (tree dateAbsolute 1 174 may-date end end) (
+    tree receivedBy 0 185 [] (tree dateForward 1 187 (hex 0x1_11_11_11_11_11_21_11_11_10) end end) (
+    tree receivedBy 0 198 [] (tree dateBackward 1 200 (hex 0x1_11_11_11_11_11_21_11_11_10) end end) (
+    tree receivedBy 0 211 [] (
+    tree dateForward 1 213 (hex 0x1_11_11_11_11_11_21_11_11_10_61) end (
+    tree receivedId 1 224 (hex 0x1_69_64) end end)) (
+    tree receivedBy 0 229 [] (
+    tree dateBackward 1 231 (hex 0x1_11_11_11_11_11_21_11_11_10_61) end (
+    tree receivedId 1 242 (hex 0x1_69_64) end end)) (
+    tree behaviourOpens 0 246 [] (tree anyText 0 248 (hex 0x1_61_6e_79) end end) (
+    tree behaviourOpens 0 252 [] (tree anyBytes 0 255 (hex 0x1_00_ff) end end) (
+    tree behaviourOpens 0 257 [] (tree anyBytes 0 261 (0xbb ∷ []) end end) (
+    tree behaviourOpens 0 262 [] (tree anyBytes 0 268 (0xcc ∷ []) end end) end))))))))))))))))))))))) end)
 
 pub whole-is : Header (toldBy tolerant D) 0 (whole-extension ++ whole-base) whole-trees
 unfolding textOk textByte dateOk passes lastDay numberOk turn tooWide
 whole-is =
     (upTo.more (of {bytes = whole-extension} (leb→le 47 1048576 tt) ((byte.it then first (these (short (ltb→lt 47 65536 tt))) then (holds (textual {v = (hex 0x1_62_79)} tt) ((other (other (other (other (first (met refl (shows (coded (lettered-coded absolute (hex 0x1_31_11_16_19_15_37_62_59_20_5a) tt))))))))) then present (shows (coded (textual {v = (hex 0x1_66_72_6f_6d)} tt))) then present (shows (coded (textual {v = (hex 0x1_69_64)} tt))) then present (shows (coded (textual {v = (hex 0x1_76_69_61)} tt))) then (many.more (met refl (other (met refl (holds (coded (textual {v = (0x6b ∷ [])} tt)) (first (shows (coded (textual {v = (hex 0x1_76_0a)} tt)))))))) (many.more (met refl (other (met refl (holds (coded (textual {v = (0x6c ∷ [])} tt)) (other (first (shows (coded (block-in (toldBy tolerant D) oneByte (0xaa ∷ []) tt))))))))) many.none)) then byte.it))) then
     many.none then byte.it)) (upTo.none)) then
-    of {bytes = whole-base} (leb→le 223 1048576 tt) ((byte.it then first (these (short (ltb→lt 223 65536 tt))) then (first (shows (coded (textual {v = (hex 0x1_6f_77_6e)} tt)))) then (first (shows (coded (plain-coded absolute (hex 0x1_31_11_16_19_15_37_62_59_20) tt))))) then
+    of {bytes = whole-base} (leb→le 223 1048576 tt) ((byte.it then first (these (short (ltb→lt 223 65536 tt))) then (first (shows (coded (textual {v = (hex 0x1_6f_77_6e)} tt)))) then (first (shows (coded (plain-coded absolute may-date tt))))) then
     (many.more (other (holds (coded (textual {v = (hex 0x1_6b_65_79)} tt)) (shows (textual {v = (hex 0x1_76_61_6c_75_65)} tt))))
     (many.more (first (first (holds opens.it ((many.more (holds (coded (textual {v = (0x78 ∷ [])} tt)) (present (holds opens.it ((many.more (shows (textual {v = (0x75 ∷ [])} tt)) (many.more (shows (textual {v = (0x77 ∷ [])} tt)) many.none)) then byte.it)) then present (holds opens.it ((many.more (holds (coded (textual {v = (0x79 ∷ [])} tt)) (absent then absent then many.none then byte.it)) many.none) then byte.it)) then (many.more (other (met refl (holds (coded (textual {v = (0x6b ∷ [])} tt)) (first (shows (coded (textual {v = (hex 0x1_76_0a)} tt))))))) (many.more (other (met refl (holds (coded (textual {v = (0x6c ∷ [])} tt)) (other (first (shows (coded (block-in (toldBy tolerant D) oneByte (0xaa ∷ []) tt)))))))) many.none)) then byte.it)) (many.more (holds (coded (textual {v = (0x7a ∷ [])} tt)) (absent then absent then many.none then byte.it)) many.none)) then byte.it))))
     (many.more (first (other (first (holds opens.it (holds (coded (textual {v = (0x78 ∷ [])} tt)) (present (holds opens.it ((many.more (shows (textual {v = (0x75 ∷ [])} tt)) (many.more (shows (textual {v = (0x77 ∷ [])} tt)) many.none)) then byte.it)) then present (holds opens.it ((many.more (holds (coded (textual {v = (0x79 ∷ [])} tt)) (absent then absent then many.none then byte.it)) many.none) then byte.it)) then (many.more (other (met refl (holds (coded (textual {v = (0x6b ∷ [])} tt)) (first (shows (coded (textual {v = (hex 0x1_76_0a)} tt))))))) (many.more (other (met refl (holds (coded (textual {v = (0x6c ∷ [])} tt)) (other (first (shows (coded (block-in (toldBy tolerant D) oneByte (0xaa ∷ []) tt)))))))) many.none)) then byte.it))))))
@@ -100,7 +102,7 @@ whole-is =
     (many.more (first (other (other (other (other (first (shows (coded (number-in (0x80 ∷ []) tt)))))))))
     (many.more (first (other (other (other (other (other (first (shows (coded (textual {v = (0x65 ∷ [])} tt))))))))))
     (many.more (first (other (other (other (other (other (other (other (first (holds opens.it (many.none then byte.it)))))))))))
-    (many.more (first (other (other (other (other (other (other (other (other (first (byte.it then (holds (textual {v = (hex 0x1_62_79)} tt) ((first (shows (coded (plain-coded absolute (hex 0x1_31_11_16_19_15_37_62_59_20) tt)))) then absent then absent then absent then many.none then byte.it)))))))))))))
+    (many.more (first (other (other (other (other (other (other (other (other (first (byte.it then (holds (textual {v = (hex 0x1_62_79)} tt) ((first (shows (coded (plain-coded absolute may-date tt)))) then absent then absent then absent then many.none then byte.it)))))))))))))
     (many.more (first (other (other (other (other (other (other (other (other (first (byte.it then (holds (textual {v = []} tt) ((other (other (first (met refl (shows (coded (plain-coded relative (hex 0x1_11_11_11_11_11_21_11_11_10) tt))))))) then absent then absent then absent then many.none then byte.it)))))))))))))
     (many.more (first (other (other (other (other (other (other (other (other (first (byte.it then (holds (textual {v = []} tt) ((other (other (other (first (met refl (shows (coded (plain-coded relative (hex 0x1_11_11_11_11_11_21_11_11_10) tt)))))))) then absent then absent then absent then many.none then byte.it)))))))))))))
     (many.more (first (other (other (other (other (other (other (other (other (first (byte.it then (holds (textual {v = []} tt) ((other (other (other (other (other (first (met refl (shows (coded (lettered-coded relative (hex 0x1_11_11_11_11_11_21_11_11_10_61) tt)))))))))) then absent then present (shows (coded (textual {v = (hex 0x1_69_64)} tt))) then absent then many.none then byte.it)))))))))))))

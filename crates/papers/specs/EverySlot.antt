@@ -6,11 +6,13 @@ use lib.Dec.{leb→le, ltb→lt}
 use Rattle.meaning.specs.Told.{B, toldBy, tolerant}
 use Rattle.meaning.specs.Bytes.{textByte, textOk, turn, numberOk, lastDay, passes, dateOk, absolute, tooWide, oneByte, twoBytes, fourBytes}
 use Rattle.meaning.specs.Cases.{hex}
+use Rattle.meaning.specs.Kinds.{extensionOpens, baseOpens, standardRepresentation, ownRepresentation, dateAbsolute, receivedBy, receivedFrom, receivedId, receivedVia, toOpens, fromOpens, receiverOpens, agentName, addressesOpen, address, resolversOpen, extraKey, anyText, anyBytes, comments, payloadLength, payloadEncoding, encryptedOpens, encryptedItem, ownKey, ownValue, behaviourOpens}
 use Rattle.papers.specs.Notation.{Trees, end, tree, laid, _then_, first, other, absent, present, many, upTo, byte, these, met, shows, holds, opens, itself, coded}
 use Rattle.papers.specs.Values.{short}
 use Rattle.papers.specs.Papers.{of, Header}
 use Rattle.papers.specs.Texts.{textual, block-in, number-in}
 use Rattle.papers.specs.Dates.{plain-coded, lettered-coded}
+use Rattle.papers.specs.ExampleTexts.{may-date}
 
 abbrev whole-slots-extension : List ℕ
 whole-slots-extension =
@@ -28,57 +30,57 @@ whole-slots-base =
 
 abbrev whole-slots-trees : Trees
 whole-slots-trees =
-    tree 1 0 0 [] (
-    tree 8 0 3 (hex 0x1_62_79) (
-    tree 5 1 7 (hex 0x1_31_11_16_19_15_37_62_59_20_5a) end (
-    tree 9 1 18 (hex 0x1_66_72_6f_6d) end (
-    tree 10 1 24 (hex 0x1_69_64) end (
-    tree 11 1 28 (hex 0x1_76_69_61) end end)))) end) (
-    tree 2 0 34 [] (
-    tree 4 0 38 (hex 0x1_6f_77_6e) end (
-    tree 5 0 43 (hex 0x1_31_11_16_19_15_37_62_59_20) end (
-    tree 27 0 53 (hex 0x1_6b_65_79) (tree 28 0 57 (hex 0x1_76_61_6c_75_65) end end) (
-    tree 12 0 63 [] (
-    tree 15 1 65 (0x78 ∷ []) (
-    tree 16 1 67 [] (
-    tree 17 1 68 (0x75 ∷ []) end (
-    tree 17 1 70 (0x77 ∷ []) end end)) (
-    tree 18 1 73 [] (tree 15 2 75 (0x79 ∷ []) end end) (
-    tree 19 1 80 (0x6b ∷ []) (tree 20 1 83 (hex 0x1_76_0a) end end) (
-    tree 19 1 87 (0x6c ∷ []) (tree 21 1 91 (0xaa ∷ []) end end) end)))) (
-    tree 15 1 94 (0x7a ∷ []) end end)) (
-    tree 13 0 98 [] (
-    tree 15 1 100 (0x78 ∷ []) (
-    tree 16 1 102 [] (
-    tree 17 1 103 (0x75 ∷ []) end (
-    tree 17 1 105 (0x77 ∷ []) end end)) (
-    tree 18 1 108 [] (tree 15 2 110 (0x79 ∷ []) end end) (
-    tree 19 1 115 (0x6b ∷ []) (tree 20 1 118 (hex 0x1_76_0a) end end) (
-    tree 19 1 122 (0x6c ∷ []) (tree 21 1 126 (0xaa ∷ []) end end) end)))) end) (
-    tree 3 0 129 (0x10 ∷ []) end (
-    tree 3 0 131 (0x11 ∷ []) end (
-    tree 3 0 133 (0x12 ∷ []) end (
-    tree 4 0 136 (0x72 ∷ []) end (
-    tree 22 0 139 (hex 0x1_61_09_62_0d_0a_63) end (
-    tree 23 0 147 (hex 0x1_23_00) end (
-    tree 23 0 150 (0x80 ∷ []) end (
-    tree 24 0 152 (0x65 ∷ []) end (
-    tree 25 0 154 [] (
-    tree 26 0 155 (0x70 ∷ []) end (
-    tree 26 0 157 (0x71 ∷ []) end end)) (
-    tree 14 0 160 [] end (
-    tree 8 0 163 (hex 0x1_62_79) (tree 5 1 167 (hex 0x1_31_11_16_19_15_37_62_59_20) end end) (
-    tree 29 0 177 [] (tree 20 0 179 (hex 0x1_61_6e_79) end end) (
-    tree 29 0 183 [] (tree 21 0 186 (hex 0x1_00_ff) end end) (
-    tree 29 0 188 [] (tree 21 0 192 (0xbb ∷ []) end end) (
-    tree 29 0 193 [] (tree 21 0 199 (0xcc ∷ []) end end) end)))))))))))))))))))) end)
+    tree extensionOpens 0 0 [] (
+    tree receivedBy 0 3 (hex 0x1_62_79) (
+    tree dateAbsolute 1 7 (hex 0x1_31_11_16_19_15_37_62_59_20_5a) end (
+    tree receivedFrom 1 18 (hex 0x1_66_72_6f_6d) end (
+    tree receivedId 1 24 (hex 0x1_69_64) end (
+    tree receivedVia 1 28 (hex 0x1_76_69_61) end end)))) end) (
+    tree baseOpens 0 34 [] (
+    tree ownRepresentation 0 38 (hex 0x1_6f_77_6e) end (
+    tree dateAbsolute 0 43 may-date end (
+    tree ownKey 0 53 (hex 0x1_6b_65_79) (tree ownValue 0 57 (hex 0x1_76_61_6c_75_65) end end) (
+    tree toOpens 0 63 [] (
+    tree agentName 1 65 (0x78 ∷ []) (
+    tree addressesOpen 1 67 [] (
+    tree address 1 68 (0x75 ∷ []) end (
+    tree address 1 70 (0x77 ∷ []) end end)) (
+    tree resolversOpen 1 73 [] (tree agentName 2 75 (0x79 ∷ []) end end) (
+    tree extraKey 1 80 (0x6b ∷ []) (tree anyText 1 83 (hex 0x1_76_0a) end end) (
+    tree extraKey 1 87 (0x6c ∷ []) (tree anyBytes 1 91 (0xaa ∷ []) end end) end)))) (
+    tree agentName 1 94 (0x7a ∷ []) end end)) (
+    tree fromOpens 0 98 [] (
+    tree agentName 1 100 (0x78 ∷ []) (
+    tree addressesOpen 1 102 [] (
+    tree address 1 103 (0x75 ∷ []) end (
+    tree address 1 105 (0x77 ∷ []) end end)) (
+    tree resolversOpen 1 108 [] (tree agentName 2 110 (0x79 ∷ []) end end) (
+    tree extraKey 1 115 (0x6b ∷ []) (tree anyText 1 118 (hex 0x1_76_0a) end end) (
+    tree extraKey 1 122 (0x6c ∷ []) (tree anyBytes 1 126 (0xaa ∷ []) end end) end)))) end) (
+    tree standardRepresentation 0 129 (0x10 ∷ []) end (
+    tree standardRepresentation 0 131 (0x11 ∷ []) end (
+    tree standardRepresentation 0 133 (0x12 ∷ []) end (
+    tree ownRepresentation 0 136 (0x72 ∷ []) end (
+    tree comments 0 139 (hex 0x1_61_09_62_0d_0a_63) end (
+    tree payloadLength 0 147 (hex 0x1_23_00) end (
+    tree payloadLength 0 150 (0x80 ∷ []) end (
+    tree payloadEncoding 0 152 (0x65 ∷ []) end (
+    tree encryptedOpens 0 154 [] (
+    tree encryptedItem 0 155 (0x70 ∷ []) end (
+    tree encryptedItem 0 157 (0x71 ∷ []) end end)) (
+    tree receiverOpens 0 160 [] end (
+    tree receivedBy 0 163 (hex 0x1_62_79) (tree dateAbsolute 1 167 may-date end end) (
+    tree behaviourOpens 0 177 [] (tree anyText 0 179 (hex 0x1_61_6e_79) end end) (
+    tree behaviourOpens 0 183 [] (tree anyBytes 0 186 (hex 0x1_00_ff) end end) (
+    tree behaviourOpens 0 188 [] (tree anyBytes 0 192 (0xbb ∷ []) end end) (
+    tree behaviourOpens 0 193 [] (tree anyBytes 0 199 (0xcc ∷ []) end end) end)))))))))))))))))))) end)
 
 pub whole-slots-is : Header (toldBy tolerant B) 0 (whole-slots-extension ++ whole-slots-base) whole-slots-trees
 unfolding textOk textByte dateOk passes lastDay numberOk turn tooWide
 whole-slots-is =
     (upTo.more (of {bytes = whole-slots-extension} (leb→le 34 1048576 tt) ((byte.it then first (these (short (ltb→lt 34 65536 tt))) then (holds (textual {v = (hex 0x1_62_79)} tt) ((other (first (met refl (shows (coded (lettered-coded absolute (hex 0x1_31_11_16_19_15_37_62_59_20_5a) tt)))))) then present (shows (coded (textual {v = (hex 0x1_66_72_6f_6d)} tt))) then present (shows (coded (textual {v = (hex 0x1_69_64)} tt))) then present (shows (coded (textual {v = (hex 0x1_76_69_61)} tt))) then many.none then byte.it))) then
     many.none then byte.it)) (upTo.none)) then
-    of {bytes = whole-slots-base} (leb→le 167 1048576 tt) ((byte.it then first (these (short (ltb→lt 167 65536 tt))) then (first (shows (coded (textual {v = (hex 0x1_6f_77_6e)} tt)))) then (first (shows (coded (plain-coded absolute (hex 0x1_31_11_16_19_15_37_62_59_20) tt))))) then
+    of {bytes = whole-slots-base} (leb→le 167 1048576 tt) ((byte.it then first (these (short (ltb→lt 167 65536 tt))) then (first (shows (coded (textual {v = (hex 0x1_6f_77_6e)} tt)))) then (first (shows (coded (plain-coded absolute may-date tt))))) then
     (many.more (other (holds (coded (textual {v = (hex 0x1_6b_65_79)} tt)) (shows (textual {v = (hex 0x1_76_61_6c_75_65)} tt))))
     (many.more (first (first (holds opens.it ((many.more (holds (coded (textual {v = (0x78 ∷ [])} tt)) (present (holds opens.it ((many.more (shows (textual {v = (0x75 ∷ [])} tt)) (many.more (shows (textual {v = (0x77 ∷ [])} tt)) many.none)) then byte.it)) then present (holds opens.it ((many.more (holds (coded (textual {v = (0x79 ∷ [])} tt)) (absent then absent then many.none then byte.it)) many.none) then byte.it)) then (many.more (first (met refl (holds (coded (textual {v = (0x6b ∷ [])} tt)) (first (shows (coded (textual {v = (hex 0x1_76_0a)} tt))))))) (many.more (first (met refl (holds (coded (textual {v = (0x6c ∷ [])} tt)) (other (first (shows (coded (block-in (toldBy tolerant B) oneByte (0xaa ∷ []) tt)))))))) many.none)) then byte.it)) (many.more (holds (coded (textual {v = (0x7a ∷ [])} tt)) (absent then absent then many.none then byte.it)) many.none)) then byte.it))))
     (many.more (first (other (first (holds opens.it (holds (coded (textual {v = (0x78 ∷ [])} tt)) (present (holds opens.it ((many.more (shows (textual {v = (0x75 ∷ [])} tt)) (many.more (shows (textual {v = (0x77 ∷ [])} tt)) many.none)) then byte.it)) then present (holds opens.it ((many.more (holds (coded (textual {v = (0x79 ∷ [])} tt)) (absent then absent then many.none then byte.it)) many.none) then byte.it)) then (many.more (first (met refl (holds (coded (textual {v = (0x6b ∷ [])} tt)) (first (shows (coded (textual {v = (hex 0x1_76_0a)} tt))))))) (many.more (first (met refl (holds (coded (textual {v = (0x6c ∷ [])} tt)) (other (first (shows (coded (block-in (toldBy tolerant B) oneByte (0xaa ∷ []) tt)))))))) many.none)) then byte.it))))))
@@ -92,7 +94,7 @@ whole-slots-is =
     (many.more (first (other (other (other (other (other (first (shows (coded (textual {v = (0x65 ∷ [])} tt))))))))))
     (many.more (first (other (other (other (other (other (other (first (met refl (holds opens.it ((many.more (shows (textual {v = (0x70 ∷ [])} tt)) (many.more (shows (textual {v = (0x71 ∷ [])} tt)) many.none)) then byte.it)))))))))))
     (many.more (first (other (other (other (other (other (other (other (first (holds opens.it (many.none then byte.it)))))))))))
-    (many.more (first (other (other (other (other (other (other (other (other (first (byte.it then (holds (textual {v = (hex 0x1_62_79)} tt) ((first (shows (coded (plain-coded absolute (hex 0x1_31_11_16_19_15_37_62_59_20) tt)))) then absent then absent then absent then many.none then byte.it)))))))))))))
+    (many.more (first (other (other (other (other (other (other (other (other (first (byte.it then (holds (textual {v = (hex 0x1_62_79)} tt) ((first (shows (coded (plain-coded absolute may-date tt)))) then absent then absent then absent then many.none then byte.it)))))))))))))
     (many.more (first (other (other (other (other (other (other (other (other (other (holds opens.it (first (shows (coded (textual {v = (hex 0x1_61_6e_79)} tt)))))))))))))))
     (many.more (first (other (other (other (other (other (other (other (other (other (holds opens.it (other (first (shows (coded (block-in (toldBy tolerant B) oneByte (hex 0x1_00_ff) tt))))))))))))))))
     (many.more (first (other (other (other (other (other (other (other (other (other (holds opens.it (other (other (first (shows (coded (block-in (toldBy tolerant B) twoBytes (0xbb ∷ []) tt)))))))))))))))))

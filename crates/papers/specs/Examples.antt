@@ -7,6 +7,8 @@ use lib.Dec.{leb→le, ltb→lt}
 use Rattle.meaning.specs.Told.{Edition, D, told}
 use Rattle.meaning.specs.Bytes.{Rule, absolute, lastDay}
 use Rattle.meaning.specs.Cases.{hex}
+use Rattle.meaning.specs.Kinds.{baseOpens, standardRepresentation, dateAbsolute, fromOpens, agentName, addressesOpen, address, resolversOpen}
+use Rattle.papers.specs.ExampleTexts.{may-date}
 use Rattle.papers.specs.Notation.{Trees, end, tree, laid, _then_, first, other, absent, present, many, upTo, byte, these, shows, holds, coded, opens, itself}
 use Rattle.papers.specs.Values.{plain, empty, character, NullTerminatedString, string, BinDate, inTime, short, BinNumber, binNumber, digit, another, odd, even}
 use Rattle.papers.specs.Papers.{of, any, AgentIdentifier, MessageEnvelope}
@@ -16,16 +18,13 @@ use Rattle.papers.specs.Values
 abbrev M : List ℕ
 M = hex 0x1_fe_00_0f_12_20_31_11_16_19_15_37_62_59_20_01
 
-abbrev aDate : List ℕ
-aDate = hex 0x1_31_11_16_19_15_37_62_59_20
-
 -- 8 May 2000, 04:26:51.481
-the-date : BinDate absolute aDate 0 aDate
+pub the-date : BinDate absolute may-date 0 may-date
 unfolding lastDay
 the-date = inTime 2000 5 8 4 26 51 481 (omega arith) (omega arith) (omega arith) (omega arith) (omega arith) (omega arith) (omega arith) (omega arith) (omega arith)
 
 abbrev M-trees : Trees
-M-trees = tree 2 0 0 [] (tree 3 0 3 (0x12 ∷ []) end (tree 5 0 5 aDate end end)) end
+M-trees = tree baseOpens 0 0 [] (tree standardRepresentation 0 3 (0x12 ∷ []) end (tree dateAbsolute 0 5 may-date end end)) end
 
 pub M-is : (e : Edition) → MessageEnvelope (told e) 0 M M-trees
 M-is e =
@@ -44,7 +43,7 @@ abbrev listed : List ℕ
 listed = hex 0x1_fe_00_14_12_20_31_11_16_19_15_37_62_59_20_03_02_61_00_01_01
 
 abbrev listed-trees : Trees
-listed-trees = tree 2 0 0 [] (tree 3 0 3 (0x12 ∷ []) end (tree 5 0 5 aDate end (tree 13 0 14 [] (tree 15 1 16 (0x61 ∷ []) end end) end))) end
+listed-trees = tree baseOpens 0 0 [] (tree standardRepresentation 0 3 (0x12 ∷ []) end (tree dateAbsolute 0 5 may-date end (tree fromOpens 0 14 [] (tree agentName 1 16 (0x61 ∷ []) end end) end))) end
 
 pub listed-is : MessageEnvelope (told D) 0 (listed ++ (0x28 ∷ [])) listed-trees
 listed-is =
@@ -58,7 +57,7 @@ listed-laid = refl
 
 -- an agent `a` with an address `b` and a resolver `c`: 02 61 00 02 62 00 01 03 02 63 00 01 01 01
 abbrev agent-trees : Trees
-agent-trees = tree 15 1 1 (0x61 ∷ []) (tree 16 1 3 [] (tree 17 1 4 (0x62 ∷ []) end end) (tree 18 1 7 [] (tree 15 2 9 (0x63 ∷ []) end end) end)) end
+agent-trees = tree agentName 1 1 (0x61 ∷ []) (tree addressesOpen 1 3 [] (tree address 1 4 (0x62 ∷ []) end end) (tree resolversOpen 1 7 [] (tree agentName 2 9 (0x63 ∷ []) end end) end)) end
 
 pub agent-is : (e : Edition) → AgentIdentifier (told e) 8 1 0 (hex 0x1_02_61_00_02_62_00_01_03_02_63_00_01_01_01) agent-trees
 agent-is e =

@@ -6,6 +6,7 @@ pub mod Page
 -- The reader's tests of values, and instances, derived.
 pub mod Texts
 pub mod Dates
+pub mod ExampleTexts
 pub mod Examples
 pub mod Simple
 pub mod Aspects

@@ -6,10 +6,10 @@ use mathlib.Core.Logic.{_↔_}
 use mathlib.Core.Path.{_≡_, refl, ap, sym, _∙_, subst}
 use lib.Dec.{T}
 use lib.ListN.{length}
-use Rattle.meaning.specs.Told.{Edition, known, labelOf, Strictness, told, toldBy}
+use Rattle.meaning.specs.Told.{Edition, known, labelOf, Strictness, strict, told, toldBy}
 use Rattle.meaning.specs.Headers.{Placed, accepted, header, envelopesMost, readBy}
 use Rattle.meaning.specs.Memory.{tableOf}
-use Rattle.meaning.specs.Grammar.{TableOf}
+use Rattle.meaning.specs.Grammar.{TableOf, HeaderOf}
 use Rattle.laws.specs.Logic.{areBytes}
 use Rattle.laws.specs.Ties.{accepted-known, read-as, from-zero}
 use Rattle.papers.specs.Notation.{Trees, end, tree, _⊕_, flat, laid, _then_}
@@ -76,6 +76,17 @@ accepts-messages strictness edition input place rows u = (
         let t = toldBy strictness (m .e) in
         read-as strictness edition (m .e) input (m .label) ∙ ap (header envelopesMost t 0) (m .parts) ∙ envelopes-read t (papers-in t 0 (m .bytes) trees (m .is)) (m .payload)
         ∙ ap (λ (x : ℕ). accepted x (flat trees)) (from-zero (length (m .bytes)) ∙ sym (m .ends))
+
+-- for the strict reading it is what `Grammar` calls a header of the input, bytes or not; so what Faults and WriterFaults say over that is said over the papers
+pub header-is-message : (edition : ℕ) (input : List ℕ) (place : ℕ) (rows : List Placed) → HeaderOf edition input place rows ↔ ((trees : Trees) × Message strict edition input place trees × (flat trees ≡ rows))
+header-is-message edition input place rows = (
+  (λ h.
+      let (ts, x, laid) = same (h .e) (h .bytes) rows .0 (h .table) in
+      (ts, record { e = h .e; label = h .label; bytes = h .bytes; payload = h .payload; parts = h .parts; ends = h .ends; is = x }, laid)),
+  λ w.
+      let m = w .1 in
+      record { e = m .e; label = m .label; bytes = m .bytes; payload = m .payload; parts = m .parts; ends = m .ends; table = same (m .e) (m .bytes) rows .1 (w .0, m .is, w .2) },
+)
 
 -- its rows in memory are the tree laid flat, with the tree's skip numbers
 pub message-laid : {strictness : Strictness} {edition : ℕ} {input : List ℕ} {place : ℕ} {trees : Trees} → Message strictness edition input place trees → tableOf (flat trees) ≡ laid 0 trees
