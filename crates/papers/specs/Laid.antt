@@ -7,8 +7,8 @@ use lib.ListN.{length}
 use Rattle.meaning.specs.Told.{Told}
 use Rattle.meaning.specs.Skips.{Rank, rank, belonging, skipOf}
 use Rattle.meaning.specs.Headers.{Placed}
-use Rattle.meaning.specs.Memory.{Numbers, row, rankOf, numbersIn, rowsFrom, numbersOf, tableOf}
-use Rattle.papers.specs.Notation.{Trees, end, tree, flat, size, laid}
+use Rattle.meaning.specs.Memory.{skipsOf, Numbers, row, rankOf, numbersIn, rowsFrom, numbersOf, tableOf}
+use Rattle.papers.specs.Notation.{Trees, end, tree, flat, size, skipNumbers, laid}
 use Rattle.papers.specs.Papers.{Header}
 use Rattle.papers.specs.TreeSkips.{ranks, Nested, belonging-is, size-is}
 use Rattle.papers.specs.Nested.{header-nested}
@@ -62,3 +62,18 @@ laid-flat t at bytes ts h =
 -- where its rows stand
 pub ranks-flat : (ts : Trees) → map rankOf (map numbersOf (flat ts)) ≡ ranks ts
 ranks-flat ts = ap (map rankOf) (numbers-flat ts) ∙ ranks-numbers ts
+
+-- the fifth numbers of trees laid flat are their skip numbers
+laid-then : (i : ℕ) (ts : Trees) (more : List ℕ) → skipsOf (laid i ts ++ more) ≡ skipNumbers i ts ++ skipsOf more
+unfolding skipsOf
+laid-then i end more = refl
+laid-then i (tree k n s v inside beside) more =
+    let j = suc i + size inside in
+    let rest : skipsOf ((laid (suc i) inside ++ laid j beside) ++ more) ≡ (skipNumbers (suc i) inside ++ skipNumbers j beside) ++ skipsOf more
+    = ap skipsOf (append-assoc (laid (suc i) inside) (laid j beside) more) ∙ laid-then (suc i) inside (laid j beside ++ more) ∙ ap (λ (l : List ℕ). skipNumbers (suc i) inside ++ l) (laid-then j beside more)
+    ∙ sym (append-assoc (skipNumbers (suc i) inside) (skipNumbers j beside) (skipsOf more)) in
+    ap (λ (l : List ℕ). j ∷ l) rest
+
+pub laid-skips : (i : ℕ) (ts : Trees) → skipsOf (laid i ts) ≡ skipNumbers i ts
+unfolding skipsOf
+laid-skips i ts = ap skipsOf (sym (append-nil (laid i ts))) ∙ laid-then i ts [] ∙ append-nil (skipNumbers i ts)

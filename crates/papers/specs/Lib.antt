@@ -40,7 +40,8 @@ pub mod OneTree
 -- The theorems of reading and writing.
 pub mod Same
 pub mod WritesTrees
--- Orders 7, 6 and 1, read off the trees.
+-- Order 9 over both papers; orders 7, 6 and 1, read off the trees.
+pub mod BothPapers
 pub mod Holding
 pub mod Held
 pub mod OrderSeven

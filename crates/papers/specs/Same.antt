@@ -56,12 +56,19 @@ pub envelope-message : (strictness : Strictness) (edition : ℕ) (e : Edition) (
 envelope-message strictness edition e _ _ label (_then_ {a = a} {b = b} {ts = ts} x any) =
     (length a, record { e = e; label = label; bytes = a; payload = b; parts = refl; ends = refl; is = subst (λ (us : Trees). Header (toldBy strictness e) 0 a us) (sym (nothing-after ts)) x })
 
+-- the reader accepts it, with the rows of its trees
+pub message-read : {strictness : Strictness} {edition : ℕ} {input : List ℕ} {place : ℕ} {trees : Trees} → Message strictness edition input place trees → readBy strictness edition input ≡ accepted place (flat trees)
+message-read {strictness} {edition} {input} {place} {trees} m =
+    let t = toldBy strictness (m .e) in
+    read-as strictness edition (m .e) input (m .label) ∙ ap (header envelopesMost t 0) (m .parts) ∙ envelopes-read t (papers-in t 0 (m .bytes) trees (m .is)) (m .payload)
+    ∙ ap (λ (x : ℕ). accepted x (flat trees)) (from-zero (length (m .bytes)) ∙ sym (m .ends))
+
 -- THE tie: the reader accepts exactly these, with the rows of their trees
 pub accepts-messages : (strictness : Strictness) (edition : ℕ) (input : List ℕ) (place : ℕ) (rows : List Placed) → T (areBytes input)
     → (readBy strictness edition input ≡ accepted place rows) ↔ ((trees : Trees) × Message strictness edition input place trees × (flat trees ≡ rows))
 accepts-messages strictness edition input place rows u = (
   (λ q. found (accepted-known strictness edition input place rows q)),
-  λ w. subst (λ (l : List Placed). readBy strictness edition input ≡ accepted place l) (w .2) (reads (w .0) (w .1)),
+  λ w. subst (λ (l : List Placed). readBy strictness edition input ≡ accepted place l) (w .2) (message-read (w .1)),
 )
   where
     found : (e : Edition) × (labelOf edition ≡ known e) × (header envelopesMost (toldBy strictness e) 0 input ≡ accepted place rows) → (trees : Trees) × Message strictness edition input place trees × (flat trees ≡ rows)
@@ -70,12 +77,6 @@ accepts-messages strictness edition input place rows u = (
         let f : HeaderBack.Found 16 t 0 input place rows = subst (HeaderBack.Again 16 t 0 input) q (header-found 16 t 0 input u) in
         let (ts, x, same) = header-out t (f .envelopes) in
         (ts, record { e = e; label = label; bytes = f .bytes; payload = f .payload; parts = f .parts; ends = f .place ∙ from-zero (length (f .bytes)); is = x }, same)
-
-    reads : (trees : Trees) → Message strictness edition input place trees → readBy strictness edition input ≡ accepted place (flat trees)
-    reads trees m =
-        let t = toldBy strictness (m .e) in
-        read-as strictness edition (m .e) input (m .label) ∙ ap (header envelopesMost t 0) (m .parts) ∙ envelopes-read t (papers-in t 0 (m .bytes) trees (m .is)) (m .payload)
-        ∙ ap (λ (x : ℕ). accepted x (flat trees)) (from-zero (length (m .bytes)) ∙ sym (m .ends))
 
 -- for the strict reading it is what `Grammar` calls a header of the input, bytes or not; so what Faults and WriterFaults say over that is said over the papers
 pub header-is-message : (edition : ℕ) (input : List ℕ) (place : ℕ) (rows : List Placed) → HeaderOf edition input place rows ↔ ((trees : Trees) × Message strict edition input place trees × (flat trees ≡ rows))
