@@ -2,13 +2,17 @@
 -- papers, and what is written exactly the rows of one. That the input holds bytes, the promise of a call says, as in `Calls`.
 use Prim.Native.Nat.{ℕ, _≤_}
 use mathlib.Core.List.{List}
+use mathlib.Core.Bool.{Bool}
 use mathlib.Core.Logic.{_↔_}
 use mathlib.Core.Path.{_≡_, refl, ap, sym, _∙_, subst}
 use native.Mathlib.Omega.{arith}
 use lib.ListN.{length}
+use borrow.Author.Tests.{eq-eqb}
+use Rattle.meaning.specs.Basics.{pick}
 use Rattle.meaning.specs.Told.{Strictness, strict, tolerant, toldBy}
 use Rattle.meaning.specs.Headers.{Placed, accepted, readBy}
-use Rattle.meaning.specs.Memory.{roomWith, laidOver}
+use Rattle.meaning.specs.Memory.{readReply, roomWith, laidOver}
+use Rattle.meaning.specs.Which.{Sorted, editionsOf, readEither, whichAnswer}
 use Rattle.papers.specs.Notation.{Trees, flat, size, laid}
 use Rattle.papers.specs.OneTree.{flat-size}
 use Rattle.papers.specs.Same.{Message, accepts-messages, message-laid}
@@ -19,7 +23,10 @@ use Rattle.papers.specs.PresentTrees.{PresentIn, present-in-trees}
 use Rattle.table.specs.declared.reply.Reply as declared
 use Rattle.reader.specs.Promises.{ReadsBy, ReadPromise, TolerantPromise}
 use Rattle.writer.specs.Promise.{WritePromise}
+use Rattle.papers.specs.BothPapers.{AllowedAs, editions-are-papers}
 use Rattle.present.specs.Promise.{PresentPromise}
+use Rattle.which.specs.declared.Sorted as which
+use Rattle.which.specs.Promise.{WhichPromise}
 use Rattle.certificate.specs.Present.{present-by-procedure, well}
 use Rattle.certificate.specs.Calls.{had-room}
 use Rattle.certificate.specs.Lent.{Filled, Laid, accepted-call, fills, written-call, lays}
@@ -88,3 +95,13 @@ module _ {edition : ℕ} {rows pool before after : List ℕ} {a : declared.Reply
 
 pub call-present-in-trees : {edition : ℕ} {rows pool : List ℕ} {code : ℕ} {a : declared.Reply} → PresentPromise edition rows pool code a → a .answer ≡ 0 → PresentIn edition rows pool code (a .place)
 call-present-in-trees {edition} {rows} {pool} {code} p z = subst (PresentIn edition rows pool code) (sym (present-by-procedure p z .0)) (present-in-trees edition rows pool code (well p z))
+
+-- `gamulisyan_which`: an answer of 0 names the editions whose papers allow the input, and no others
+
+pub call-which-papers : {input before words after words′ : List ℕ} {a : which.Sorted} → WhichPromise input before words a after words′ → a .answer ≡ 0 → AllowedAs input (a .editions)
+unfolding whichAnswer
+call-which-papers {input} {before} {words} {a = a} p z =
+    let reply = readReply (roomWith before words) (readEither input) in
+    let zero : reply .answer ≡ 0 = sym (ap (λ (s : Sorted). s .reply .answer) (p .answers)) ∙ z in
+    let named : a .editions ≡ editionsOf input = ap (λ (s : Sorted). s .editions) (p .answers) ∙ ap (λ (b : Bool). pick b (editionsOf input) 0) (eq-eqb (reply .answer) 0 zero) in
+    subst (AllowedAs input) (sym named) (editions-are-papers input (p .bytes))

@@ -19,6 +19,10 @@ use Rattle.papers.specs.Same.{Message, message-read, accepts-messages}
 abbrev pub AllowedBy : ℕ → List ℕ → Type 0
 AllowedBy edition input = (place : ℕ) × (trees : Trees) × Message strict edition input place trees
 
+-- .. and so these editions do: 1, 2, or 3 for both
+abbrev pub AllowedAs : List ℕ → ℕ → Type 0
+AllowedAs input n = (((n ≡ 1) ⊎ (n ≡ 3)) ↔ AllowedBy 1 input) × (((n ≡ 2) ⊎ (n ≡ 3)) ↔ AllowedBy 2 input)
+
 -- "no bytes are allowed by both with different tables"
 pub one-tree-in-both : (input : List ℕ) (p q : ℕ) (ts us : Trees) → T (areBytes input) → Message strict 1 input p ts → Message strict 2 input q us → (p ≡ q) × (ts ≡ us)
 one-tree-in-both input p q ts us bytes m n =
@@ -41,15 +45,12 @@ module _ (input : List ℕ) (bytes : T (areBytes input)) where
   barred : (edition refusal place : ℕ) → read edition input ≡ refused refusal place → AllowedBy edition input → ⊥
   barred edition refusal place q (end, trees, m) = never-both (sym q ∙ message-read m)
 
-  abbrev pub AllowedAs : ℕ → Type 0
-  AllowedAs n = (((n ≡ 1) ⊎ (n ≡ 3)) ↔ AllowedBy 1 input) × (((n ≡ 2) ⊎ (n ≡ 3)) ↔ AllowedBy 2 input)
-
   -- "the editions that allow the bytes: 1, 2, or 3 for both"
-  pub editions-are-papers : AllowedAs (editionsOf input)
+  pub editions-are-papers : AllowedAs input (editionsOf input)
   unfolding editionsOf
   editions-are-papers = by (read 1 input) (read 2 input) refl refl
     where
-      by : (a b : Answer) → read 1 input ≡ a → read 2 input ≡ b → AllowedAs (allowing a b)
+      by : (a b : Answer) → read 1 input ≡ a → read 2 input ≡ b → AllowedAs input (allowing a b)
       by (refused refusal place) (refused other there) p q =
           ((λ x. absurd (not-these 0 1 3 (λ e. omega arith) (λ e. omega arith) x), λ w. absurd (barred 1 refusal place p w)), (λ x. absurd (not-these 0 2 3 (λ e. omega arith) (λ e. omega arith) x), λ w. absurd (barred 2 other there q w)))
       by (accepted place rs) (refused other there) p q = ((λ x. allowed 1 place rs p, λ w. inl refl), (λ x. absurd (not-these 1 2 3 (λ e. omega arith) (λ e. omega arith) x), λ w. absurd (barred 2 other there q w)))
