@@ -5,10 +5,10 @@ use mathlib.Core.List.{List, [], _∷_, _++_}
 use mathlib.Core.Path.{_≡_, refl}
 use lib.ListN.{length}
 use Rattle.meaning.specs.Told.{B, D, strict, Told}
-use Rattle.meaning.specs.Bytes.{Rule, line, note, absolute, relative}
+use Rattle.meaning.specs.Bytes.{Rule, line, note, absolute, relative, lastDay}
 use Rattle.meaning.specs.Kinds.{extensionOpens, baseOpens, standardRepresentation, ownRepresentation, dateAbsolute, dateForward, dateBackward, receivedBy, receivedFrom, receivedId, receivedVia, toOpens, fromOpens, receiverOpens, agentName, addressesOpen, address, resolversOpen, extraKey, anyText, anyBytes, comments, payloadLength, payloadEncoding, encryptedOpens, encryptedItem, ownKey, ownValue, behaviourOpens}
 use Rattle.papers.specs.Notation.{end, Syntax, _⨾_, _∣_, optional, many, upTo, byte, unseen, when, only, leaf, node, opens, itself, _⊳_}
-use Rattle.papers.specs.Values.{TypeDesignator, capital, small, CodedNumber, padded, TextByte, String, character, short, long, string, both, binNumber, Millisecond, Second, Minute, Hour, Day, Month, Year, Len32, Len16, Len8, dateBytes, BinDate, designated, NullTerminatedString, Decimal, Digits, BinNumber}
+use Rattle.papers.specs.Values.{TypeDesignator, capital, small, CodedNumber, padded, TextByte, String, character, short, long, string, both, binNumber, Millisecond, Second, Minute, Hour, Day, Month, Year, Len32, Len16, Len8, dateBytes, BinDate, inTime, span, designated, NullTerminatedString, Decimal, Digits, BinNumber}
 use Rattle.papers.specs.Papers.{any, counted, EmptyLen16, EndOfCollection, KeyWord, URL, AgentName, PayloadEncoding, Comments, PayloadLength, Payload, EndOfEnvelope, ExtMsgId, BaseMsgId, JumboEnvelope, EnvLen, envelope, ByteSequence, ByteLenEncoded, Any, TransportBehaviour, UserDefinedACLRepresentation, ACLRepresentation, BinDateTimeToken, Date, StringSequence, Encrypted, UrlSequence, UserDefinedParameter, AgentIdentifierSequence, Resolvers, Addresses, AgentIdentifier, agent, IntendedReceiver, Via, Id, From, By, ReceivedObject, UserDefinedSlot, PredefinedParameter, PredefinedSlot, Parameter, Slot, ExtEnvelopeHeader, BaseEnvelopeHeader, ExtEnvelope, BaseEnvelope, MessageEnvelope}
 use Rattle.papers.specs.Values
 
@@ -64,10 +64,6 @@ module _ (t : Told) where
   -- 004: 118
   Slot-is : Slot t ≡ (PredefinedSlot t ∣ UserDefinedSlot t)
   Slot-is = refl
-
-  -- .. so B's is D's
-  Slot-is-Parameter : Slot t ≡ Parameter t
-  Slot-is-Parameter = refl
 
   -- 002: 121; 004: 121, PredefinedSlot
   PredefinedParameter-is : PredefinedParameter t ≡ (
@@ -227,6 +223,13 @@ module _ (t : Told) where
   -- 002: 215; 004: 213
   BinDate-is : (y m d h i s ms : ℕ) → dateBytes y m d h i s ms ≡ Year y ++ (Month m ++ (Day d ++ (Hour h ++ (Minute i ++ (Second s ++ Millisecond ms)))))
   BinDate-is y m d h i s ms = refl
+
+  -- .. in time, with the days of its month, and a span of time
+  BinDate-in-time : (y m d h i s ms : ℕ) → y ≤ 9999 → 1 ≤ m → m ≤ 12 → 1 ≤ d → d ≤ lastDay y m → h ≤ 23 → i ≤ 59 → s ≤ 59 → ms ≤ 999 → BinDate absolute (dateBytes y m d h i s ms) 0 (dateBytes y m d h i s ms)
+  BinDate-in-time = inTime
+
+  BinDate-span : (y m d h i s ms : ℕ) → y ≤ 9999 → m ≤ 99 → d ≤ 99 → h ≤ 99 → i ≤ 99 → s ≤ 99 → ms ≤ 999 → BinDate relative (dateBytes y m d h i s ms) 0 (dateBytes y m d h i s ms)
+  BinDate-span = span
 
   -- 002: 218; 004: 215
   EndOfCollection-is : EndOfCollection ≡ byte 0x01
