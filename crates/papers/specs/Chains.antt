@@ -1,7 +1,7 @@
 -- The papers' rules and the reader's moves, the other way: a run of moves is cut into the papers' rules.
 -- From each room a piece of a rule is left (`rest`), and behind it the run stands where that rule was begun (`follow`): a run is a chain of such pieces.
 use Prim.Native.Nat.{ℕ, zero, suc, _+_, _-_, _≤_}
-use mathlib.Core.List.{List, [], _∷_, _++_, append-assoc}
+use mathlib.Core.List.{List, [], _∷_, _++_, append-assoc, append-nil}
 use mathlib.Core.Bool.{Bool, true, false, _&&_, false≢true}
 use mathlib.Core.Path.{_≡_, refl, ap, sym, _∙_, subst}
 use native.Mathlib.Omega.{arith}
@@ -16,11 +16,11 @@ use Rattle.meaning.specs.Editions.{Room, receivedBegins, headRepresentation, he
 use Rattle.meaning.specs.Reading.{isClosed, levelMost}
 use Rattle.meaning.specs.Headers.{Placed, placedRow}
 use Rattle.meaning.specs.Grammar.{standing, startIn}
-use Rattle.papers.specs.Notation.{Trees, flat, Syntax, _⨾_, _then_, optional, many, only, leaf}
+use Rattle.papers.specs.Notation.{Trees, end, tree, _⊕_, flat, Syntax, _⨾_, _then_, optional, many, only, leaf}
 use Rattle.laws.specs.Values.{allowed}
 use Rattle.papers.specs.Values.{NullTerminatedString}
 use Rattle.papers.specs.Papers.{Any, UserDefinedParameter, UrlSequence, Addresses, AgentIdentifier, AgentIdentifierSequence, Resolvers, EndOfCollection, ReceivedObject, ACLRepresentation, Date, Parameter, StringSequence}
-use Rattle.papers.specs.Walks.{and-false}
+use Rattle.papers.specs.Walks.{flat-⊕, and-false}
 use Rattle.papers.specs.Walked.{AfterDate, AfterFrom, AfterId}
 
 -- where a run stands behind that
@@ -198,5 +198,68 @@ module _ (t : Told) where
   abbrev pub Silent : State → Move → Type 0
   Silent st m = (at : ℕ) (b : List ℕ) (rows : List Placed) → Chain (go (m .next) st) (at + 1) b rows → Chain st at (m .code ∷ b) rows
 
-  abbrev pub Back : State → Move → Type 0
-  Back st m = Fine (go (m .next) st) × (isQuiet (m .form) ≡ false → Loud st m) × (isQuiet (m .form) ≡ true → Silent st m)
+  -- what is to be shown of each move of a room
+  pub record Back (st : State) (m : Move) : Type 0 where
+    pub fine : Fine (go (m .next) st)
+    pub loud : isQuiet (m .form) ≡ false → Loud st m
+    pub silent : isQuiet (m .form) ≡ true → Silent st m
+
+  module _ {st : State} {m : Move} where
+    -- its row is all that was left of the rule
+    pub row-alone : Fine (go (m .next) st) → isQuiet (m .form) ≡ false → follow st ≡ go (m .next) st
+        → ((at : ℕ) (v : List ℕ) → T (allowed t (m .form) (m .code) v) → rest st at (standing m v) (tree (m .kind) (st .level) (at + startIn m) v end end)) → Back st m
+    row-alone fine row leads made =
+        record {
+          fine = fine;
+          loud = λ q at v b rows ok deep c. all-that st at (standing m v) (placedRow (m .kind) (st .level) (at + startIn m) v ∷ []) (tree (m .kind) (st .level) (at + startIn m) v end end) (made at v ok) refl (re-start (sym leads) c);
+          silent = λ q. no-pass (sym row ∙ q);
+        }
+
+    -- .. or stands before what is left behind it
+    pub row-before : Fine (go (m .next) st) → isQuiet (m .form) ≡ false → isClosed (go (m .next) st .room) ≡ false → follow (go (m .next) st) ≡ follow st
+        → ((at : ℕ) (v : List ℕ) → T (allowed t (m .form) (m .code) v) → (b : List ℕ) (us : Trees) → rest (go (m .next) st) (at + length (standing m v)) b us → rest st at (standing m v ++ b) (tree (m .kind) (st .level) (at + startIn m) v end us)) → Back st m
+    row-before fine row ajar same made =
+        record {
+          fine = fine;
+          loud = λ q at v b rows ok deep c. one-more st at (standing m v) (placedRow (m .kind) (st .level) (at + startIn m) v ∷ []) (go (m .next) st) ajar same (λ b us y. (tree (m .kind) (st .level) (at + startIn m) v end us, made at v ok b us y, refl)) c;
+          silent = λ q. no-pass (sym row ∙ q);
+        }
+
+    -- .. or holds it
+    pub row-around : Fine (go (m .next) st) → isQuiet (m .form) ≡ false → isClosed (go (m .next) st .room) ≡ false → follow (go (m .next) st) ≡ follow st
+        → ((at : ℕ) (v : List ℕ) → T (allowed t (m .form) (m .code) v) → (m .kind ≡ agentName → st .level ≤ levelMost) → (b : List ℕ) (us : Trees) → rest (go (m .next) st) (at + length (standing m v)) b us
+        → rest st at (standing m v ++ b) (tree (m .kind) (st .level) (at + startIn m) v us end)) → Back st m
+    row-around fine row ajar same made =
+        record {
+          fine = fine;
+          loud = λ q at v b rows ok deep c. one-more st at (standing m v) (placedRow (m .kind) (st .level) (at + startIn m) v ∷ []) (go (m .next) st) ajar same
+              (λ b us y. (tree (m .kind) (st .level) (at + startIn m) v us end, made at v ok deep b us y, ap (λ (l : List Placed). placedRow (m .kind) (st .level) (at + startIn m) v ∷ l) (append-nil (flat us)))) c;
+          silent = λ q. no-pass (sym row ∙ q);
+        }
+
+    -- .. or holds a piece, and what is left stands beside it
+    pub row-beside : (st₂ : State) → Fine (go (m .next) st) → isQuiet (m .form) ≡ false → isClosed (go (m .next) st .room) ≡ false → isClosed (st₂ .room) ≡ false → follow (go (m .next) st) ≡ st₂ → follow st₂ ≡ follow st
+        → ((at : ℕ) (v : List ℕ) → T (allowed t (m .form) (m .code) v) → (m .kind ≡ agentName → st .level ≤ levelMost) → (b c : List ℕ) (us vs : Trees) → rest (go (m .next) st) (at + length (standing m v)) b us
+        → rest st₂ (at + length (standing m v) + length b) c vs → rest st at (standing m v ++ (b ++ c)) (tree (m .kind) (st .level) (at + startIn m) v us vs)) → Back st m
+    row-beside st₂ fine row ajar ajar₂ leads same made =
+        record {
+          fine = fine;
+          loud = λ q at v b rows ok deep c. two-more st at (standing m v) (placedRow (m .kind) (st .level) (at + startIn m) v ∷ []) (go (m .next) st) st₂ ajar ajar₂ leads same
+              (λ b c us vs y z. (tree (m .kind) (st .level) (at + startIn m) v us vs, made at v ok deep b c us vs y z, refl)) c;
+          silent = λ q. no-pass (sym row ∙ q);
+        }
+
+    -- a byte without a row, that ends the rule
+    pub pass-alone : Fine (go (m .next) st) → isQuiet (m .form) ≡ true → follow st ≡ go (m .next) st → ((at : ℕ) → rest st at (m .code ∷ []) end) → Back st m
+    pass-alone fine quiet leads made =
+        record { fine = fine; loud = λ q. no-pass (sym q ∙ quiet); silent = λ q at b rows c. all-that st at (m .code ∷ []) [] end (made at) refl (re-start (sym leads) c) }
+
+    -- .. or stands before a piece, and what is left behind that
+    pub pass-before : (st₂ : State) → Fine (go (m .next) st) → isQuiet (m .form) ≡ true → isClosed (go (m .next) st .room) ≡ false → isClosed (st₂ .room) ≡ false → follow (go (m .next) st) ≡ st₂ → follow st₂ ≡ follow st
+        → ((at : ℕ) (b c : List ℕ) (us vs : Trees) → rest (go (m .next) st) (at + 1) b us → rest st₂ (at + 1 + length b) c vs → rest st at (m .code ∷ (b ++ c)) (us ⊕ vs)) → Back st m
+    pass-before st₂ fine quiet ajar ajar₂ leads same made =
+        record {
+          fine = fine;
+          loud = λ q. no-pass (sym q ∙ quiet);
+          silent = λ q at b rows c. two-more st at (m .code ∷ []) [] (go (m .next) st) st₂ ajar ajar₂ leads same (λ b c us vs y z. (us ⊕ vs, made at b c us vs y z, flat-⊕ us vs)) c;
+        }

@@ -13,7 +13,7 @@ use Rattle.meaning.specs.Kinds.{extraKey, encryptedOpens, dateAbsolute, dateFor
 use Rattle.meaning.specs.Editions.{Room, encryptedTexts, receivedExtra, Next, outer, stay, Form, text, date, Move, on_▸_▸_▸_, extraCode, receivedExtras, ownParameters, ownDates}
 use Rattle.meaning.specs.Writing.{writeValue, isOnly}
 use Rattle.meaning.specs.Grammar.{standing, startIn}
-use Rattle.papers.specs.Notation.{Trees, end, tree, _⊕_, Syntax, _⨾_, _then_, first, other, optional, absent, present, many, met, node, opens, _⊳_, coded}
+use Rattle.papers.specs.Notation.{Trees, end, tree, _⊕_, Syntax, _⨾_, _then_, first, other, optional, absent, present, many, met, leaf, shows, node, holds, opens, itself, _⊳_, coded}
 use Rattle.papers.specs.Values.{NullTerminatedString}
 use Rattle.papers.specs.Papers.{Any, UserDefinedParameter}
 use Rattle.papers.specs.Texts.{textual}
@@ -97,3 +97,11 @@ module _ (C : Move → Type 0) where
   own-dates D n a b c d f g =
       first-of C (on 0x21 ▸ dateForward ▸ date relative false ▸ n) _ (b refl) (first-of C (on 0x22 ▸ dateBackward ▸ date relative false ▸ n) _ (c refl) (first-of C (on 0x24 ▸ dateAbsolute ▸ date absolute true ▸ n) _ (d refl)
       (first-of C (on 0x25 ▸ dateForward ▸ date relative true ▸ n) _ (f refl) (first-of C (on 0x26 ▸ dateBackward ▸ date relative true ▸ n) _ (g refl) (no-more C)))))
+
+-- a byte that opens a list views nothing, and one that is its own value views itself
+pub opened-as : {c k n at : ℕ} {b : List ℕ} {ts : Trees} {P : Syntax} (v : List ℕ) → T (isEmpty v) → P (at + 1) b ts → node k n (opens c) P at (c ∷ b) (tree k n (at + 0) v ts end)
+opened-as [] ok y = holds opens.it y
+opened-as (x ∷ v) ok y = absurd ok
+
+pub itself-as : (c : ℕ) {k n at : ℕ} (v : List ℕ) → T (isOnly c v) → leaf k n (itself c) at (c ∷ []) (tree k n (at + 0) v end end)
+itself-as c {k} {n} {at} v ok = subst (λ (u : List ℕ). leaf k n (itself c) at (c ∷ []) (tree k n (at + 0) u end end)) (sym (only-one c v ok)) (shows itself.it)
