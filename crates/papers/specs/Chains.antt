@@ -76,9 +76,6 @@ pub data Fine : State → Type 0 where
   received-extra : Fine (state receivedExtra 1 false)
   shut : Fine (state closed 0 false)
 
-pub no-row : {A : Type 0} → true ≡ false → A
-no-row q = absurd (false≢true (sym q))
-
 pub no-pass : {A : Type 0} → false ≡ true → A
 no-pass q = absurd (false≢true q)
 

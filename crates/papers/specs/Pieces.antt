@@ -57,10 +57,6 @@ module _ (C : Move → Type 0) where
   pub no-more : (m : Move) → In m [] → C m
   no-more m i = absurd (some i)
 
-pub nil-of : (v : List ℕ) → T (isEmpty v) → v ≡ []
-nil-of [] t = refl
-nil-of (x ∷ v) t = absurd t
-
 pub only-one : (c : ℕ) (v : List ℕ) → T (isOnly c v) → v ≡ c ∷ []
 only-one c [] t = absurd t
 only-one c (b ∷ []) t = ap (λ (x : ℕ). x ∷ []) (eqb→eq b c t)
