@@ -1,5 +1,5 @@
--- Of calls of `gamulisyan_read`, `gamulisyan_read_tolerant` and `gamulisyan_write`, over the papers' own grammar (`Papers` of `papers`): what is accepted is exactly a MessageEnvelope of the
--- papers, and what is written exactly the rows of one. That the input holds bytes, the promise of a call says, as in `Calls`.
+-- Of calls of `gamulisyan_read`, `gamulisyan_read_tolerant`, `gamulisyan_write`, `gamulisyan_present` and `gamulisyan_which`, over the papers' own grammar (`Papers` of `papers`): what is accepted
+-- is exactly a MessageEnvelope of the papers, and what is written exactly the rows of one. That the input holds bytes, the promise of a call says, as in `Calls`.
 use Prim.Native.Nat.{ℕ, _≤_}
 use mathlib.Core.List.{List}
 use mathlib.Core.Bool.{Bool}
