@@ -83,7 +83,7 @@ pub fn count(s: &[u8], end: usize, at: usize) -> Number
 }
 
 // "An odd digit count ends with four zero bits, an even one with a byte 00."
-fn turn(number: u64, first: bool, b: u32) -> Turning
+pub fn turn(number: u64, first: bool, b: u32) -> Turning
     requires { ⌜ (number ≤ numberMost) × (b < 256) ⌝ }
     ensures { λ r. ⌜ Turned number first b r ⌝ }
 {
