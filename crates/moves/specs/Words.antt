@@ -1,10 +1,11 @@
 -- What each code value of the table's words says, as `meaning` has it.
 use Prim.Native.Nat.{ℕ}
 use mathlib.Core.Bool.{Bool, true, false}
-use Rattle.meaning.specs.Bytes.{line, note, Reach, absolute, relative, oneByte, twoBytes, fourBytes}
+use Rattle.meaning.specs.Bytes.{Reach, absolute, relative, oneByte, twoBytes, fourBytes}
 use Rattle.meaning.specs.Editions.{noCode, on_▸_▸_▸_}
 use Rattle.meaning.specs.Editions as meaning
 use Rattle.meaning.specs.Reading as reading
+use Rattle.values.specs.Stages.{ruleOf}
 use Rattle.moves.specs.declared.rooms.Room.{Room}
 use Rattle.moves.specs.declared.rooms.Room.the-variants as room
 use Rattle.moves.specs.declared.rooms.Form.{Form}
@@ -43,8 +44,7 @@ reachOf true = absolute
 reachOf false = relative
 
 abbrev pub formOf : Form → meaning.Form
-formOf form.Line = meaning.text line
-formOf form.Note = meaning.text note
+formOf (form.Text rule) = meaning.text (ruleOf rule)
 formOf (form.Date isAbsolute designated) = meaning.date (reachOf isAbsolute) designated
 formOf form.Number = meaning.number
 formOf form.OneByte = meaning.block oneByte
@@ -67,4 +67,4 @@ nextOf next.AgentEnds = meaning.agentEnds
 abbrev pub foundOf : ℕ → Found → reading.Found
 foundOf b Nothing = reading.none
 foundOf b (Coded kind form next) = reading.hit (on b ▸ kind ▸ formOf form ▸ nextOf next)
-foundOf b (Uncoded kind form next) = reading.hit (on noCode ▸ kind ▸ formOf form ▸ nextOf next)
+foundOf b (Uncoded kind rule next) = reading.hit (on noCode ▸ kind ▸ meaning.text (ruleOf rule) ▸ nextOf next)

@@ -11,6 +11,7 @@ use table::kinds::AGENT_NAME;
 use table::kinds::EXTRA_KEY;
 use table::kinds::RESOLVERS_OPEN;
 use table::told::Edition;
+use values::text::Rule;
 ghost use mathlib.Core.Path.{_≡_};
 ghost use mathlib.Core.List.{[], _∷_, _++_};
 ghost use Prim.Native.Nat.{_<_};
@@ -27,7 +28,7 @@ pub fn agent_list(b: u32) -> Found
     match b {
         0x02 => Found::Coded {
             kind: AGENT_NAME,
-            form: Form::Line,
+            form: Form::Text(Rule::Line),
             next: Next::Stay(Room::AfterName),
         },
         0x01 => Found::Coded {
@@ -47,7 +48,7 @@ pub fn one_agent(b: u32) -> Found
     match b {
         0x02 => Found::Coded {
             kind: AGENT_NAME,
-            form: Form::Line,
+            form: Form::Text(Rule::Line),
             next: Next::Stay(Room::AfterName),
         },
         _ => Found::Nothing,
@@ -107,7 +108,7 @@ fn extra(edition: Edition, b: u32) -> Found
     if b == agent_extra(edition) {
         return Found::Coded {
             kind: EXTRA_KEY,
-            form: Form::Line,
+            form: Form::Text(Rule::Line),
             next: Next::Stay(Room::AgentExtra),
         };
     }

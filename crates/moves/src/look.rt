@@ -9,7 +9,6 @@ use crate::received::after_date;
 use crate::received::after_from;
 use crate::received::after_id;
 use crate::received::after_via;
-use crate::rooms::Form;
 use crate::rooms::Found;
 use crate::rooms::Next;
 use crate::rooms::Room;
@@ -22,6 +21,7 @@ use table::kinds::ENCRYPTED_ITEM;
 use table::kinds::OWN_VALUE;
 use table::kinds::RECEIVED_BY;
 use table::told::Edition;
+use values::text::Rule;
 ghost use mathlib.Core.Path.{_≡_};
 ghost use Prim.Native.Nat.{_<_};
 ghost use Rattle.meaning.specs.Editions.{moves};
@@ -37,7 +37,7 @@ pub fn move_at(edition: Edition, room: Room, b: u32) -> Found
     match room {
         Room::ReceivedBegins => Found::Uncoded {
             kind: RECEIVED_BY,
-            form: Form::Line,
+            rule: Rule::Line,
             next: Next::Inner(Room::ReceivedDate),
         },
         Room::HeadRepresentation => representation(b, Next::Outer(Room::HeadDate)),
@@ -45,7 +45,7 @@ pub fn move_at(edition: Edition, room: Room, b: u32) -> Found
         Room::Parameters => parameter(edition, b),
         Room::OwnText => Found::Uncoded {
             kind: OWN_VALUE,
-            form: Form::Note,
+            rule: Rule::Note,
             next: Next::Outer(Room::Parameters),
         },
         Room::ParameterRepresentation => representation(b, Next::Outer(Room::Parameters)),

@@ -14,6 +14,7 @@ use table::kinds::PAYLOAD_LENGTH;
 use table::kinds::RECEIVER_OPENS;
 use table::kinds::TO_OPENS;
 use table::told::Edition;
+use values::text::Rule;
 ghost use mathlib.Core.Path.{_≡_};
 ghost use mathlib.Core.List.{[], _∷_, _++_};
 ghost use Prim.Native.Nat.{_<_};
@@ -30,7 +31,7 @@ pub fn parameter(edition: Edition, b: u32) -> Found
     match b {
         0x00 => Found::Coded {
             kind: OWN_KEY,
-            form: Form::Line,
+            form: Form::Text(Rule::Line),
             next: Next::Outer(Room::OwnText),
         },
         0x02 => Found::Coded {
@@ -46,7 +47,7 @@ pub fn parameter(edition: Edition, b: u32) -> Found
         0x04 => passes_to(Room::ParameterRepresentation),
         0x05 => Found::Coded {
             kind: COMMENTS,
-            form: Form::Note,
+            form: Form::Text(Rule::Note),
             next: Next::Outer(Room::Parameters),
         },
         0x06 => Found::Coded {
@@ -56,7 +57,7 @@ pub fn parameter(edition: Edition, b: u32) -> Found
         },
         0x07 => Found::Coded {
             kind: PAYLOAD_ENCODING,
-            form: Form::Line,
+            form: Form::Text(Rule::Line),
             next: Next::Outer(Room::Parameters),
         },
         0x09 => Found::Coded {

@@ -10,6 +10,7 @@ use table::kinds::RECEIVED_FROM;
 use table::kinds::RECEIVED_ID;
 use table::kinds::RECEIVED_VIA;
 use table::told::Edition;
+use values::text::Rule;
 ghost use mathlib.Core.Path.{_≡_};
 ghost use mathlib.Core.List.{[], _∷_, _++_};
 ghost use Prim.Native.Nat.{_<_};
@@ -26,7 +27,7 @@ pub fn after_date(edition: Edition, b: u32) -> Found
     match b {
         0x02 => Found::Coded {
             kind: RECEIVED_FROM,
-            form: Form::Line,
+            form: Form::Text(Rule::Line),
             next: Next::Stay(Room::AfterFrom),
         },
         _ => after_from(edition, b),
@@ -41,7 +42,7 @@ pub fn after_from(edition: Edition, b: u32) -> Found
     match b {
         0x03 => Found::Coded {
             kind: RECEIVED_ID,
-            form: Form::Line,
+            form: Form::Text(Rule::Line),
             next: Next::Stay(Room::AfterId),
         },
         _ => after_id(edition, b),
@@ -56,7 +57,7 @@ pub fn after_id(edition: Edition, b: u32) -> Found
     match b {
         0x04 => Found::Coded {
             kind: RECEIVED_VIA,
-            form: Form::Line,
+            form: Form::Text(Rule::Line),
             next: Next::Stay(Room::AfterVia),
         },
         _ => after_via(edition, b),
@@ -96,7 +97,7 @@ fn extra_in_d(b: u32) -> Found
     match b {
         0x05 => Found::Coded {
             kind: EXTRA_KEY,
-            form: Form::Line,
+            form: Form::Text(Rule::Line),
             next: Next::Stay(Room::ReceivedExtra),
         },
         _ => Found::Nothing,

@@ -1,6 +1,7 @@
 // The words of the table: rooms, forms of values, where moves lead, and a move that was found.
+use values::text::Rule;
 ghost use mathlib.Core.Path.{_≡_};
-ghost use Rattle.meaning.specs.Reading.{strange};
+ghost use Rattle.meaning.specs.Reading.{strange, isClosed};
 ghost use Rattle.moves.specs.Words.{roomOf};
 
 // A place in the grammar.
@@ -29,11 +30,10 @@ pub enum Room {
     Closed,
 }
 
-// How a move's value stands behind its code: a line or a note; a date, absolute or relative, with a designator or without; a number; bytes behind a
+// How a move's value stands behind its code: a text by its rule; a date, absolute or relative, with a designator or without; a number; bytes behind a
 // length of one, two or four; the code itself; nothing, with a row or without.
 pub enum Form {
-    Line,
-    Note,
+    Text(Rule),
     Date { absolute: bool, designated: bool },
     Number,
     OneByte,
@@ -56,11 +56,11 @@ pub enum Next {
     AgentEnds,
 }
 
-// A move at a byte, by its row's kind, the form of its value and where it leads: the byte is its code, or its value begins at the byte.
+// A move at a byte, by its row's kind, the form of its value and where it leads: the byte is its code, or a text begins at the byte.
 pub enum Found {
     Nothing,
     Coded { kind: u32, form: Form, next: Next },
-    Uncoded { kind: u32, form: Form, next: Next },
+    Uncoded { kind: u32, rule: Rule, next: Next },
 }
 
 // The kind of a move that has no row.
@@ -93,5 +93,35 @@ pub fn strange_in(room: Room) -> u32
         Room::AfterResolvers => 7,
         Room::AgentExtra => 7,
         Room::Closed => 7,
+    }
+}
+
+// Takes a room. Answers whether it is the one behind an envelope's closing 01.
+pub fn is_closed(room: Room) -> bool
+    ensures { λ r. ⌜ r ≡ isClosed (roomOf room) ⌝ }
+{
+    match room {
+        Room::ReceivedBegins => false,
+        Room::HeadRepresentation => false,
+        Room::HeadDate => false,
+        Room::Parameters => false,
+        Room::OwnText => false,
+        Room::ParameterRepresentation => false,
+        Room::BehaviourValue => false,
+        Room::EncryptedTexts => false,
+        Room::ReceivedDate => false,
+        Room::AfterDate => false,
+        Room::AfterFrom => false,
+        Room::AfterId => false,
+        Room::AfterVia => false,
+        Room::ReceivedExtra => false,
+        Room::AgentList => false,
+        Room::OneAgent => false,
+        Room::AfterName => false,
+        Room::AddressTexts => false,
+        Room::AfterAddresses => false,
+        Room::AfterResolvers => false,
+        Room::AgentExtra => false,
+        Room::Closed => true,
     }
 }

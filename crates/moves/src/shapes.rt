@@ -11,6 +11,7 @@ use table::kinds::DATE_FORWARD;
 use table::kinds::OWN_REPRESENTATION;
 use table::kinds::STANDARD_REPRESENTATION;
 use table::told::Edition;
+use values::text::Rule;
 ghost use mathlib.Core.Path.{_≡_};
 ghost use mathlib.Core.List.{[], _∷_, _++_};
 ghost use Prim.Native.Nat.{_<_};
@@ -44,7 +45,7 @@ pub fn representation(b: u32, next: Next) -> Found
         },
         0x00 => Found::Coded {
             kind: OWN_REPRESENTATION,
-            form: Form::Line,
+            form: Form::Text(Rule::Line),
             next: next,
         },
         _ => Found::Nothing,
@@ -59,7 +60,7 @@ pub fn any(b: u32, next: Next) -> Found
     match b {
         0x14 => Found::Coded {
             kind: ANY_TEXT,
-            form: Form::Note,
+            form: Form::Text(Rule::Note),
             next: next,
         },
         0x16 => Found::Coded {
@@ -147,7 +148,7 @@ pub fn texts(b: u32, kind: u32, item: Next, end: Next) -> Found
         },
         _ => Found::Uncoded {
             kind: kind,
-            form: Form::Line,
+            rule: Rule::Line,
             next: item,
         },
     }

@@ -1,5 +1,5 @@
 // A whole header, envelope by envelope: identifier and length, the envelope's own row, its inside, and the next one.
 pub mod count;
-mod envelope;
+pub mod envelope;
 pub mod frame;
 pub mod header;
