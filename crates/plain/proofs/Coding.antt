@@ -36,12 +36,11 @@ use Rattle.plain.specs.declared.lists.Lists.{Lists}
 use Rattle.plain.specs.declared.feed.Pending.{Pending}
 use Rattle.plain.specs.declared.feed.Taking.{Taking}
 use Rattle.plain.specs.declared.feed.Taking.the-variants.{Text, Date, Number, Length, Block}
-use Rattle.plain.specs.declared.state.Doing.the-variants.{Code, Value}
-use Rattle.plain.specs.declared.state.Answer.the-variants.{Goes, Row, Over, Refused}
-use Rattle.plain.specs.declared.state.Stepped.{Stepped}
-use Rattle.plain.specs.Lists.{stateOf, Bounded, MayLead, Leads, Gone}
+use Rattle.plain.specs.declared.feed.Fed.{Fed}
+use Rattle.plain.specs.declared.feed.Fed.the-variants as fed
+use Rattle.plain.specs.Lists.{stateOf, Bounded, MayLead, Leads}
 use Rattle.plain.specs.Values.{pendingOf, backOf, widthOf, spanFrom, Valid}
-use Rattle.plain.specs.Steps.{landedSpan, valueAt, doingAt, DoingHolds, steppedAt, StepHolds, StepsFrom, CodeSteps, CodedHere, UncodedHere, NoneHere}
+use Rattle.plain.specs.Steps.{landedSpan, valueAt, fedAt, FedLeads, FedValid, CodeSteps, CodedHere, UncodedHere, NoneHere}
 
 landed-span : (i : Source) (back kind level : ℕ) (q : State) (g : Taken) (n : ℕ) (m : List ℕ) → landed i back kind level q g n m ≡ landedSpan i back kind level q (span 0 g) n m
 landed-span i back kind level q (took v rest) n m = let u : 0 + length v ≡ length v = omega arith in rw u refl
@@ -151,87 +150,81 @@ module _ (t : Told) (s : List ℕ) (at : ℕ) (room : declared.Room) (l : Lists)
     of = record { kind = kind; next = g; start = at + 1 }
 
     -- .. and a value behind it
-    module _ {r : Stepped} (leads : Leads g l) where
+    module _ (leads : Leads g l) where
       pub taken-up : (taking : Taking) → pendingOf taking ≡ of → isQuiet (formOf f) ≡ false → reachBack (formOf f) ≡ backOf taking → Valid taking (at + 1)
           → ((end : ℕ) → at < end → end ≤ length s → span 0 (takeValue t (formOf f) (end - at) b (from s (at + 1) end)) ≡ spanFrom (source t s end) taking (at + 1))
-          → r .answer ≡ Goes → r .engine ≡ record { room = room; doing = Value taking; lists = l } → CodeSteps room l t s at r
-      unfolding valueAt doingAt DoingHolds steppedAt StepHolds
-      taken-up taking p z y v w a e = record {
-        is = λ end h k n m. coded-span z end h k n m ∙ rw (a, e, p, ← y, w end h k) refl;
-        holds = rw (a, e, p) (leads, v);
-      }
+          → CodeSteps room l t s at (fed.Goes taking)
+      unfolding valueAt fedAt FedLeads FedValid
+      taken-up taking p z y v w = record { is = λ end h k n m. coded-span z end h k n m ∙ rw (p, ← y, w end h k) refl; valid = v; leads = rw p leads }
 
-      pub takes-text : (rule : Rule) → f ≡ form.Text rule → r .answer ≡ Goes → r .engine ≡ record { room = room; doing = Value (Text rule of); lists = l } → CodeSteps room l t s at r
+      pub takes-text : (rule : Rule) → f ≡ form.Text rule → CodeSteps room l t s at (fed.Goes (Text rule of))
       unfolding Valid
-      takes-text rule x a e = taken-up (Text rule of) refl (rw x refl) (rw x refl) (omega arith) (λ end h k. rw x (text-begins t s at kind g end h k rule)) a e
+      takes-text rule x = taken-up (Text rule of) refl (rw x refl) (rw x refl) (omega arith) (λ end h k. rw x (text-begins t s at kind g end h k rule))
 
-      pub takes-date : (isAbsolute designated : Bool) → f ≡ form.Date isAbsolute designated → r .answer ≡ Goes → r .engine ≡ record { room = room; doing = Value (Date isAbsolute designated of); lists = l } → CodeSteps room l t s at r
+      pub takes-date : (isAbsolute designated : Bool) → f ≡ form.Date isAbsolute designated → CodeSteps room l t s at (fed.Goes (Date isAbsolute designated of))
       unfolding Valid
-      takes-date isAbsolute designated x a e =
-          taken-up (Date isAbsolute designated of) refl (rw x refl) (rw x refl) (omega arith, omega (arith, nine-at-least designated)) (λ end h k. rw x (date-begun t s at kind g end h k isAbsolute designated)) a e
+      takes-date isAbsolute designated x =
+          taken-up (Date isAbsolute designated of) refl (rw x refl) (rw x refl) (omega arith, omega (arith, nine-at-least designated)) (λ end h k. rw x (date-begun t s at kind g end h k isAbsolute designated))
 
-      pub takes-number : f ≡ form.Number → r .answer ≡ Goes → r .engine ≡ record { room = room; doing = Value (Number 0 of); lists = l } → CodeSteps room l t s at r
+      pub takes-number : f ≡ form.Number → CodeSteps room l t s at (fed.Goes (Number 0 of))
       unfolding Valid
-      takes-number x a e = taken-up (Number 0 of) refl (rw x refl) (rw x refl) (omega arith, omega arith) (λ end h k. rw x (number-begins t s at kind g end h k)) a e
+      takes-number x = taken-up (Number 0 of) refl (rw x refl) (rw x refl) (omega arith, omega arith) (λ end h k. rw x (number-begins t s at kind g end h k))
 
-      pub takes-block : (w : Width) (width : ℕ) → widthOf width ≡ w → bytesOf w ≡ width → 0 < width → formOf f ≡ meaning.block w → r .answer ≡ Goes → r .engine ≡ record { room = room; doing = Value (Length width 0 of); lists = l } → CodeSteps room l t s at r
+      pub takes-block : (w : Width) (width : ℕ) → widthOf width ≡ w → bytesOf w ≡ width → 0 < width → formOf f ≡ meaning.block w → CodeSteps room l t s at (fed.Goes (Length width 0 of))
       unfolding Valid
-      takes-block w width p b d x a e =
+      takes-block w width p c d x =
           let u : at + 1 - (at + 1) ≡ 0 = omega arith in
-          taken-up (Length width 0 of) refl (rw x refl) (rw x refl) (omega arith, omega arith, omega arith, ap bytesOf p ∙ b, rw u (omega arith))
-          (λ end h k. rw x (block-begins t s at kind g end h k w width p b)) a e
+          taken-up (Length width 0 of) refl (rw x refl) (rw x refl) (omega arith, omega arith, omega arith, ap bytesOf p ∙ c, rw u (omega arith))
+          (λ end h k. rw x (block-begins t s at kind g end h k w width p c))
 
       -- a row at the code
-      pub coded-itself : f ≡ form.Itself → r .answer ≡ Row kind (l .depth) at 1 → r .engine .doing ≡ Code
-          → Gone g l (record { room = r .engine .room; lists = r .engine .lists }) → CodeSteps room l t s at r
-      unfolding takeValue doingAt DoingHolds steppedAt StepHolds
-      coded-itself x a e d = record {
+      abbrev here-row : Pending
+      here-row = record { kind = kind; next = g; start = at }
+
+      pub coded-itself : f ≡ form.Itself → {x : Fed} → x ≡ fed.Ends here-row 1 → CodeSteps room l t s at x
+      unfolding takeValue fedAt FedLeads FedValid
+      coded-itself x q = rw q (record {
         is = λ end h k n m.
             let u : end - (length (from s (at + 1) end) + 1 + 0) ≡ at = omega (arith, from-length s (at + 1) end (omega arith) k) in
-            coded-span (rw x refl) end h k n m ∙ rw (x, a, e, d .is (roomOf room), u) refl;
-        holds = rw (a, e) (d .bounded, omega arith, omega arith);
-      }
+            coded-span (rw x refl) end h k n m ∙ rw (x, u) refl;
+        valid = (omega arith, omega arith);
+        leads = leads;
+      })
 
-      pub coded-opens : f ≡ form.Opens → r .answer ≡ Row kind (l .depth) at 0 → r .engine .doing ≡ Code
-          → Gone g l (record { room = r .engine .room; lists = r .engine .lists }) → CodeSteps room l t s at r
-      unfolding takeValue doingAt DoingHolds steppedAt StepHolds
-      coded-opens x a e d = record {
+      pub coded-opens : f ≡ form.Opens → {x : Fed} → x ≡ fed.Ends here-row 0 → CodeSteps room l t s at x
+      unfolding takeValue fedAt FedLeads FedValid
+      coded-opens x q = rw q (record {
         is = λ end h k n m.
             let u : end - (length (from s (at + 1) end) + 0 + 1) ≡ at = omega (arith, from-length s (at + 1) end (omega arith) k) in
-            coded-span (rw x refl) end h k n m ∙ rw (x, a, e, d .is (roomOf room), u) refl;
-        holds = rw (a, e) (d .bounded, omega arith, omega arith);
-      }
+            coded-span (rw x refl) end h k n m ∙ rw (x, u) refl;
+        valid = (omega arith, omega arith);
+        leads = leads;
+      })
 
-      pub coded-quiet : f ≡ form.Quiet → r .answer ≡ Goes → r .engine .doing ≡ Code
-          → Gone g l (record { room = r .engine .room; lists = r .engine .lists }) → CodeSteps room l t s at r
-      unfolding takeValue step stepMove doingAt DoingHolds steppedAt StepHolds
-      coded-quiet x a e d = record {
+      pub coded-quiet : f ≡ form.Quiet → CodeSteps room l t s at (fed.Moves g)
+      unfolding takeValue step stepMove fedAt FedLeads FedValid
+      coded-quiet x = record {
         is = λ end h k n m.
             let y : look b (moves (t .edition) (roomOf room)) ≡ hit (on b ▸ kind ▸ meaning.quiet ▸ nextOf g) = here .is ∙ rw x refl in
             stepped (source t s end) at n m q (b ∷ from s (at + 1) end) (next (go (nextOf g) q) [] (from s (at + 1) end)) (from-cons s at end h k) (rw (y, flat, code-not) refl)
-            ∙ pour-none end (inside t (go (nextOf g) q) (from s (at + 1) end)) n m ∙ rw (a, e, d .is (roomOf room)) refl;
-        holds = rw (a, e) (d .bounded);
+            ∙ pour-none end (inside t (go (nextOf g) q) (from s (at + 1) end)) n m;
+        valid = tt;
+        leads = leads;
       }
 
   -- an agent of level 9
-  pub coded-deep : (v : meaning.Move) → look b (moves (t .edition) (roomOf room)) ≡ hit v → tooDeep v q ≡ true → {r : Stepped} → r .answer ≡ Refused 12 at → CodeSteps room l t s at r
-  unfolding steppedAt StepHolds
-  coded-deep v y d a = record {
-    is = λ end h k n m. too-deep (source t s end) at n m b h k (from-cons s at end h k) q v y d ∙ rw a refl;
-    holds = rw a tt;
-  }
+  pub coded-deep : (v : meaning.Move) → look b (moves (t .edition) (roomOf room)) ≡ hit v → tooDeep v q ≡ true → CodeSteps room l t s at (fed.Wrong 12 at)
+  unfolding fedAt FedLeads FedValid
+  coded-deep v y d = record { is = λ end h k n m. too-deep (source t s end) at n m b h k (from-cons s at end h k) q v y d; valid = tt; leads = tt }
 
   -- no move
-  pub none-closed : isClosed (roomOf room) ≡ true → {r : Stepped} → r .answer ≡ Over → CodeSteps room l t s at r
-  unfolding steppedAt StepHolds
-  none-closed c a = record { is = λ end h k n m. closed-same (source t s end) at n m (omega arith) k (roomOf room) (l .depth) _ c ∙ rw a refl; holds = rw a tt }
+  pub none-closed : isClosed (roomOf room) ≡ true → CodeSteps room l t s at fed.Over
+  unfolding fedAt FedLeads FedValid
+  none-closed c = record { is = λ end h k n m. closed-same (source t s end) at n m (omega arith) k (roomOf room) (l .depth) _ c; valid = tt; leads = tt }
 
-  pub none-strange : NoneHere t s at room → isClosed (roomOf room) ≡ false → {refusal : ℕ} → refusal ≡ strange (roomOf room) → {r : Stepped} → r .answer ≡ Refused refusal at → CodeSteps room l t s at r
-  unfolding steppedAt StepHolds
-  none-strange here c o a = record {
-    is = λ end h k n m. strange-code (source t s end) at n m b h k (from-cons s at end h k) q _ (here .is) c (sym o) ∙ rw a refl;
-    holds = rw a tt;
-  }
+  pub none-strange : NoneHere t s at room → isClosed (roomOf room) ≡ false → {refusal : ℕ} → refusal ≡ strange (roomOf room) → CodeSteps room l t s at (fed.Wrong refusal at)
+  unfolding fedAt FedLeads FedValid
+  none-strange here c o = record { is = λ end h k n m. strange-code (source t s end) at n m b h k (from-cons s at end h k) q _ (here .is) c (sym o); valid = tt; leads = tt }
 
   -- a text that begins at the byte
   pub uncoded-span : (kind : ℕ) (rule : Rule) (g : declaredNext.Next) → UncodedHere t s at room kind rule g → eqb kind agentName && ltb levelMost (l .depth) ≡ false → (end : ℕ) → at < end → end ≤ length s → (n : ℕ) (m : List ℕ)

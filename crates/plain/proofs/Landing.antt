@@ -18,13 +18,12 @@ use Rattle.plain.specs.declared.feed.Pending.{Pending}
 use Rattle.plain.specs.declared.feed.Taking.{Taking}
 use Rattle.plain.specs.declared.feed.Fed.{Fed}
 use Rattle.plain.specs.declared.feed.Fed.the-variants as fed
+use Rattle.plain.specs.declared.state.Doing.{Doing}
 use Rattle.plain.specs.declared.state.Doing.the-variants.{Code, Value}
-use Rattle.plain.specs.declared.state.Answer.the-variants.{Goes, Row, Over, Refused}
 use Rattle.plain.specs.declared.state.Engine.{Engine}
-use Rattle.plain.specs.declared.state.Stepped.{Stepped}
-use Rattle.plain.specs.Lists.{stateOf, Bounded, Leads, Gone}
+use Rattle.plain.specs.Lists.{stateOf, Nested, Bounded, Leads}
 use Rattle.plain.specs.Values.{pendingOf, backOf, spanFrom, Valid, fedSpan, Follows, Feeds}
-use Rattle.plain.specs.Steps.{landedSpan, valueAt, fedAt, FedLeads, FedValid, doingAt, comes, DoingHolds, Holds, steppedAt, StepHolds, StepsFrom, CodeSteps}
+use Rattle.plain.specs.Steps.{landedSpan, valueAt, fedAt, FedLeads, FedValid, doingAt, comes, DoingHolds, Holds, StepsFrom, CodeSteps, Steps}
 
 module _ (t : Told) (s : List ℕ) (at : ℕ) where
   lands-by : (taking : Taking) (x : Fed) → Follows taking at x → (end : ℕ) → at < end → end ≤ length s → (st : State) (n : ℕ) (m : List ℕ)
@@ -34,6 +33,8 @@ module _ (t : Told) (s : List ℕ) (at : ℕ) where
   lands-by taking (fed.Ends of len) f end h l st n m =
       let u : end - (length (from s (at + 1) end) + len + backOf taking) ≡ of .start = omega (arith, from-length s (at + 1) end (omega arith) l, f .1) in
       rw (f .0 .kind, f .0 .next, u) refl
+  lands-by taking (fed.Moves next) f end h l st n m = absurd f
+  lands-by taking fed.Over f end h l st n m = absurd f
   lands-by taking (fed.Wrong refusal p) f end h l st n m = let u : end - (end - p) ≡ p = omega arith in rw u refl
 
   -- THE LAW OF A VALUE'S STEP
@@ -48,6 +49,8 @@ module _ (t : Told) (s : List ℕ) (at : ℕ) where
   unfolding Follows FedValid
   follows-valid taking (fed.Goes further) f = f .2
   follows-valid taking (fed.Ends of len) f = (omega (arith, f .1), omega (arith, f .1))
+  follows-valid taking (fed.Moves next) f = tt
+  follows-valid taking fed.Over f = tt
   follows-valid taking (fed.Wrong refusal p) f = tt
 
   pub fed-valid : {taking : Taking} {x : Fed} → Feeds t s taking at x → FedValid at x
@@ -57,46 +60,31 @@ module _ (t : Told) (s : List ℕ) (at : ℕ) where
   unfolding Follows FedLeads
   follows-leads l taking (fed.Goes further) f a = rw (f .0 .next) a
   follows-leads l taking (fed.Ends of len) f a = rw (f .0 .next) a
+  follows-leads l taking (fed.Moves next) f a = absurd f
+  follows-leads l taking fed.Over f a = tt
   follows-leads l taking (fed.Wrong refusal p) f a = tt
 
   pub fed-leads : {l : Lists} {taking : Taking} {x : Fed} → Feeds t s taking at x → Leads (pendingOf taking .next) l → FedLeads l x
   fed-leads {l} {taking} {x} a = follows-leads l taking x (a .follows)
 
-  -- the states that it leads to
-  module _ (room : Room) (l : Lists) {x : Fed} {r : Stepped} (valid : FedValid at x) (leads : FedLeads l x) where
-    pub land-goes : {taking : Taking} → x ≡ fed.Goes taking → r .answer ≡ Goes → r .engine ≡ record { room = room; doing = Value taking; lists = l }
-        → StepsFrom (λ i n m. fedAt i (stateOf room l) x at n m) t s at r
-    unfolding fedAt FedLeads FedValid doingAt DoingHolds steppedAt StepHolds
-    land-goes q a e =
-        let v = rw q at valid in
-        let w = rw q at leads in
-        record { is = λ end h k n m. rw (q, a, e) refl; holds = rw (a, e) (w, v) }
-
-    pub land-ends : {of : Pending} {len level : ℕ} → x ≡ fed.Ends of len → level ≡ l .depth → r .answer ≡ Row (of .kind) level (of .start) len → r .engine .doing ≡ Code
-        → Gone (of .next) l (record { room = r .engine .room; lists = r .engine .lists }) → StepsFrom (λ i n m. fedAt i (stateOf room l) x at n m) t s at r
-    unfolding fedAt FedValid doingAt DoingHolds steppedAt StepHolds
-    land-ends q d a e g =
-        let v = rw q at valid in
-        record { is = λ end h k n m. rw (q, a, e, d, g .is (roomOf room)) refl; holds = rw (a, e) (g .bounded, v .0, v .1) }
-
-    pub land-wrong : {refusal p : ℕ} → x ≡ fed.Wrong refusal p → r .answer ≡ Refused refusal p → StepsFrom (λ i n m. fedAt i (stateOf room l) x at n m) t s at r
-    unfolding fedAt steppedAt StepHolds
-    land-wrong q a = record { is = λ end h k n m. rw (q, a) refl; holds = rw a tt }
+  -- the step of a value in a state
+  pub fed-steps : {taking : Taking} {x : Fed} (room : Room) (l : Lists) → Feeds t s taking at x → Leads (pendingOf taking .next) l → StepsFrom (λ i n m. valueAt i (stateOf room l) taking at n m) room l t s at x
+  fed-steps room l a g = record { is = λ end h k n m. fed-lands a end h k (stateOf room l) n m; valid = fed-valid a; leads = fed-leads a g }
 
 -- what steps from one reading steps from another that comes to the same
-pub steps-onward : {begins mid : Source → ℕ → List ℕ → Filling} {t : Told} {s : List ℕ} {at : ℕ} {r : Stepped}
-    → ((end : ℕ) → at < end → end ≤ length s → (n : ℕ) (m : List ℕ) → begins (source t s end) n m ≡ mid (source t s end) n m) → StepsFrom mid t s at r → StepsFrom begins t s at r
-steps-onward q a = record { is = λ end h k n m. q end h k n m ∙ a .is end h k n m; holds = a .holds }
+pub steps-onward : {begins mid : Source → ℕ → List ℕ → Filling} {room : Room} {l : Lists} {t : Told} {s : List ℕ} {at : ℕ} {x : Fed}
+    → ((end : ℕ) → at < end → end ≤ length s → (n : ℕ) (m : List ℕ) → begins (source t s end) n m ≡ mid (source t s end) n m) → StepsFrom mid room l t s at x → StepsFrom begins room l t s at x
+steps-onward q a = record { is = λ end h k n m. q end h k n m ∙ a .is end h k n m; valid = a .valid; leads = a .leads }
 
 -- the engine's step
-module _ {t : Told} {s : List ℕ} {at : ℕ} {r : Stepped} (e : Engine) where
-  pub step-code : e .doing ≡ Code → CodeSteps (e .room) (e .lists) t s at r → StepsFrom (λ i n m. comes i e at n m) t s at r
+module _ {t : Told} {s : List ℕ} {at : ℕ} {x : Fed} (e : Engine) where
+  pub step-code : e .doing ≡ Code → CodeSteps (e .room) (e .lists) t s at x → Steps e t s at x
   unfolding doingAt
   step-code q a = steps-onward (λ end h k n m. rw q refl) a
 
-  pub step-value : {taking : Taking} {x : Fed} → e .doing ≡ Value taking → Feeds t s taking at x → StepsFrom (λ i n m. fedAt i (stateOf (e .room) (e .lists)) x at n m) t s at r → StepsFrom (λ i n m. comes i e at n m) t s at r
+  pub step-value : {taking : Taking} → e .doing ≡ Value taking → Leads (pendingOf taking .next) (e .lists) → Feeds t s taking at x → Steps e t s at x
   unfolding doingAt
-  step-value {taking} {x} q f a = steps-onward (λ end h k n m. rw q (fed-lands t s at f end h k (stateOf (e .room) (e .lists)) n m)) a
+  step-value q g f = steps-onward (λ end h k n m. rw q refl) (fed-steps t s at (e .room) (e .lists) f g)
 
 pub code-holds : (e : Engine) (at : ℕ) → e .doing ≡ Code → Holds e at → Bounded (e .room) (e .lists)
 unfolding DoingHolds
@@ -105,3 +93,9 @@ code-holds e at q h = rw q at h
 pub value-holds : (e : Engine) (at : ℕ) {taking : Taking} → e .doing ≡ Value taking → Holds e at → Leads (pendingOf taking .next) (e .lists) × Valid taking at
 unfolding DoingHolds
 value-holds e at q h = rw q at h
+
+-- a state that holds has its lists in order
+pub doing-nested : (r : Room) (l : Lists) (at : ℕ) (d : Doing) → DoingHolds r l at d → Nested l
+unfolding DoingHolds
+doing-nested r l at Code h = h .nested
+doing-nested r l at (Value taking) h = h .0 .nested

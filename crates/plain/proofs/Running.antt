@@ -29,11 +29,12 @@ use Rattle.plain.specs.declared.feed.Taking.{Taking}
 use Rattle.plain.specs.declared.feed.Taking.the-variants.{Text, Date, Number, Length, Block}
 use Rattle.plain.specs.declared.state.Doing.the-variants.{Code, Value}
 use Rattle.plain.specs.declared.state.Engine.{Engine}
-use Rattle.plain.specs.declared.state.Answer.the-variants.{Goes, Row, Over, Refused}
-use Rattle.plain.specs.declared.state.Stepped.{Stepped}
-use Rattle.plain.specs.Lists.{stateOf}
+use Rattle.moves.specs.declared.rooms.Next.{Next}
+use Rattle.plain.specs.declared.feed.Fed.{Fed}
+use Rattle.plain.specs.declared.feed.Fed.the-variants as fed
+use Rattle.plain.specs.Lists.{stateOf, Leads, Gone}
 use Rattle.plain.specs.Values.{pendingOf, backOf, spanFrom, Valid}
-use Rattle.plain.specs.Steps.{landedSpan, valueAt, doingAt, comes, DoingHolds, Holds, steppedAt, StepHolds, StepsFrom, Begins, PastText, Ended}
+use Rattle.plain.specs.Steps.{landedSpan, valueAt, fedAt, FedLeads, FedValid, doingAt, comes, DoingHolds, Holds, Steps, Begins, PastText, Ended}
 use Rattle.plain.proofs.Coding.{closed-same}
 
 -- Where it begins
@@ -142,27 +143,42 @@ module _ (t : Told) (s : List ℕ) (end here place count : ℕ) (m : List ℕ) (
       let w = past .inside in
       record { goes = reaches ∙ rw q (a .is t s m (omega arith) (past .holds)); moved = rw q (a .moved least (omega arith) (omega arith)) }
 
-  module _ {r : Stepped} (h : place < end) (k : end ≤ length s) (a : StepsFrom (λ i n m. comes i e place n m) t s place r) where
-    onward : o ≡ steppedAt (source t s end) (r .engine) place count m (r .answer)
+  module _ {x : Fed} (h : place < end) (k : end ≤ length s) (a : Steps e t s place x) where
+    onward : o ≡ fedAt (source t s end) (stateOf (e .room) (e .lists)) x place count m
     onward = reaches ∙ a .is end h k count m
 
-    pub run-refused : {refusal p : ℕ} → r .answer ≡ Refused refusal p → Ran (source t s end) least o (stage.Refused p refusal) (state closed 0 false) m
-    unfolding steppedAt after Moved
+    pub run-refused : {refusal p : ℕ} → x ≡ fed.Wrong refusal p → Ran (source t s end) least o (stage.Refused p refusal) (state closed 0 false) m
+    unfolding fedAt after Moved
     run-refused q = record { goes = onward ∙ rw q refl; moved = tt }
 
-    pub run-over : r .answer ≡ Over → least ≤ here → count ≤ here → Ran (source t s end) least o (stage.Go place count) (state closed 0 false) m
-    unfolding steppedAt after Moved
+    pub run-over : x ≡ fed.Over → least ≤ here → count ≤ here → Ran (source t s end) least o (stage.Go place count) (state closed 0 false) m
+    unfolding fedAt after Moved
     run-over q l c = let w = past .inside in record { goes = onward ∙ rw q refl; moved = (omega arith, omega arith, omega arith) }
 
-    pub run-goes : r .answer ≡ Goes → (o ≡ comes (source t s end) (r .engine) (place + 1) count m) × Holds (r .engine) (place + 1)
-    unfolding steppedAt StepHolds
-    run-goes q = (onward ∙ rw q refl, rw q at (a .holds))
+    pub run-goes : {taking : Taking} {f : Engine} → x ≡ fed.Goes taking → f ≡ record { room = e .room; doing = Value taking; lists = e .lists } → (o ≡ comes (source t s end) f (place + 1) count m) × Holds f (place + 1)
+    unfolding fedAt doingAt DoingHolds FedValid FedLeads
+    run-goes q w =
+        let v = rw q at (a .valid) in
+        let g = rw q at (a .leads) in
+        (onward ∙ rw (q, w) refl, rw w (g, v))
 
-    pub row-fits : {kind level from len : ℕ} → r .answer ≡ Row kind level from len → (from ≤ place + 1) × (len ≤ place + 1)
-    unfolding StepHolds
-    row-fits q = let w = rw q at (a .holds) in (w .1, w .2)
+    pub moves-lead : {n : Next} → x ≡ fed.Moves n → Leads n (e .lists)
+    unfolding FedLeads
+    moves-lead q = rw q at (a .leads)
 
-    pub run-row : {kind level from len : ℕ} {left : List ℕ} → r .answer ≡ Row kind level from len → left ≡ put m count kind level from len
-        → (o ≡ comes (source t s end) (r .engine) (place + 1) (count + 1) left) × Holds (r .engine) (place + 1)
-    unfolding steppedAt StepHolds
-    run-row q w = let z = rw q at (a .holds) in (onward ∙ rw (q, w) refl, z .0)
+    pub run-moves : {n : Next} {f : Engine} → x ≡ fed.Moves n → f .doing ≡ Code → Gone n (e .lists) (record { room = f .room; lists = f .lists }) → (o ≡ comes (source t s end) f (place + 1) count m) × Holds f (place + 1)
+    unfolding fedAt doingAt DoingHolds
+    run-moves q d g = (onward ∙ rw (q, d, g .is (roomOf (e .room))) refl, rw d (g .bounded))
+
+    pub ends-lead : {of : Pending} {len : ℕ} → x ≡ fed.Ends of len → Leads (of .next) (e .lists)
+    unfolding FedLeads
+    ends-lead q = rw q at (a .leads)
+
+    pub row-fits : {of : Pending} {len : ℕ} → x ≡ fed.Ends of len → (of .start ≤ place + 1) × (len ≤ place + 1)
+    unfolding FedValid
+    row-fits q = rw q at (a .valid)
+
+    pub run-ends : {of : Pending} {len level : ℕ} {left : List ℕ} {f : Engine} → x ≡ fed.Ends of len → level ≡ e .lists .depth → left ≡ put m count (of .kind) level (of .start) len → f .doing ≡ Code
+        → Gone (of .next) (e .lists) (record { room = f .room; lists = f .lists }) → (o ≡ comes (source t s end) f (place + 1) (count + 1) left) × Holds f (place + 1)
+    unfolding fedAt doingAt DoingHolds
+    run-ends q v w d g = (onward ∙ rw (q, w, v, d, g .is (roomOf (e .room))) refl, rw d (g .bounded))

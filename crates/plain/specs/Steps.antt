@@ -9,7 +9,7 @@ use Rattle.meaning.specs.Editions.{State, state, go, closed, text, noCode, move
 use Rattle.meaning.specs.Reading.{inside, look, none, hit}
 use Rattle.meaning.specs.Headers.{start}
 use Rattle.laws_steps.specs.Rows.{put}
-use Rattle.laws_steps.specs.Pouring.{Filling, filled, stopped, pour, Source, source, runAt}
+use Rattle.laws_steps.specs.Pouring.{Filling, stopped, pour, Source, source, runAt}
 use Rattle.values.specs.declared.text.Rule.{Rule}
 use Rattle.values.specs.Stages.{Span, spans, misses, ruleOf}
 use Rattle.table.specs.declared.answers.Stage.{Stage}
@@ -25,9 +25,6 @@ use Rattle.plain.specs.declared.feed.Fed.the-variants as fed
 use Rattle.plain.specs.declared.state.Doing.{Doing}
 use Rattle.plain.specs.declared.state.Doing.the-variants.{Code, Value}
 use Rattle.plain.specs.declared.state.Engine.{Engine}
-use Rattle.plain.specs.declared.state.Answer.{Answer}
-use Rattle.plain.specs.declared.state.Answer.the-variants.{Goes, Row, Over, Refused}
-use Rattle.plain.specs.declared.state.Stepped.{Stepped}
 use Rattle.plain.specs.Lists.{stateOf, Nested, Bounded, Leads}
 use Rattle.plain.specs.Values.{pendingOf, backOf, spanFrom, Valid}
 
@@ -46,16 +43,22 @@ valueAt i st taking at n m =
 unfoldable pub fedAt : Source → State → Fed → ℕ → ℕ → List ℕ → Filling
 fedAt i st (fed.Goes taking) at n m = valueAt i st taking (at + 1) n m
 fedAt i st (fed.Ends of len) at n m = runAt i (go (nextOf (of .next)) st) (at + 1) (n + 1) (put m n (of .kind) (st .level) (of .start) len)
+fedAt i st (fed.Moves next) at n m = runAt i (go (nextOf next) st) (at + 1) n m
+fedAt i st fed.Over at n m = runAt i (state closed 0 false) at n m
 fedAt i st (fed.Wrong refusal p) at n m = stopped refusal p
 
 unfoldable pub FedLeads : Lists → Fed → Type 0
 FedLeads l (fed.Goes taking) = Leads (pendingOf taking .next) l
 FedLeads l (fed.Ends of len) = Leads (of .next) l
+FedLeads l (fed.Moves next) = Leads next l
+FedLeads l fed.Over = Unit {0}
 FedLeads l (fed.Wrong refusal p) = Unit {0}
 
 unfoldable pub FedValid : ℕ → Fed → Type 0
 FedValid at (fed.Goes taking) = Valid taking (at + 1)
 FedValid at (fed.Ends of len) = (of .start ≤ at + 1) × (len ≤ at + 1)
+FedValid at (fed.Moves next) = Unit {0}
+FedValid at fed.Over = Unit {0}
 FedValid at (fed.Wrong refusal p) = Unit {0}
 
 -- the engine
@@ -73,27 +76,19 @@ DoingHolds r l at (Value taking) = Leads (pendingOf taking .next) l × Valid tak
 abbrev pub Holds : Engine → ℕ → Type 0
 Holds e at = DoingHolds (e .room) (e .lists) at (e .doing)
 
--- a step's answer
-unfoldable pub steppedAt : Source → Engine → ℕ → ℕ → List ℕ → Answer → Filling
-steppedAt i e at n m Goes = comes i e (at + 1) n m
-steppedAt i e at n m (Row kind level start len) = comes i e (at + 1) (n + 1) (put m n kind level start len)
-steppedAt i e at n m Over = runAt i (state closed 0 false) at n m
-steppedAt i e at n m (Refused refusal p) = stopped refusal p
-
-unfoldable pub StepHolds : Engine → ℕ → Answer → Type 0
-StepHolds e at Goes = Holds e (at + 1)
-StepHolds e at (Row kind level start len) = Holds e (at + 1) × (start ≤ at + 1) × (len ≤ at + 1)
-StepHolds e at Over = Unit {0}
-StepHolds e at (Refused refusal p) = Unit {0}
-
 -- a step from what reading comes to, whatever the declared end
-pub record StepsFrom (begins : Source → ℕ → List ℕ → Filling) (t : Told) (s : List ℕ) (at : ℕ) (r : Stepped) : Type 0 where
-  pub is : (end : ℕ) → at < end → end ≤ length s → (n : ℕ) (m : List ℕ) → begins (source t s end) n m ≡ steppedAt (source t s end) (r .engine) at n m (r .answer)
-  pub holds : StepHolds (r .engine) at (r .answer)
+pub record StepsFrom (begins : Source → ℕ → List ℕ → Filling) (room : Room) (l : Lists) (t : Told) (s : List ℕ) (at : ℕ) (x : Fed) : Type 0 where
+  pub is : (end : ℕ) → at < end → end ≤ length s → (n : ℕ) (m : List ℕ) → begins (source t s end) n m ≡ fedAt (source t s end) (stateOf room l) x at n m
+  pub valid : FedValid at x
+  pub leads : FedLeads l x
 
 -- .. where a code is awaited
-abbrev pub CodeSteps : Room → Lists → Told → List ℕ → ℕ → Stepped → Type 0
-CodeSteps room lists t s at r = StepsFrom (λ i n m. runAt i (stateOf room lists) at n m) t s at r
+abbrev pub CodeSteps : Room → Lists → Told → List ℕ → ℕ → Fed → Type 0
+CodeSteps room l t s at x = StepsFrom (λ i n m. runAt i (stateOf room l) at n m) room l t s at x
+
+-- .. in any state
+abbrev pub Steps : Engine → Told → List ℕ → ℕ → Fed → Type 0
+Steps e t s at x = StepsFrom (λ i n m. comes i e at n m) (e .room) (e .lists) t s at x
 
 -- the byte at `at` is in no move of the room, is the code of this move, or begins the text of this one
 pub record CodedHere (t : Told) (s : List ℕ) (at : ℕ) (room : Room) (kind : ℕ) (form : Form) (next : Next) : Type 0 where

@@ -16,7 +16,7 @@ use Rattle.plain.specs.declared.feed.Pending.{Pending}
 use Rattle.plain.specs.declared.feed.Taking.{Taking}
 use Rattle.plain.specs.declared.feed.Taking.the-variants.{Text, Date, Number, Length, Block}
 use Rattle.plain.specs.declared.feed.Fed.{Fed}
-use Rattle.plain.specs.declared.feed.Fed.the-variants.{Goes, Ends, Wrong}
+use Rattle.plain.specs.declared.feed.Fed.the-variants.{Goes, Ends, Moves, Over, Wrong}
 
 abbrev pub pendingOf : Taking → Pending
 pendingOf (Text rule of) = of
@@ -62,10 +62,12 @@ Valid (Number number of) at = (of .start ≤ at) × (number ≤ numberMost)
 Valid (Length width number of) at = (1 ≤ of .start) × (of .start ≤ at) × (at < of .start + width) × (bytesOf (widthOf width) ≡ width) × (number < lengthBelow (at - of .start))
 Valid (Block until of) at = (of .start ≤ at) × (at < until)
 
--- what a byte does to it
+-- what a byte does to it; a value's byte makes no move
 unfoldable pub fedSpan : Source → Fed → ℕ → Span
 fedSpan i (Goes taking) at = spanFrom i taking (at + 1)
 fedSpan i (Ends of len) at = spans len (from (i .bytes) (at + 1) (i .end))
+fedSpan i (Moves next) at = misses 0 0
+fedSpan i Over at = misses 0 0
 fedSpan i (Wrong refusal p) at = misses refusal (i .end - p)
 
 pub record Alike (taking : Taking) (of : Pending) : Type 0 where
@@ -75,6 +77,8 @@ pub record Alike (taking : Taking) (of : Pending) : Type 0 where
 unfoldable pub Follows : Taking → ℕ → Fed → Type 0
 Follows taking at (Goes further) = Alike taking (pendingOf further) × (backOf further ≡ backOf taking) × Valid further (at + 1)
 Follows taking at (Ends of len) = Alike taking of × (of .start + len + backOf taking ≡ at + 1)
+Follows taking at (Moves next) = ⊥
+Follows taking at Over = ⊥
 Follows taking at (Wrong refusal p) = p ≤ at
 
 -- a block of n bytes from the place `first` on

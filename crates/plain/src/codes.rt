@@ -1,17 +1,8 @@
 // A step where a code is awaited: the room's move at the byte.
+use crate::feed::Fed;
 use crate::feed::Pending;
 use crate::feed::Taking;
 use crate::feed::feed_text;
-use crate::lists::Lists;
-use crate::state::Answer;
-use crate::state::Doing;
-use crate::state::Engine;
-use crate::state::Stepped;
-use crate::state::landed;
-use crate::state::level_of;
-use crate::state::moved;
-use crate::state::refused;
-use crate::state::takes;
 use moves::look::move_at;
 use moves::rooms::Form;
 use moves::rooms::Found;
@@ -20,7 +11,6 @@ use moves::rooms::Room;
 use moves::rooms::is_closed;
 use moves::rooms::strange_in;
 use table::kinds::AGENT_NAME;
-use table::limits::LEVEL_MOST;
 use table::refusals::AGENT_LEVEL;
 use table::told::Told;
 use values::bytes::wide;
@@ -31,78 +21,71 @@ ghost use Prim.Native.Nat.{ℕ, _+_, _≤_, _<_};
 ghost use Rattle.meaning.specs.Told as meaning;
 ghost use mathlib.Core.Bool.{false, _&&_};
 ghost use lib.Dec.{eqb, ltb};
-ghost use lib.ListN.{length, getD};
+ghost use lib.ListN.{length};
 ghost use Rattle.meaning.specs.Kinds.{agentName};
-ghost use Rattle.meaning.specs.Reading.{levelMost, look, none};
-ghost use Rattle.meaning.specs.Editions.{moves};
+ghost use Rattle.meaning.specs.Reading.{levelMost};
 ghost use Rattle.laws_steps.specs.Pouring.{headerMost};
 ghost use Rattle.table.specs.Told.{toldOf};
-ghost use Rattle.moves.specs.Words.{roomOf};
+ghost use Rattle.moves.specs.declared.rooms.Room as declared;
+ghost use Rattle.plain.specs.declared.lists.Lists as lists;
 ghost use Rattle.plain.specs.Lists.{Bounded, MayLead, Leads};
 ghost use Rattle.plain.specs.Steps.{CodeSteps, CodedHere, UncodedHere, NoneHere};
 
-// Takes the byte at a place where a code is awaited.
-pub fn code_step(room: Room, lists: Lists, told: Told, s: &[u8], at: usize) -> Stepped
-    requires { ⌜ (Bounded room lists) × (at < length (now s)) × (at < headerMost) ⌝ }
-    ensures { λ r. ⌜ CodeSteps room lists (toldOf told) (now (s .entry)) at r ⌝ }
+// "agent level 8".
+const LEVEL_MOST: usize = 8;
+
+// Takes the byte at a place where a code is awaited, and how many lists are open.
+pub fn code_step(room: Room, depth: usize, told: Told, s: &[u8], at: usize) -> Fed
+    requires { ⌜ (at < length (now s)) × (at < headerMost) ⌝ }
+    ensures { λ r. ⌜ ((l : lists.Lists) → l .depth ≡ depth → Bounded room l → CodeSteps room l (toldOf told) (now (s .entry)) at r) ⌝ }
 {
     let edition = told.edition;
     let found = move_at(edition, room, wide(s[at]));
     match found {
-        Found::Nothing => nothing(room, lists, at),
-        Found::Coded { kind, form, next } => coded(kind, form, next, room, lists, at),
-        Found::Uncoded { kind, rule, next } => uncoded(kind, rule, next, room, lists, s, at),
+        Found::Nothing => nothing(room, at),
+        Found::Coded { kind, form, next } => coded(kind, form, next, depth, at),
+        Found::Uncoded { kind, rule, next } => uncoded(kind, rule, next, depth, s, at),
     }
 }
 
 // A byte that no move has: behind the envelope's 01 nothing is read; elsewhere it is refused.
-fn nothing(room: Room, lists: Lists, at: usize) -> Stepped
-    ensures { λ r. ⌜ ((t : meaning.Told) (s : List ℕ) → NoneHere t s at room → CodeSteps room lists t s at r) ⌝ }
+fn nothing(room: Room, at: usize) -> Fed
+    ensures { λ r. ⌜ ((t : meaning.Told) (s : List ℕ) (l : lists.Lists) → NoneHere t s at room → CodeSteps room l t s at r) ⌝ }
 {
     if is_closed(room) {
-        return Stepped {
-            answer: Answer::Over,
-            engine: Engine {
-                room: room,
-                doing: Doing::Code,
-                lists: lists,
-            },
-        };
+        return Fed::Over;
     }
-    refused(strange_in(room), at, room, lists)
+    Fed::Wrong {
+        refusal: strange_in(room),
+        at: at,
+    }
 }
 
 // "12: agent of level 9, its 02."
-fn too_deep(kind: u32, level: u32) -> bool
+fn too_deep(kind: u32, level: usize) -> bool
     ensures { λ r. ⌜ r ≡ (eqb kind agentName && ltb levelMost level) ⌝ }
 {
     (kind == AGENT_NAME) & (LEVEL_MOST < level)
 }
 
 // A move whose code is the byte.
-fn coded(kind: u32, form: Form, next: Next, room: Room, lists: Lists, at: usize) -> Stepped
-    requires { ⌜ (MayLead kind next lists) × (at < headerMost) ⌝ }
-    ensures { λ r. ⌜ ((t : meaning.Told) (s : List ℕ) → CodedHere t s at room kind form next → CodeSteps room lists t s at r) ⌝ }
+fn coded(kind: u32, form: Form, next: Next, depth: usize, at: usize) -> Fed
+    requires { ⌜ at < headerMost ⌝ }
+    ensures { λ r. ⌜ ((t : meaning.Told) (s : List ℕ) (room : declared.Room) (l : lists.Lists) → l .depth ≡ depth → MayLead kind next l → CodedHere t s at room kind form next → CodeSteps room l t s at r) ⌝ }
 {
-    let level = level_of(lists);
-    if too_deep(kind, level) {
-        return refused(AGENT_LEVEL, at, room, lists);
+    if too_deep(kind, depth) {
+        return Fed::Wrong {
+            refusal: AGENT_LEVEL,
+            at: at,
+        };
     }
-    begun(kind, form, next, level, room, lists, at)
+    begun(kind, form, next, at)
 }
 
 // .. by the form of its value.
-fn begun(
-    kind: u32,
-    form: Form,
-    next: Next,
-    level: u32,
-    room: Room,
-    lists: Lists,
-    at: usize,
-) -> Stepped
-    requires { ⌜ (Leads next lists) × (level ≡ lists .depth) × ((eqb kind agentName && ltb levelMost level) ≡ false) × (at < headerMost) ⌝ }
-    ensures { λ r. ⌜ ((t : meaning.Told) (s : List ℕ) → CodedHere t s at room kind form next → CodeSteps room lists t s at r) ⌝ }
+fn begun(kind: u32, form: Form, next: Next, at: usize) -> Fed
+    requires { ⌜ at < headerMost ⌝ }
+    ensures { λ r. ⌜ ((t : meaning.Told) (s : List ℕ) (room : declared.Room) (l : lists.Lists) → Leads next l → (eqb kind agentName && ltb levelMost (l .depth)) ≡ false → CodedHere t s at room kind form next → CodeSteps room l t s at r) ⌝ }
 {
     let of = Pending {
         kind: kind,
@@ -110,54 +93,50 @@ fn begun(
         start: at + 1,
     };
     match form {
-        Form::Text(rule) => takes(Taking::Text(rule, of), room, lists),
+        Form::Text(rule) => Fed::Goes(Taking::Text(rule, of)),
         Form::Date {
             absolute,
             designated,
-        } => takes(Taking::Date(absolute, designated, of), room, lists),
-        Form::Number => takes(Taking::Number(0, of), room, lists),
-        Form::OneByte => takes(Taking::Length(1, 0, of), room, lists),
-        Form::TwoBytes => takes(Taking::Length(2, 0, of), room, lists),
-        Form::FourBytes => takes(Taking::Length(4, 0, of), room, lists),
-        Form::Itself => moved(row_at(kind, level, at, 1), next, lists),
-        Form::Opens => moved(row_at(kind, level, at, 0), next, lists),
-        Form::Quiet => moved(Answer::Goes, next, lists),
+        } => Fed::Goes(Taking::Date(absolute, designated, of)),
+        Form::Number => Fed::Goes(Taking::Number(0, of)),
+        Form::OneByte => Fed::Goes(Taking::Length(1, 0, of)),
+        Form::TwoBytes => Fed::Goes(Taking::Length(2, 0, of)),
+        Form::FourBytes => Fed::Goes(Taking::Length(4, 0, of)),
+        Form::Itself => row_at(kind, next, at, 1),
+        Form::Opens => row_at(kind, next, at, 0),
+        Form::Quiet => Fed::Moves(next),
     }
 }
 
 // A row at the code itself.
-fn row_at(kind: u32, level: u32, at: usize, length: usize) -> Answer
-    ensures { λ r. ⌜ r ≡ Answer.Row kind level at length ⌝ }
+fn row_at(kind: u32, next: Next, at: usize, length: usize) -> Fed
+    ensures { λ r. ⌜ r ≡ Fed.Ends (record { kind = kind; next = next; start = at }) length ⌝ }
 {
-    Answer::Row {
-        kind: kind,
-        level: level,
-        start: at,
-        length: length,
-    }
+    Fed::Ends(
+        Pending {
+            kind: kind,
+            next: next,
+            start: at,
+        },
+        length,
+    )
 }
 
 // A text that begins at the byte.
-fn uncoded(
-    kind: u32,
-    rule: Rule,
-    next: Next,
-    room: Room,
-    lists: Lists,
-    s: &[u8],
-    at: usize,
-) -> Stepped
-    requires { ⌜ (MayLead kind next lists) × (at < length (now s)) ⌝ }
-    ensures { λ r. ⌜ ((t : meaning.Told) → UncodedHere t (now (s .entry)) at room kind rule next → CodeSteps room lists t (now (s .entry)) at r) ⌝ }
+fn uncoded(kind: u32, rule: Rule, next: Next, depth: usize, s: &[u8], at: usize) -> Fed
+    requires { ⌜ at < length (now s) ⌝ }
+    ensures { λ r. ⌜ ((t : meaning.Told) (room : declared.Room) (l : lists.Lists) → l .depth ≡ depth → MayLead kind next l → UncodedHere t (now (s .entry)) at room kind rule next → CodeSteps room l t (now (s .entry)) at r) ⌝ }
 {
-    if too_deep(kind, level_of(lists)) {
-        return refused(AGENT_LEVEL, at, room, lists);
+    if too_deep(kind, depth) {
+        return Fed::Wrong {
+            refusal: AGENT_LEVEL,
+            at: at,
+        };
     }
     let of = Pending {
         kind: kind,
         next: next,
         start: at,
     };
-    let fed = feed_text(rule, of, s, at);
-    landed(fed, room, lists)
+    feed_text(rule, of, s, at)
 }

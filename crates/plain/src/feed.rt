@@ -42,10 +42,13 @@ pub enum Taking {
     Block(usize, Pending),
 }
 
-// What a byte does to it: it is taken further; it ends, with this length; or the byte is wrong.
+// What a byte does: a value is taken further; a row ends, with this length; a move without a row was made; the envelope's 01 was the byte before; or the
+// byte is refused.
 pub enum Fed {
     Goes(Taking),
     Ends(Pending, usize),
+    Moves(Next),
+    Over,
     Wrong { refusal: u32, at: usize },
 }
 

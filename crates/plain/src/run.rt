@@ -1,12 +1,14 @@
 // The engine over the bytes of an envelope's inside.
 use crate::engine::step;
+use crate::feed::Fed;
 use crate::feed::Taking;
 use crate::lists::LISTS_MOST;
 use crate::lists::Lists;
 use crate::lists::MANY;
-use crate::state::Answer;
 use crate::state::Doing;
 use crate::state::Engine;
+use crate::state::behind;
+use crate::state::taken_on;
 use moves::rooms::Room;
 use moves::rooms::is_closed;
 use table::answers::Stage;
@@ -26,6 +28,7 @@ ghost use Rattle.values.specs.Stages.{Inside};
 ghost use Rattle.table.specs.Told.{toldOf};
 ghost use Rattle.read_rows.specs.Stages.{StateRead};
 ghost use Rattle.moves.specs.Words.{roomOf};
+ghost use Rattle.plain.specs.Lists.{Nested};
 ghost use Rattle.plain.specs.Steps.{Holds, PastText, Begins, Ended};
 
 // Takes the inside of an envelope, from behind its length up to its 01; nothing is read from `end` on. Answers the place behind it and the rows then, or
@@ -51,30 +54,40 @@ pub fn run_inside(
             return ended(engine, place, count);
         }
         let r = step(engine, told, s, place);
-        let answer = r.answer;
-        match answer {
-            Answer::Refused { refusal, at: fault } => return Stage::Refused {
+        match r {
+            Fed::Wrong { refusal, at: fault } => return Stage::Refused {
                 refusal: refusal,
                 at: fault,
             },
-            Answer::Over => return Stage::Go(place, count),
-            Answer::Goes => {
-                engine = r.engine;
+            Fed::Over => return Stage::Go(place, count),
+            Fed::Goes(taking) => {
+                engine = taken_on(engine, taking);
                 here = place + 1;
             }
-            Answer::Row {
-                kind,
-                level,
-                start,
-                length,
-            } => {
-                put_row(rows, count, kind, level, start, length);
-                engine = r.engine;
+            Fed::Moves(next) => {
+                engine = behind(engine, next);
+                here = place + 1;
+            }
+            Fed::Ends(of, length) => {
+                let kind = of.kind;
+                let start = of.start;
+                let next = of.next;
+                put_row(rows, count, kind, level_of(engine), start, length);
+                engine = behind(engine, next);
                 count += 1;
                 here = place + 1;
             }
         }
     }
+}
+
+// The level of rows: how many lists are open.
+fn level_of(engine: Engine) -> u32
+    requires { ⌜ Nested (engine .lists) ⌝ }
+    ensures { λ r. ⌜ r ≡ engine .lists .depth ⌝ }
+{
+    let depth = engine.lists.depth;
+    depth as u32
 }
 
 // Where an envelope's inside begins.

@@ -25,22 +25,22 @@ enum-known-found : tie.Need-enum-known-found
 enum-known-found c = search needs
 
 coded-requires : tie.Need-coded-requires
-coded-requires c κs = (may-lead (c .before .before .before .before .before .before .before .pre .0) _ _ _ _ _ _ (coded-here (toldOf (c .before .before .before .before .before .before .before .args .told)) (c .before .before .before .before .before .before .before .args .s .now) (c .before .before .before .before .before .before .before .args .at) (c .before .before .before .before .before .before .before .args .room) (c .before .before .before .move-at .result) (c .before .before .before .before .wide .ensures) (omega (arith, c .before .before .before .before .wide .ensures, c .before .before .before .before .before .before .shared-slice-known .given (c .before .before .before .before .before .before .before .args .at))) (c .before .before .before .move-at .ensures) (c .before .found .given .1) .is), c .before .before .before .before .before .before .before .pre .2)
+coded-requires c κs = c .before .before .before .before .before .before .before .pre .1
 
 enum-known-found-2 : tie.Need-enum-known-found-2
 enum-known-found-2 c = search needs
 
 uncoded-requires : tie.Need-uncoded-requires
-uncoded-requires c κs = (may-lead (c .before .before .before .before .before .before .before .pre .0) _ _ _ _ _ _ (uncoded-here (toldOf (c .before .before .before .before .before .before .before .args .told)) (c .before .before .before .before .before .before .before .args .s .now) (c .before .before .before .before .before .before .before .args .at) (c .before .before .before .before .before .before .before .args .room) (c .before .before .before .move-at .result) (c .before .before .before .before .wide .ensures) (omega (arith, c .before .before .before .before .wide .ensures, c .before .before .before .before .before .before .shared-slice-known .given (c .before .before .before .before .before .before .before .args .at))) (c .before .before .before .move-at .ensures) (c .before .found2 .given .1) .is), c .before .before .before .before .before .before .before .pre .1)
+uncoded-requires c κs = c .before .before .before .before .before .before .before .pre .0
 
 returns : tie.Need-returns
-returns c = c .nothing .ensures (toldOf (c .before .before .before .before .before .before .before .args .told)) (c .before .before .before .before .before .before .before .args .s .now) (none-here (toldOf (c .before .before .before .before .before .before .before .args .told)) (c .before .before .before .before .before .before .before .args .s .now) (c .before .before .before .before .before .before .before .args .at) (c .before .before .before .before .before .before .before .args .room) (c .before .before .before .move-at .result) (c .before .before .before .before .wide .ensures) (omega (arith, c .before .before .before .before .wide .ensures, c .before .before .before .before .before .before .shared-slice-known .given (c .before .before .before .before .before .before .before .args .at))) (c .before .before .before .move-at .ensures) (c .before .enum-told .given .1))
+returns c = λ l depth bounded. c .nothing .ensures (toldOf (c .before .before .before .before .before .before .before .args .told)) (c .before .before .before .before .before .before .before .args .s .now) l (none-here (toldOf (c .before .before .before .before .before .before .before .args .told)) (c .before .before .before .before .before .before .before .args .s .now) (c .before .before .before .before .before .before .before .args .at) (c .before .before .before .before .before .before .before .args .room) (c .before .before .before .move-at .result) (c .before .before .before .before .wide .ensures) (omega (arith, c .before .before .before .before .wide .ensures, c .before .before .before .before .before .before .shared-slice-known .given (c .before .before .before .before .before .before .before .args .at))) (c .before .before .before .move-at .ensures) (c .before .enum-told .given .1))
 
 returns-2 : tie.Need-returns-2
-returns-2 c = c .coded .ensures (toldOf (c .before .before .before .before .before .before .before .before .args .told)) (c .before .before .before .before .before .before .before .before .args .s .now) (coded-here (toldOf (c .before .before .before .before .before .before .before .before .args .told)) (c .before .before .before .before .before .before .before .before .args .s .now) (c .before .before .before .before .before .before .before .before .args .at) (c .before .before .before .before .before .before .before .before .args .room) (c .before .before .before .before .move-at .result) (c .before .before .before .before .before .wide .ensures) (omega (arith, c .before .before .before .before .before .wide .ensures, c .before .before .before .before .before .before .before .shared-slice-known .given (c .before .before .before .before .before .before .before .before .args .at))) (c .before .before .before .before .move-at .ensures) (c .before .before .found .given .1))
+returns-2 c = λ l depth bounded. let here = coded-here (toldOf (c .before .before .before .before .before .before .before .before .args .told)) (c .before .before .before .before .before .before .before .before .args .s .now) (c .before .before .before .before .before .before .before .before .args .at) (c .before .before .before .before .before .before .before .before .args .room) (c .before .before .before .before .move-at .result) (c .before .before .before .before .before .wide .ensures) (omega (arith, c .before .before .before .before .before .wide .ensures, c .before .before .before .before .before .before .before .shared-slice-known .given (c .before .before .before .before .before .before .before .before .args .at))) (c .before .before .before .before .move-at .ensures) (c .before .before .found .given .1) in c .coded .ensures (toldOf (c .before .before .before .before .before .before .before .before .args .told)) (c .before .before .before .before .before .before .before .before .args .s .now) (c .before .before .before .before .before .before .before .before .args .room) l depth (may-lead bounded _ _ _ _ _ _ (here .is)) here
 
 returns-3 : tie.Need-returns-3
-returns-3 c = c .uncoded .ensures (toldOf (c .before .before .before .before .before .before .before .before .args .told)) (uncoded-here (toldOf (c .before .before .before .before .before .before .before .before .args .told)) (c .before .before .before .before .before .before .before .before .args .s .now) (c .before .before .before .before .before .before .before .before .args .at) (c .before .before .before .before .before .before .before .before .args .room) (c .before .before .before .before .move-at .result) (c .before .before .before .before .before .wide .ensures) (omega (arith, c .before .before .before .before .before .wide .ensures, c .before .before .before .before .before .before .before .shared-slice-known .given (c .before .before .before .before .before .before .before .before .args .at))) (c .before .before .before .before .move-at .ensures) (c .before .before .found2 .given .1))
+returns-3 c = λ l depth bounded. let here = uncoded-here (toldOf (c .before .before .before .before .before .before .before .before .args .told)) (c .before .before .before .before .before .before .before .before .args .s .now) (c .before .before .before .before .before .before .before .before .args .at) (c .before .before .before .before .before .before .before .before .args .room) (c .before .before .before .before .move-at .result) (c .before .before .before .before .before .wide .ensures) (omega (arith, c .before .before .before .before .before .wide .ensures, c .before .before .before .before .before .before .before .shared-slice-known .given (c .before .before .before .before .before .before .before .before .args .at))) (c .before .before .before .before .move-at .ensures) (c .before .before .found2 .given .1) in c .uncoded .ensures (toldOf (c .before .before .before .before .before .before .before .before .args .told)) (c .before .before .before .before .before .before .before .before .args .room) l depth (may-lead bounded _ _ _ _ _ _ (here .is)) here
 
 pub code-step-spec : {M : Type 1} → statement M
 code-step-spec =

@@ -5,31 +5,17 @@ use borrow.Author.Needs.{needs}
 use Rattle.plain.proofs.codes.coded.Statement.{statement}
 use Rattle.plain.proofs.codes.coded.Tie as tie
 
-level-of-requires : tie.Need-level-of-requires
-level-of-requires c κs = c .pre .0 .nested
-
 too-deep-requires : tie.Need-too-deep-requires
 too-deep-requires c κs = search needs
 
-refused-requires : tie.Need-refused-requires
-refused-requires c κs = search needs
-
 returns : tie.Need-returns
-returns c = λ t s here. coded-deep t s (c .before .before .before .before .args .at) (c .before .before .before .before .args .room) (c .before .before .before .before .args .lists) _ (here .is) (rw (c .before .before .before .level-of .ensures) at (sym (c .before .before .too-deep .ensures) ∙ c .before .if1 .taken)) (c .refused .ensures)
+returns c = λ t s room l depth leads here. coded-deep t s (c .before .before .args .at) room l _ (here .is) (rw (← depth) at (sym (c .before .too-deep .ensures) ∙ c .if1 .taken))
 
 begun-requires : tie.Need-begun-requires
-begun-requires c κs = (leads-on (c .before .before .before .pre .0) (rw (c .before .before .level-of .ensures) at (sym (c .before .too-deep .ensures) ∙ c .if1 .left)), c .before .before .level-of .ensures, sym (c .before .too-deep .ensures) ∙ c .if1 .left, c .before .before .before .pre .1)
+begun-requires c κs = c .before .before .pre
 
 returns-2 : tie.Need-returns-2
-returns-2 c = c .begun .ensures
+returns-2 c = λ t s room l depth leads here. let flat = rw (← depth) at (sym (c .before .before .too-deep .ensures) ∙ c .before .if1 .left) in c .begun .ensures t s room l (leads-on leads flat) flat here
 
 pub coded-spec : {M : Type 1} → statement M
-coded-spec =
-    tie.close
-    (tie.spec
-    level-of-requires
-    too-deep-requires
-    refused-requires
-    returns
-    begun-requires
-    returns-2)
+coded-spec = tie.close (tie.spec too-deep-requires returns begun-requires returns-2)

@@ -1,5 +1,5 @@
 -- `codes::nothing`: behind the envelope's 01, or elsewhere.
-use mathlib.Core.Path.{refl, sym, _∙_}
+use mathlib.Core.Path.{sym, _∙_}
 use Rattle.plain.proofs.Coding.{none-closed, none-strange}
 use borrow.Author.Needs.{needs}
 use Rattle.plain.proofs.codes.nothing.Statement.{statement}
@@ -9,17 +9,13 @@ is-closed-requires : tie.Need-is-closed-requires
 is-closed-requires c κs = search needs
 
 returns : tie.Need-returns
-returns c = λ t s here. none-closed t s (c .before .before .args .at) (c .before .before .args .room) (c .before .before .args .lists) (sym (c .before .is-closed .ensures) ∙ c .if1 .taken) refl
+returns c = λ t s l here. none-closed t s (c .before .before .args .at) (c .before .before .args .room) l (sym (c .before .is-closed .ensures) ∙ c .if1 .taken)
 
 strange-in-requires : tie.Need-strange-in-requires
 strange-in-requires c κs = search needs
 
-refused-requires : tie.Need-refused-requires
-refused-requires c κs = search needs
-
 returns-2 : tie.Need-returns-2
-returns-2 c = λ t s here. none-strange t s (c .before .before .before .before .args .at) (c .before .before .before .before .args .room) (c .before .before .before .before .args .lists) here (sym (c .before .before .before .is-closed .ensures) ∙ c .before .before .if1 .left) (c .before .strange-in .ensures) (c .refused .ensures)
+returns-2 c = λ t s l here. none-strange t s (c .before .before .before .args .at) (c .before .before .before .args .room) l here (sym (c .before .before .is-closed .ensures) ∙ c .before .if1 .left) (c .strange-in .ensures)
 
 pub nothing-spec : {M : Type 1} → statement M
-nothing-spec =
-    tie.close (tie.spec is-closed-requires returns strange-in-requires refused-requires returns-2)
+nothing-spec = tie.close (tie.spec is-closed-requires returns strange-in-requires returns-2)
