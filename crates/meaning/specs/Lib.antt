@@ -21,6 +21,7 @@ pub mod Relay
 pub mod Payload
 pub mod Plain
 pub mod Listing
+pub mod Figures
 -- Instances, which are theorems: how a case is held against the definitions, document 01's own, then our own, each file named after what it tries.
 pub mod Cases
 pub mod Instances
