@@ -1,2 +1,5 @@
 -- The laws that the proofs of several functions share.
 pub mod Judging
+pub mod Raising
+pub mod Bounds
+pub mod Answers
