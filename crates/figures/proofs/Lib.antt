@@ -3,3 +3,4 @@ pub mod Judging
 pub mod Raising
 pub mod Bounds
 pub mod Answers
+pub mod Entries

@@ -7,6 +7,7 @@ use native.Mathlib.Omega.{arith}
 use borrow.Author.Tests.{eqb-true, eqb-false}
 use lib.Dec.{T, eqb, eqb→eq}
 use lib.ListN.{length, set, getD, replicate}
+use lib.Seq.{getD-set-other}
 use Rattle.meaning.specs.Basics.{pick, every}
 use Rattle.meaning.specs.Told.{Edition, B, D}
 use Rattle.meaning.specs.Cases.{same, upFrom}
@@ -52,6 +53,18 @@ module _ (ns : List ℕ) (long : length ns ≡ figuresBorrowed) where
       ∙ ap (λ (l : List ℕ). raised l 15 1) (raised-sums ns (raised zeros 29 bytes) 28 envelopes (omega arith) (omega arith))
       ∙ raised-sums ns (raised (raised zeros 29 bytes) 28 envelopes) 15 1 (omega arith) (omega arith)
       ∙ (let p : 0 + bytes ≡ bytes = omega arith in let q : 0 + envelopes ≡ envelopes = omega arith in rw (p, q) refl)
+
+  -- .. and together
+  pub taken-set : (e : Edition) (envelopes bytes : ℕ)
+      → set (set (set ns (firstOf e + 14) (getD ns (firstOf e + 14) 0 + bytes)) (firstOf e + 13) (getD ns (firstOf e + 13) 0 + envelopes)) (firstOf e) (getD ns (firstOf e) 0 + 1) ≡ sums ns (addsOf (taken e envelopes bytes))
+  taken-set e envelopes bytes =
+      let f = firstOf e in
+      let with-bytes = raised ns (f + 14) bytes in
+      let p : getD with-bytes (f + 13) 0 ≡ getD ns (f + 13) 0 = getD-set-other ns (f + 14) (f + 13) (getD ns (f + 14) 0 + bytes) 0 (λ q. omega arith) in
+      let with-both = raised with-bytes (f + 13) envelopes in
+      let r : getD with-both f 0 ≡ getD ns f 0 =
+      getD-set-other with-bytes (f + 13) f (getD with-bytes (f + 13) 0 + envelopes) 0 (λ q. omega arith) ∙ getD-set-other ns (f + 14) f (getD ns (f + 14) 0 + bytes) 0 (λ q. omega arith) in
+      ap (λ (n : ℕ). set (set with-bytes (f + 13) (n + envelopes)) f (getD ns f 0 + 1)) (sym p) ∙ ap (λ (n : ℕ). set with-both f (n + 1)) (sym r) ∙ taken-raised e envelopes bytes
 
 -- a refusal's number: one computed test over 2 to 13 in both editions
 

@@ -58,8 +58,8 @@ loop-again c =
     let os = start .args .others .now in
     let stays = ap (λ x. getD x (l .i) 0) (l .inv .2) ∙ next-stays (l .i) ns os in
     let next : set (l .figures) (l .i) (getD (l .figures) (l .i) 0 + getD os (l .i) 0) ≡ firstSums (l .i + 1) ns os =
-        ap (λ n. set (l .figures) (l .i) (n + getD os (l .i) 0)) stays ∙ ap (λ x. set x (l .i) (getD ns (l .i) 0 + getD os (l .i) 0)) (l .inv .2)
-        ∙ next-sum (l .i) ns os (omega (arith, start .pre .1 .long)) (start .pre .1 .long ∙ sym (start .pre .0 .long)) ∙ rw (add-one (l .i)) refl in
+    ap (λ n. set (l .figures) (l .i) (n + getD os (l .i) 0)) stays ∙ ap (λ x. set x (l .i) (getD ns (l .i) 0 + getD os (l .i) 0)) (l .inv .2)
+    ∙ next-sum (l .i) ns os (omega (arith, start .pre .1 .long)) (start .pre .1 .long ∙ sym (start .pre .0 .long)) ∙ rw (add-one (l .i)) refl in
     (omega arith, ap length next ∙ sums-long (l .i + 1) ns os ∙ start .pre .1 .long, next)
 
 same-length : tie.Need-same-length Inv-loop μ-loop
