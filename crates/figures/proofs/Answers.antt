@@ -41,6 +41,10 @@ pub few-are : {ns : List ℕ} {n : ℕ} → Judged ns n → n ≤ messagesMost �
 few-are (none q) h = absurd (omega arith)
 few-are (figures q f) h = q
 
+pub many-none : {ns : List ℕ} {n : ℕ} → Judged ns n → messagesMost < n → areFigures ns ≡ false
+many-none (none q) h = q
+many-none (figures q f) h = let few = f .few in absurd (omega (arith, few))
+
 -- joining
 not-joinable : {ns os : List ℕ} {n m : ℕ} → Judged ns n → Judged os m → messagesMost < n + m → joinable ns os ≡ false
 unfolding joinable

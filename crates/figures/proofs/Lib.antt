@@ -4,3 +4,4 @@ pub mod Raising
 pub mod Bounds
 pub mod Answers
 pub mod Entries
+pub mod Reporting

@@ -73,8 +73,8 @@ returns c =
     let a = c .before .before .before .args in
     let ns = a .figures .now in
     λ e q.
-      ap (λ f. set (set (set ns (f + 14) (getD ns (f + 14) 0 + a .bytes)) (f + 13) (getD ns (f + 13) 0 + a .envelopes)) f (getD ns f 0 + 1)) q
-      ∙ taken-set ns (c .before .before .before .pre .0 .long) e (a .envelopes) (a .bytes)
+    ap (λ f. set (set (set ns (f + 14) (getD ns (f + 14) 0 + a .bytes)) (f + 13) (getD ns (f + 13) 0 + a .envelopes)) f (getD ns f 0 + 1)) q
+    ∙ taken-set ns (c .before .before .before .pre .0 .long) e (a .envelopes) (a .bytes)
 
 pub enter-taken-spec : {M : Type 1} → statement M
 enter-taken-spec =
