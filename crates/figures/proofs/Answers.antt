@@ -5,10 +5,11 @@ use mathlib.Core.Bool.{Bool, true, false}
 use mathlib.Core.Path.{_≡_, refl, ap, sym, _∙_}
 use native.Mathlib.Omega.{arith}
 use borrow.Author.Tests.{le-leb, lt-leb, lt-ltb, le-ltb}
+use lib.Dec.{T}
 use Rattle.meaning.specs.Basics.{pick}
 use Rattle.meaning.specs.Plain.{Outcome, outcome}
 use Rattle.meaning.specs.Figures.{Message, messagesIn, messagesMost, areFigures, sums, addsOf, entryOf, takesMore, addAnswer, addFigures, joinable, joinAnswer, joinFigures}
-use Rattle.figures.specs.declared.Figured.{Figured}
+use Rattle.laws_steps.specs.Logic.{areBytes}
 use Rattle.figures.specs.Stages.{judged}
 use Rattle.figures.specs.Promises.{message, AddPromise, JoinPromise}
 use Rattle.figures.proofs.Bounds.{AreFigures, figures-are}
@@ -77,10 +78,10 @@ unfolding takesMore
 more (none q) h = absurd (omega arith)
 more {ns} (figures q f) h = rw (q, lt-ltb (messagesIn ns) messagesMost h) refl
 
-pub add-full : (edition : ℕ) (input ns : List ℕ) {n : ℕ} → Judged ns n → messagesMost ≤ n → AddPromise edition input ns ns (record { answer = 19; place = 0 })
+pub add-full : (edition : ℕ) (input ns : List ℕ) {n : ℕ} → T (areBytes input) → Judged ns n → messagesMost ≤ n → AddPromise edition input ns ns (record { answer = 19; place = 0 })
 unfolding addAnswer addFigures
-add-full edition input ns i h = record { answers = rw (not-more i h) refl; figures = rw (not-more i h) refl }
+add-full edition input ns t i h = record { bytes = t; answers = rw (not-more i h) refl; figures = rw (not-more i h) refl }
 
-pub add-done : (edition : ℕ) (input ns after : List ℕ) {n : ℕ} → Judged ns n → n < messagesMost → after ≡ sums ns (addsOf (entryOf (message edition input))) → AddPromise edition input ns after (record { answer = 0; place = 0 })
+pub add-done : (edition : ℕ) (input ns after : List ℕ) {n : ℕ} → T (areBytes input) → Judged ns n → n < messagesMost → after ≡ sums ns (addsOf (entryOf (message edition input))) → AddPromise edition input ns after (record { answer = 0; place = 0 })
 unfolding addAnswer addFigures
-add-done edition input ns after i h q = record { answers = rw (more i h) refl; figures = q ∙ rw (more i h) refl }
+add-done edition input ns after t i h q = record { bytes = t; answers = rw (more i h) refl; figures = q ∙ rw (more i h) refl }
