@@ -37,6 +37,7 @@ pub mod PresentCases
 pub mod LookupCases
 pub mod WhichCases
 pub mod RelayCases
+pub mod FigureCases
 pub mod CodeCases
 pub mod FurtherCases
 pub mod DigitCases
