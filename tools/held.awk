@@ -22,7 +22,7 @@ function defined(name, where,  f, list, n, i) {
 
 # the files of a basename, in the layers that the documents speak of
 function specs(b,  out, i, n, list) {
-  n = split("meaning laws_steps laws_tables laws_demands certificate", list, " ")
+  n = split("meaning papers laws_steps laws_tables laws_demands certificate", list, " ")
   for (i = 1; i <= n; i++) if (("crates/" list[i] "/specs/" b) in file) out = out " crates/" list[i] "/specs/" b
   return out
 }
@@ -61,7 +61,8 @@ skip || /^\|---/ { next }
       if (meaning) {
         k = split(part[i], w, /[^A-Za-z]+/)
         for (j = 1; j <= k; j++) {
-          if (j > 1 && w[j - 1] == "laws" && specs(w[j] ".antt") != "") module = specs(w[j] ".antt") " "
+          if (j > 1 && w[j - 1] == "papers" && ("crates/papers/specs/" w[j] ".antt") in file) module = " crates/papers/specs/" w[j] ".antt "
+          else if (j > 1 && w[j - 1] == "laws" && specs(w[j] ".antt") != "") module = specs(w[j] ".antt") " "
           else if (("crates/meaning/specs/" w[j] ".antt") in file) module = " crates/meaning/specs/" w[j] ".antt "
         }
       }

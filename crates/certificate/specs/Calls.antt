@@ -30,7 +30,7 @@ use Rattle.certificate.specs.OneAnswer.{one-read}
 use Rattle.certificate.specs.Lent.{firstRows, behindRows, rows-read, rows-behind, bytes-written, accepted-call, fills, refuses, lays, written-call, same-count}
 
 -- a call that answers 0 had room for the rows that it read
-pub had-room : {edition : ℕ} {input before words after words′ : List ℕ} {a : declared.Reply} → ReadPromise edition input before words a after words′ → a .answer ≡ 0 → {place : ℕ} {rows : List Placed} → read edition input ≡ accepted place rows → length rows ≤ roomWith before words
+pub had-room : {w : Strictness} {edition : ℕ} {input before words after words′ : List ℕ} {a : declared.Reply} → ReadsBy w edition input before words a after words′ → a .answer ≡ 0 → {place : ℕ} {rows : List Placed} → readBy w edition input ≡ accepted place rows → length rows ≤ roomWith before words
 unfolding answerBy
 had-room {before = before} {words = words} {a = a} p z {place} {rows} is = at (leb (length rows) (roomWith before words)) refl (ap (λ (x : Reply). x .answer) (p .answers ∙ ap (readReply (roomWith before words)) is))
   where

@@ -7,6 +7,7 @@ pub mod Tolerant
 pub mod Walks
 pub mod Presence
 pub mod Present
+pub mod Papers
 pub mod Lookup
 pub mod Which
 pub mod PayloadPart

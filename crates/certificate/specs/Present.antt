@@ -41,7 +41,7 @@ some-present edition rows pool code t = (declaredOf (presentAnswer edition rows 
 
 module _ {edition : ℕ} {rows pool : List ℕ} {code : ℕ} {a : declared.Reply} (p : PresentPromise edition rows pool code a) where
   -- 1. "Proved equal to the published procedure over all envelopes": an answer of 0 is its row, and the row count.
-  well : a .answer ≡ 0 → AllWell edition rows pool code
+  pub well : a .answer ≡ 0 → AllWell edition rows pool code
   well z = zero-means edition rows pool code (sym (ap (λ (r : Reply). r .answer) (p .answers)) ∙ z)
 
   pub present-by-procedure : a .answer ≡ 0 → (a .place ≡ present code (ranksOf rows)) × (a .rows ≡ roomOf rows)
