@@ -76,14 +76,18 @@ static struct month so_often(const struct month *month, unsigned times)
     return all;
 }
 
-/* The report in just the room that it needs, and in a byte less and in none: nothing is then written, and the bytes needed are told. */
+/* The report in just the room that it needs and in a byte more, which stays; and in a byte less and in none: nothing is then written, and the bytes needed
+   are told. */
 static bool reports(struct bench *bench, const struct month *month, const char *text)
 {
     size_t length = strlen(text);
     struct month kept = *month;
-    memset(bench->output, 0xA5, length + 1);
-    bool whole = answers(second_figures_report(month->numbers, FIGURES, bench->output, length), ACCEPTED, length)
-                 && memcmp(bench->output, text, length) == 0 && bench->output[length] == 0xA5;
+    bool whole = true;
+    for (size_t room = length; whole && room <= length + 1; room++) {
+        memset(bench->output, 0xA5, length + 1);
+        whole = answers(second_figures_report(month->numbers, FIGURES, bench->output, room), ACCEPTED, length)
+                && memcmp(bench->output, text, length) == 0 && bench->output[length] == 0xA5;
+    }
     if (!whole)
         printf("got\n%.*s", (int)length, (const char *)bench->output);
     memset(bench->output, 0xA5, length + 1);
@@ -122,6 +126,14 @@ static bool no_figures_with(struct bench *bench, size_t place, uint64_t number, 
     return no_figures(bench, &month, FIGURES);
 }
 
+/* An extension of 65,540 bytes, the least that has a long length, filled with a comment; then M. */
+static void build_long_extension(struct header *header)
+{
+    start_with(header, "fd000000010004610020" DATE "0105");
+    add_run(header, 'x', LONG_LEAST - header->length - 2);
+    add_hex(header, "0001" M);
+}
+
 static void run_few(struct bench *bench)
 {
     struct month month = empty_month();
@@ -152,6 +164,10 @@ static void run_few(struct bench *bench)
     build_filled(&bench->header, LONG_FRONT, ENVELOPE_LIMIT);
     adds(bench, EDITION_B, &month, ACCEPTED);
     judge(bench, "figures: the longest envelope", reports(bench, &month, "1\t1\t" NO_REFUSAL "1\t1048576\t1048576\t0\n2\t" NONE "0\n"));
+    month = empty_month();
+    build_long_extension(&bench->header);
+    adds(bench, EDITION_D, &month, ACCEPTED);
+    judge(bench, "figures: an extension with a long length", reports(bench, &month, "1\t" NONE "2\t1\t" NO_REFUSAL "2\t65555\t65555\t0\n0\n"));
 }
 
 /* Lays a header that a reading refuses with this number. */
@@ -205,7 +221,13 @@ static void run_means(struct bench *bench)
     longer = so_often(&longer, 999);
     joins(&longer, &month, ACCEPTED);
     judge(bench, "figures: a mean with a large remainder", reports(bench, &month, "1\t" NONE "2\t1999\t" NO_REFUSAL "2999\t46985\t23\t1008\n0\n"));
-    /* bytes past 32 bits: sixteen envelopes of the longest, for each of a million messages */
+    /* a sum that passes 32 bits, and then sixteen envelopes of the longest, for each of a million messages */
+    month = empty_month();
+    month.numbers[FIGURE_ACCEPTED] = 256;
+    month.numbers[FIGURE_ENVELOPES] = 4096;
+    month.numbers[FIGURE_BYTES] = UINT32_MAX;
+    adds_hex(bench, EDITION_B, X M, &month);
+    judge(bench, "figures: bytes past 32 bits", reports(bench, &month, "1\t257\t" NO_REFUSAL "4098\t4294967327\t16711935\t32\n2\t" NONE "0\n"));
     month = empty_month();
     month.numbers[FIGURE_ACCEPTED] = MESSAGES_MOST;
     month.numbers[FIGURE_ENVELOPES] = UINT64_C(16) * MESSAGES_MOST;
