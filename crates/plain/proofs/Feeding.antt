@@ -119,7 +119,7 @@ module _ (t : Told) (s : List ℕ) (at : ℕ) where
 
   -- Blocks
   module _ (until : ℕ) (of : Pending) (v : Valid (Block until of) at) where
-    block-on : (end : ℕ) → at < end → end ≤ length s → span (at - of .start) (takeBytes (until - at) (from s at end)) ≡ span (at + 1 - of .start) (takeBytes (until - (at + 1)) (from s (at + 1) end))
+    pub block-on : (end : ℕ) → at < end → end ≤ length s → span (at - of .start) (takeBytes (until - at) (from s at end)) ≡ span (at + 1 - of .start) (takeBytes (until - (at + 1)) (from s (at + 1) end))
     unfolding Valid takeBytes
     block-on end h l =
         let k : until - at ≡ suc (until - (at + 1)) = omega (arith, v .1) in

@@ -1,5 +1,5 @@
 -- The engine over the bytes of an envelope's inside: where it begins, past a text's bytes, at the declared end, and one turn of its loop.
-use Prim.Native.Nat.{ℕ, suc, _+_, _-_, _≤_, _<_}
+use Prim.Native.Nat.{ℕ, zero, suc, _+_, _-_, _≤_, _<_}
 use mathlib.Core.List.{List, [], _∷_}
 use mathlib.Core.Bool.{Bool, true, false}
 use mathlib.Core.Logic.{inl}
@@ -35,6 +35,7 @@ use Rattle.plain.specs.declared.feed.Fed.the-variants as fed
 use Rattle.plain.specs.Lists.{stateOf, Leads, Gone}
 use Rattle.plain.specs.Values.{pendingOf, backOf, spanFrom, Valid}
 use Rattle.plain.specs.Steps.{landedSpan, valueAt, fedAt, FedLeads, FedValid, doingAt, comes, DoingHolds, Holds, Steps, Begins, PastText, Ended}
+use Rattle.plain.proofs.Feeding.{block-on}
 use Rattle.plain.proofs.Coding.{closed-same}
 
 -- Where it begins
@@ -89,6 +90,36 @@ text-past e s end at place {taking} {rule} {of} q x h a =
           (span-further (at - of .start) (place - at) (takeText (ruleOf rule) (from s at end)) (takeText (ruleOf rule) (from s place end)) (k .is) ∙ ap (λ (y : ℕ). span y (takeText (ruleOf rule) (from s place end))) u));
       holds = rw p (v .0, omega (arith, k .inside, v .1));
     }
+
+-- .. and a block's
+
+abbrev blockSpan : List ℕ → ℕ → ℕ → Pending → ℕ → Span
+blockSpan s end until of at = span (at - of .start) (takeBytes (until - at) (from s at end))
+
+blocks-on : (t : Told) (s : List ℕ) (end until : ℕ) (of : Pending) → end ≤ length s → (n at : ℕ) → of .start ≤ at → at + n < until → at + n ≤ end → blockSpan s end until of at ≡ blockSpan s end until of (at + n)
+unfolding Valid
+blocks-on t s end until of l zero at h k e = let q : at ≡ at + 0 = omega arith in ap (blockSpan s end until of) q
+blocks-on t s end until of l (suc n) at h k e =
+    let q : at + 1 + n ≡ at + suc n = omega arith in
+    block-on t s at until of (h, omega arith) end (omega arith) l ∙ blocks-on t s end until of l n (at + 1) (omega arith) (omega arith) (omega arith) ∙ ap (blockSpan s end until of) q
+
+pub block-past : (e : Engine) (s : List ℕ) (end at place : ℕ) {taking : Taking} {until : ℕ} {of : Pending} → end ≤ length s → e .doing ≡ Value taking → taking ≡ Block until of → Holds e at → at ≤ place → place ≤ end → place < until → PastText e s end at place
+unfolding doingAt valueAt spanFrom DoingHolds Valid
+block-past e s end at place {taking} {until} {of} l q x h a b c =
+    let p : e .doing ≡ Value (Block until of) = q ∙ ap Value x in
+    let v = rw p at h in
+    let u : at + (place - at) ≡ place = omega arith in
+    record {
+      inside = a;
+      before = b;
+      is = λ t n m. rw p (ap (λ (y : Span). landedSpan (source t s end) 0 (of .kind) (e .lists .depth) (go (nextOf (of .next)) (stateOf (e .room) (e .lists))) y n m)
+          (blocks-on t s end until of l (place - at) at (v .1 .0) (omega arith) (omega arith) ∙ ap (blockSpan s end until of) u));
+      holds = rw p (v .0, (omega (arith, v .1 .0), c));
+    }
+
+pub block-ahead : (e : Engine) (at : ℕ) {taking : Taking} {until : ℕ} {of : Pending} → e .doing ≡ Value taking → taking ≡ Block until of → Holds e at → at < until
+unfolding DoingHolds Valid
+block-ahead e at {taking} {until} {of} q x h = let p : e .doing ≡ Value (Block until of) = q ∙ ap Value x in let v = rw p at h in v .1 .1
 
 -- At the declared end
 

@@ -113,7 +113,8 @@ fn first_room(base: bool) -> Room
     Room::ReceivedBegins
 }
 
-// A text's bytes pass by one comparison each: the place of the first that is below 0x20, or the end. Where no text is taken, the same place.
+// A text's bytes pass by one comparison each, and so do a block's before its last: the place of the first byte below 0x20 or of the block's last byte, or
+// the end. Where neither is taken, the same place.
 fn past_text(engine: Engine, s: &[u8], end: usize, at: usize) -> usize
     requires { ⌜ (Inside (now s) end at) × (Holds engine at) ⌝ }
     ensures { λ r. ⌜ PastText engine (now (s .entry)) end at r ⌝ }
@@ -127,8 +128,24 @@ fn past_text(engine: Engine, s: &[u8], end: usize, at: usize) -> usize
         Taking::Date(_, _, _) => at,
         Taking::Number(_, _) => at,
         Taking::Length(_, _, _) => at,
-        Taking::Block(_, _) => at,
+        Taking::Block(until, _) => block_run(until, end, at),
     }
+}
+
+// The place of a block's last byte, or the end.
+fn block_run(until: usize, end: usize, at: usize) -> usize
+    requires { ⌜ (at < until) × (at ≤ end) ⌝ }
+    ensures { λ r. ⌜ (at ≤ r) × (r ≤ end) × (r < until) ⌝ }
+{
+    let last = until - 1;
+    let mut i = at;
+    while i < last {
+        if end <= i {
+            return i;
+        }
+        i += 1;
+    }
+    i
 }
 
 // Takes the declared end. Behind the envelope's 01 that is well; elsewhere "6: a byte is needed at the declared end".
