@@ -207,6 +207,15 @@ struct gamulisyan_answer gamulisyan_read(uint32_t edition, const uint8_t *input,
 struct gamulisyan_answer gamulisyan_read_tolerant(uint32_t edition, const uint8_t *input, size_t length, uint32_t *rows, size_t numbers,
                                                   uint32_t *words, size_t word_count);
 
+/* The same two by the plain engine, for machines with a fixed stack: no function of it calls itself, and whatever the level of agents a call of
+   the plain engine takes at most 768 bytes of stack. Takes, answers, refuses and leaves what gamulisyan_read and gamulisyan_read_tolerant
+   do, for every edition, input, rows and words lent. It goes one step a byte, and takes three to eight times their instructions: where the
+   stack is not short, take the first two. Place: as there. */
+struct gamulisyan_answer gamulisyan_read_plain(uint32_t edition, const uint8_t *input, size_t length, uint32_t *rows, size_t numbers,
+                                               uint32_t *words, size_t word_count);
+struct gamulisyan_answer gamulisyan_read_plain_tolerant(uint32_t edition, const uint8_t *input, size_t length, uint32_t *rows, size_t numbers,
+                                                        uint32_t *words, size_t word_count);
+
 /* Takes a presence word, or any other number. Answers how many of its bits are set: how many different parameter codes its envelope has.
    Changes no memory. */
 uint32_t gamulisyan_ones(uint32_t word);

@@ -56,7 +56,7 @@ pub struct Dated {
     pub date: Date,
 }
 
-/// `gamulisyan_read` or `gamulisyan_read_tolerant`.
+/// `gamulisyan_read`, `gamulisyan_read_tolerant`, or either of the plain engine.
 pub type Reader = unsafe extern "C" fn(u32, *const u8, usize, *mut u32, usize, *mut u32, usize) -> Answer;
 
 #[link(name = "gamulisyan", kind = "static")]
@@ -71,6 +71,24 @@ extern "C" {
         word_count: usize,
     ) -> Answer;
     pub fn gamulisyan_read_tolerant(
+        edition: u32,
+        input: *const u8,
+        length: usize,
+        rows: *mut u32,
+        numbers: usize,
+        words: *mut u32,
+        word_count: usize,
+    ) -> Answer;
+    pub fn gamulisyan_read_plain(
+        edition: u32,
+        input: *const u8,
+        length: usize,
+        rows: *mut u32,
+        numbers: usize,
+        words: *mut u32,
+        word_count: usize,
+    ) -> Answer;
+    pub fn gamulisyan_read_plain_tolerant(
         edition: u32,
         input: *const u8,
         length: usize,

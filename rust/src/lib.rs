@@ -31,7 +31,7 @@ mod writing;
 pub use asking::{lookup, present, Found};
 pub use coding::{date_decode, date_encode, number_decode, number_encode, Date};
 pub use names::{Edition, Editions, Fault, Kind, Parameter};
-pub use reading::{payload, read, read_into, read_tolerant, read_within, which, Header, Presence, Row, WORDS};
+pub use reading::{payload, read, read_into, read_plain_into, read_plain_tolerant_into, read_tolerant, read_within, which, Header, Presence, Row, WORDS};
 pub use refusal::Refusal;
 pub use relaying::{relay, relay_into};
 pub use writing::{write, write_into};

@@ -125,6 +125,24 @@ pub fn read_tolerant(edition: Edition, input: &[u8]) -> Result<Header, Refusal> 
     lend(usize::MAX, |rows, words| read_by(entries::gamulisyan_read_tolerant, edition, input, rows, words))
 }
 
+/// [`read_into`] by the plain engine, for a fixed stack: no function of it calls itself. Its answers, rows and words are the same.
+///
+/// ```
+/// use gamulisyan::{read_plain_into, Edition, Row, WORDS};
+/// let message = b"\xFE\x00\x0F\x12\x20\x31\x11\x16\x19\x15\x37\x62\x59\x20\x01";
+/// let (mut rows, mut words) = ([Row::default(); 8], [0; WORDS]);
+/// assert_eq!(read_plain_into(Edition::B, message, &mut rows, &mut words)?, (15, 3));
+/// # Ok::<(), gamulisyan::Refusal>(())
+/// ```
+pub fn read_plain_into(edition: Edition, input: &[u8], rows: &mut [Row], words: &mut [u32; WORDS]) -> Result<(usize, usize), Refusal> {
+    read_by(entries::gamulisyan_read_plain, edition, input, rows, words)
+}
+
+/// The same, tolerantly, as [`read_tolerant`] reads.
+pub fn read_plain_tolerant_into(edition: Edition, input: &[u8], rows: &mut [Row], words: &mut [u32; WORDS]) -> Result<(usize, usize), Refusal> {
+    read_by(entries::gamulisyan_read_plain_tolerant, edition, input, rows, words)
+}
+
 /// [`read`] into rows and words of the caller's: the header's length, and how many rows were read. A refusal changes nothing lent.
 ///
 /// ```

@@ -4,21 +4,57 @@
 #include "archive.h"
 #include "second.h"
 
+#include <stdlib.h>
+#include <string.h>
+
 static struct second_reply reply_of(struct gamulisyan_answer answer)
 {
     return (struct second_reply){answer.answer, answer.place, answer.rows};
 }
 
+typedef struct gamulisyan_answer reader(uint32_t, const uint8_t *, size_t, uint32_t *, size_t, uint32_t *, size_t);
+
+/* No answer of document 01: the plain engine and the first reader differ. */
+enum { READERS_DIFFER = 99 };
+
+/* The same numbers in memory of their own; NULL for none. */
+static uint32_t *copy_of(const uint32_t *numbers, size_t count)
+{
+    uint32_t *copy = count ? malloc(count * sizeof *copy) : NULL;
+    if (copy != NULL)
+        memcpy(copy, numbers, count * sizeof *copy);
+    return copy;
+}
+
+static int same_numbers(const uint32_t *a, const uint32_t *b, size_t count)
+{
+    return count == 0 || (b != NULL && memcmp(a, b, count * sizeof *a) == 0);
+}
+
+/* Every case that the first reader runs, the plain engine runs too, over the same memory. */
+static struct second_reply both_readers(reader *first, reader *plain, uint32_t edition, const uint8_t *input, size_t length, uint32_t *rows,
+                                        size_t rows_length, uint32_t *words, size_t word_count)
+{
+    uint32_t *plain_rows = copy_of(rows, rows_length), *plain_words = copy_of(words, word_count);
+    struct gamulisyan_answer a = first(edition, input, length, rows, rows_length, words, word_count);
+    struct gamulisyan_answer b = plain(edition, input, length, plain_rows, rows_length, plain_words, word_count);
+    int same = a.answer == b.answer && a.place == b.place && a.rows == b.rows && same_numbers(rows, plain_rows, rows_length)
+               && same_numbers(words, plain_words, word_count);
+    free(plain_rows);
+    free(plain_words);
+    return same ? reply_of(a) : (struct second_reply){READERS_DIFFER, 0, 0};
+}
+
 struct second_reply archive_read(uint32_t edition, const uint8_t *input, size_t length, uint32_t *rows, size_t rows_length, uint32_t *words,
                                  size_t word_count)
 {
-    return reply_of(gamulisyan_read(edition, input, length, rows, rows_length, words, word_count));
+    return both_readers(gamulisyan_read, gamulisyan_read_plain, edition, input, length, rows, rows_length, words, word_count);
 }
 
 struct second_reply archive_read_tolerant(uint32_t edition, const uint8_t *input, size_t length, uint32_t *rows, size_t rows_length,
                                           uint32_t *words, size_t word_count)
 {
-    return reply_of(gamulisyan_read_tolerant(edition, input, length, rows, rows_length, words, word_count));
+    return both_readers(gamulisyan_read_tolerant, gamulisyan_read_plain_tolerant, edition, input, length, rows, rows_length, words, word_count);
 }
 
 uint32_t archive_ones(uint32_t word)

@@ -57,11 +57,12 @@ static int count(struct tally *tally, int same)
     return same;
 }
 
+/* One of the archive's readers beside the second program's: the plain engine is held to what the first reader is held to. */
 typedef struct gamulisyan_answer archive_reader(uint32_t, const uint8_t *, size_t, uint32_t *, size_t, uint32_t *, size_t);
 typedef struct second_reply second_reader(uint32_t, const uint8_t *, size_t, uint32_t *, size_t, uint32_t *, size_t);
 
-static struct answer both_read_by(archive_reader *archive_read, second_reader *second_read_by, struct tally *tally, uint32_t edition,
-                                  const uint8_t *input, size_t length, size_t numbers, uint32_t *rows)
+static struct answer both_read_by(const char *name, archive_reader *archive_read, second_reader *second_read_by, struct tally *tally,
+                                  uint32_t edition, const uint8_t *input, size_t length, size_t numbers, uint32_t *rows)
 {
     size_t size = numbers * sizeof(uint32_t);
     lend(lent_rows[0], size);
@@ -76,7 +77,7 @@ static struct answer both_read_by(archive_reader *archive_read, second_reader *s
     size_t used = archive.answer == GAMULISYAN_ACCEPTED ? archive.rows * ROW_NUMBERS * sizeof(uint32_t) : 0;
     if (!count(tally, same_answers(archive, second) && memcmp(lent_rows[0], lent_rows[1], GUARD + size + GUARD) == 0
                           && untouched(lent_rows[0], used, size) && words_hold(first, used / sizeof *first / ROW_NUMBERS))) {
-        printf("%s differs: edition %u, %zu numbers and %zu words lent\n", archive_read == gamulisyan_read ? "read" : "read_tolerant", edition, numbers, words_lent);
+        printf("%s differs: edition %u, %zu numbers and %zu words lent\n", name, edition, numbers, words_lent);
         print_answers(archive, second);
         print_bytes("input", input, length);
     }
@@ -98,12 +99,14 @@ static void both_payload(struct tally *tally, uint32_t edition, const uint8_t *i
 struct answer both_read(struct tally *tally, uint32_t edition, const uint8_t *input, size_t length, size_t numbers, uint32_t *rows)
 {
     both_payload(tally, edition, input, length);
-    return both_read_by(gamulisyan_read, second_read, tally, edition, input, length, numbers, rows);
+    both_read_by("read_plain", gamulisyan_read_plain, second_read, tally, edition, input, length, numbers, NULL);
+    return both_read_by("read", gamulisyan_read, second_read, tally, edition, input, length, numbers, rows);
 }
 
 struct answer both_read_tolerant(struct tally *tally, uint32_t edition, const uint8_t *input, size_t length, size_t numbers, uint32_t *rows)
 {
-    return both_read_by(gamulisyan_read_tolerant, second_read_tolerant, tally, edition, input, length, numbers, rows);
+    both_read_by("read_plain_tolerant", gamulisyan_read_plain_tolerant, second_read_tolerant, tally, edition, input, length, numbers, NULL);
+    return both_read_by("read_tolerant", gamulisyan_read_tolerant, second_read_tolerant, tally, edition, input, length, numbers, rows);
 }
 
 struct answer both_write(struct tally *tally, uint32_t edition, const uint32_t *rows, size_t numbers, const uint8_t *pool, size_t pool_length,

@@ -4,6 +4,7 @@ pub mod Lent
 pub mod Calls
 pub mod Exact
 pub mod Tolerant
+pub mod Plain
 pub mod Walks
 pub mod Presence
 pub mod Present

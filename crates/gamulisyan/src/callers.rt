@@ -30,6 +30,18 @@ fn read_tolerant(edition: u32, input: &[u8], rows: &mut [u32], words: &mut [u32]
     crate::gamulisyan_read_tolerant(edition, input, rows, words)
 }
 
+fn read_plain(edition: u32, input: &[u8], rows: &mut [u32], words: &mut [u32]) -> Reply
+    ensures { λ reply. ⌜ ReadPromise edition (now (input .entry)) (now (rows .entry)) (now (words .entry)) reply (now (rows .exit)) (now (words .exit)) ⌝ }
+{
+    crate::gamulisyan_read_plain(edition, input, rows, words)
+}
+
+fn read_plain_tolerant(edition: u32, input: &[u8], rows: &mut [u32], words: &mut [u32]) -> Reply
+    ensures { λ reply. ⌜ TolerantPromise edition (now (input .entry)) (now (rows .entry)) (now (words .entry)) reply (now (rows .exit)) (now (words .exit)) ⌝ }
+{
+    crate::gamulisyan_read_plain_tolerant(edition, input, rows, words)
+}
+
 fn which(input: &[u8], rows: &mut [u32], words: &mut [u32]) -> Sorted
     ensures { λ r. ⌜ WhichPromise (now (input .entry)) (now (rows .entry)) (now (words .entry)) r (now (rows .exit)) (now (words .exit)) ⌝ }
 {

@@ -45,6 +45,30 @@ pub extern "C" fn gamulisyan_read_tolerant(
 }
 
 #[no_mangle]
+pub extern "C" fn gamulisyan_read_plain(
+    edition: u32,
+    input: &[u8],
+    rows: &mut [u32],
+    words: &mut [u32],
+) -> Reply
+    ensures { λ reply. ⌜ ReadPromise edition (now (input .entry)) (now (rows .entry)) (now (words .entry)) reply (now (rows .exit)) (now (words .exit)) ⌝ }
+{
+    plain::read::read_plain(edition, input, rows, words)
+}
+
+#[no_mangle]
+pub extern "C" fn gamulisyan_read_plain_tolerant(
+    edition: u32,
+    input: &[u8],
+    rows: &mut [u32],
+    words: &mut [u32],
+) -> Reply
+    ensures { λ reply. ⌜ TolerantPromise edition (now (input .entry)) (now (rows .entry)) (now (words .entry)) reply (now (rows .exit)) (now (words .exit)) ⌝ }
+{
+    plain::read::read_plain_tolerant(edition, input, rows, words)
+}
+
+#[no_mangle]
 pub extern "C" fn gamulisyan_which(input: &[u8], rows: &mut [u32], words: &mut [u32]) -> Sorted
     ensures { λ r. ⌜ WhichPromise (now (input .entry)) (now (rows .entry)) (now (words .entry)) r (now (rows .exit)) (now (words .exit)) ⌝ }
 {

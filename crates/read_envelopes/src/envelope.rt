@@ -66,14 +66,14 @@ fn read_opened(
 }
 
 // The kind of an envelope's own row.
-fn opening_kind(base: bool) -> u32
+pub fn opening_kind(base: bool) -> u32
     ensures { λ r. ⌜ r ≡ opening base ⌝ }
 {
     if base { BASE_OPENS } else { EXTENSION_OPENS }
 }
 
 // Takes what the inside answered. Answers the envelope behind it, or hands the refusal up.
-fn ended(r: Stage, end: usize, base: bool) -> Envelope
+pub fn ended(r: Stage, end: usize, base: bool) -> Envelope
     ensures { λ answer. ⌜ answer ≡ endedBy base end r ⌝ }
 {
     match r {

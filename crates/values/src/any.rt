@@ -136,7 +136,7 @@ fn block(s: &[u8], end: usize, at: usize, width: usize, told: Told) -> Value
 }
 
 // Whether a length of n stands in a form that the reading refuses.
-fn too_wide(width: usize, n: usize, told: Told) -> bool
+pub fn too_wide(width: usize, n: usize, told: Told) -> bool
     ensures { λ r. ⌜ ((w : Width) → bytesOf w ≡ width → r ≡ tooWide (toldOf told) w n) ⌝ }
 {
     let strictness = told.strictness;

@@ -206,7 +206,7 @@ fn first_stop(s: &[u8], at: usize) -> usize
 }
 
 // The same as `line_run`, byte by byte: of the few that are left before the end.
-fn last_run(s: &[u8], end: usize, at: usize) -> usize
+pub fn last_run(s: &[u8], end: usize, at: usize) -> usize
     requires { ⌜ Inside (now s) end at ⌝ }
     ensures { λ r. ⌜ LineRun (now (s .entry)) end at r ⌝ }
 {
@@ -261,7 +261,7 @@ fn four_in_note(s: &[u8], i: usize) -> bool
 }
 
 // Whether a note allows a byte: one of a line, or a break.
-fn in_note(b: u8) -> bool
+pub fn in_note(b: u8) -> bool
     ensures { λ r. ⌜ r ≡ textByte note b ⌝ }
 {
     (b >= FIRST_TEXT) | is_break(b)
