@@ -11,6 +11,7 @@ use moves::rooms::Room;
 use moves::rooms::is_closed;
 use moves::rooms::strange_in;
 use table::kinds::AGENT_NAME;
+use table::limits;
 use table::refusals::AGENT_LEVEL;
 use table::told::Told;
 use values::bytes::wide;
@@ -32,7 +33,7 @@ ghost use Rattle.plain.specs.Lists.{Bounded, MayLead, Leads};
 ghost use Rattle.plain.specs.Steps.{CodeSteps, CodedHere, UncodedHere, NoneHere};
 
 // "agent level 8".
-const LEVEL_MOST: usize = 8;
+const LEVEL_MOST: usize = limits::LEVEL_MOST as usize;
 
 // Takes the byte at a place where a code is awaited, and how many lists are open.
 pub fn code_step(room: Room, depth: usize, told: Told, s: &[u8], at: usize) -> Fed
