@@ -17,9 +17,9 @@
        return 0;
 
    Threads: there is no state, and no memory but what is lent; any number of calls may run at once.
-   Stack: at most 2,216 bytes, in gamulisyan_relay, by the frames of its machine code; docs/BENCHMARK.md has each entry's.
-   Needs: an x86-64 processor with SSE2, which all have, and memcpy. No other function, no file, no allocation, no thread-local memory.
-   Size: 39 KB of code and constants; linked with -Wl,--gc-sections, 13 KB for gamulisyan_read alone and 32 KB with gamulisyan_write.
+   Stack: at most 2,144 bytes, in gamulisyan_figures_report, by the frames of its machine code; docs/BENCHMARK.md has each entry's.
+   Needs: an x86-64 processor with SSE2, which all have, memcpy and memset. No other function, no file, no allocation, no thread-local memory.
+   Size: 49 KB of code and constants; linked with -Wl,--gc-sections, 12 KB for gamulisyan_read alone and 32 KB with gamulisyan_write.
    Memory: a header made to hurt has a row for nearly each of its bytes, so 20 bytes of rows for a byte of input: for the longest
    header, 16 envelopes of 1,048,576 bytes, 320 MiB. Nothing is written behind the rows lent. Lend what honest messages need, say 256
    rows; after 14 `rows` says how many are needed, and a gateway that will not lend so many refuses the message.
