@@ -17,9 +17,9 @@
        return 0;
 
    Threads: there is no state, and no memory but what is lent; any number of calls may run at once.
-   Stack: at most 2,216 bytes, in gamulisyan_relay, by the frames of its machine code; docs/BENCHMARK.md has each entry's.
-   Needs: an x86-64 processor with SSE2, which all have, and memcpy. No other function, no file, no allocation, no thread-local memory.
-   Size: 39 KB of code and constants; linked with -Wl,--gc-sections, 13 KB for gamulisyan_read alone and 32 KB with gamulisyan_write.
+   Stack: at most 2,144 bytes, in gamulisyan_figures_report, by the frames of its machine code; docs/BENCHMARK.md has each entry's.
+   Needs: an x86-64 processor with SSE2, which all have, memcpy and memset. No other function, no file, no allocation, no thread-local memory.
+   Size: 49 KB of code and constants; linked with -Wl,--gc-sections, 12 KB for gamulisyan_read alone and 32 KB with gamulisyan_write.
    Memory: a header made to hurt has a row for nearly each of its bytes, so 20 bytes of rows for a byte of input: for the longest
    header, 16 envelopes of 1,048,576 bytes, 320 MiB. Nothing is written behind the rows lent. Lend what honest messages need, say 256
    rows; after 14 `rows` says how many are needed, and a gateway that will not lend so many refuses the message.
@@ -61,7 +61,8 @@ enum {
     GAMULISYAN_ROWS_SHORT = 14,
     GAMULISYAN_TABLE_WRONG = 15,
     GAMULISYAN_OUTPUT_SHORT = 16,
-    GAMULISYAN_PARAMETER_UNKNOWN = 17
+    GAMULISYAN_PARAMETER_UNKNOWN = 17,
+    GAMULISYAN_FIGURES_FULL = 19
 };
 
 /* Both stands in no call: it is what gamulisyan_which answers. */
@@ -151,7 +152,7 @@ struct gamulisyan_number {
 
 struct gamulisyan_coded {
     uint32_t answer;
-    size_t place; /* bytes written; 0 for a value out of range; bytes needed for 16 */
+    size_t place; /* bytes written; 0 for a value out of range, and of an entry that writes no bytes; bytes needed for 16 */
 };
 
 struct gamulisyan_date {
@@ -284,6 +285,35 @@ struct gamulisyan_dated gamulisyan_date_decode(uint32_t kind, const uint8_t *byt
    a component out of range, in an absolute date a day that its month does not have, or another kind; then 16 at the bytes
    needed. Leaves the coded date, without a date code, at the front of `output`, and after a refusal nothing. */
 struct gamulisyan_coded gamulisyan_date_encode(uint32_t kind, struct gamulisyan_date date, uint8_t *output, size_t length);
+
+/* The month's figures: so many numbers, lent from call to call, all 0 before the first message. An edition's are fifteen: messages accepted, those refused
+   by 2 to 13 (refused by n at n - 1), envelopes and header bytes of the accepted ones; B's begin at 0 and D's at 15. The last is the count of messages of an
+   unknown edition, which are in no edition's. */
+enum {
+    GAMULISYAN_FIGURES = 31,
+    GAMULISYAN_FIGURES_B = 0,
+    GAMULISYAN_FIGURES_D = 15,
+    GAMULISYAN_FIGURES_ACCEPTED = 0,
+    GAMULISYAN_FIGURES_ENVELOPES = 13,
+    GAMULISYAN_FIGURES_BYTES = 14,
+    GAMULISYAN_FIGURES_UNKNOWN = 30
+};
+
+/* Takes a message, by its edition and bytes, and figures. Adds it to them, as the strict reading of it answers with room for all rows, and answers 0 at 0,
+   whatever that reading answered. Refuses with 19 at 0, and changes nothing, once the figures are of 1,000,000 messages, the unknown ones counted; and
+   numbers that are no figures: not 31 of them, of more messages than that, or with more envelopes than sixteen or more bytes than 16,777,216 for each
+   accepted message of the edition. Any numbers get an answer, and no sum wraps. */
+struct gamulisyan_coded gamulisyan_figures_add(uint32_t edition, const uint8_t *input, size_t length, uint64_t *figures, size_t numbers);
+
+/* Takes figures and others, which stay as they are. Adds the others to the figures: they are then those of both lists of messages, one behind the other, in
+   either order. Answers 0 at 0; or 19 at 0, with nothing changed, where either are no figures, or both together are of more than 1,000,000 messages. */
+struct gamulisyan_coded gamulisyan_figures_join(const uint64_t *others, size_t other_numbers, uint64_t *figures, size_t numbers);
+
+/* Takes figures and an output lent. Leaves their report at the front of `output`: a line for each edition with edition, accepted, refused by 2 to 13, envelopes,
+   header bytes, and the mean header size as a whole part and a remainder over accepted messages (0 and 0 if there were none), parted by tabs; then a line with
+   the unknown count; each ends with byte 0A. Answers 0 and the bytes written; or 19 at 0 for numbers that are no figures, then 16 at the bytes needed.
+   After a refusal nothing has changed. */
+struct gamulisyan_coded gamulisyan_figures_report(const uint64_t *figures, size_t numbers, uint8_t *output, size_t length);
 
 /* Takes nothing. Answers the version of the archive that is linked, a number as GAMULISYAN_VERSION is; the two are equal unless header
    and archive are of different releases. Changes no memory. */

@@ -28,6 +28,7 @@ static inline const char *gamulisyan_answer_text(uint32_t answer)
     case GAMULISYAN_TABLE_WRONG: return "rows up to here begin no table of this edition, or a row is wrong";
     case GAMULISYAN_OUTPUT_SHORT: return "output too short";
     case GAMULISYAN_PARAMETER_UNKNOWN: return "parameter code not one that can be asked for";
+    case GAMULISYAN_FIGURES_FULL: return "figures of 1,000,000 messages, or no figures";
     default: return "no answer of this release";
     }
 }

@@ -130,6 +130,9 @@ extern "C" {
     pub fn gamulisyan_number_encode(value: u64, output: *mut u8, length: usize) -> Coded;
     pub fn gamulisyan_date_decode(kind: u32, bytes: *const u8, length: usize) -> Dated;
     pub fn gamulisyan_date_encode(kind: u32, date: Date, output: *mut u8, length: usize) -> Coded;
+    pub fn gamulisyan_figures_add(edition: u32, input: *const u8, length: usize, figures: *mut u64, numbers: usize) -> Coded;
+    pub fn gamulisyan_figures_join(others: *const u64, other_numbers: usize, figures: *mut u64, numbers: usize) -> Coded;
+    pub fn gamulisyan_figures_report(figures: *const u64, numbers: usize, output: *mut u8, length: usize) -> Coded;
     pub fn gamulisyan_version() -> u32;
 }
 

@@ -22,6 +22,7 @@
 mod asking;
 mod coding;
 mod entries;
+mod figures;
 mod names;
 mod reading;
 mod refusal;
@@ -30,6 +31,7 @@ mod writing;
 
 pub use asking::{lookup, present, Found};
 pub use coding::{date_decode, date_encode, number_decode, number_encode, Date};
+pub use figures::{EditionFigures, Figures};
 pub use names::{Edition, Editions, Fault, Kind, Parameter};
 pub use reading::{payload, read, read_into, read_plain_into, read_plain_tolerant_into, read_tolerant, read_within, which, Header, Presence, Row, WORDS};
 pub use refusal::Refusal;

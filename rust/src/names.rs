@@ -142,5 +142,6 @@ numbered! {
         TableWrong = 15, "rows up to here begin no table of this edition, or a row is wrong";
         OutputShort = 16, "output too short";
         ParameterUnknown = 17, "parameter code not one that can be asked for";
+        FiguresFull = 19, "figures of 1,000,000 messages, or no figures";
     }
 }

@@ -3,8 +3,8 @@
                                        both programs checked
      bench once INPUT PROGRAM CALL     the call once for each header of the input, for whoever counts instructions from outside
      bench time INPUT CALL             nanoseconds of the processor for a header, the archive's and the second program's
-   PROGRAM is archive or second, CALL is read, which, write, relay (of a small envelope), present or lookup (these two of code 06,
-   which stands behind every list, or nowhere). Whatever is measured is checked: every call must be accepted, and rows
+   PROGRAM is archive or second, CALL is read, payload, figures_add (to figures that begin empty), which, write, relay (of a small
+   envelope), present or lookup (these two of code 06, which stands behind every list, or nowhere). Whatever is measured is checked: every call must be accepted, and rows
    and bytes must be the other program's. */
 #define _POSIX_C_SOURCE 200809L
 
@@ -22,9 +22,11 @@ enum { EDITION = GAMULISYAN_EDITION_D, ROW = GAMULISYAN_ROW_NUMBERS, MOST_NUMBER
 /* Nanoseconds: of one batch, and of all of them. */
 enum { BATCH = 1000000, LONG_ENOUGH = 2000000000 };
 
-enum call { READ, WHICH, WRITE, RELAY, PRESENT, LOOKUP };
+enum call { READ, PAYLOAD, FIGURES_ADD, WHICH, WRITE, RELAY, PRESENT, LOOKUP };
 
 typedef struct second_reply reading(uint32_t, const uint8_t *, size_t, uint32_t *, size_t, uint32_t *, size_t);
+typedef struct second_part viewing(uint32_t, const uint8_t *, size_t);
+typedef struct second_answer adding(uint32_t, const uint8_t *, size_t, uint64_t *, size_t);
 typedef struct second_reply writing(uint32_t, const uint32_t *, size_t, const uint8_t *, size_t, uint8_t *, size_t);
 
 typedef struct second_reply relaying(uint32_t, const uint8_t *, size_t, const uint32_t *, size_t, const uint8_t *, size_t, uint32_t *, size_t, uint32_t *, size_t, uint8_t *,
@@ -39,6 +41,8 @@ typedef struct second_sorted sorting(const uint8_t *, size_t, uint32_t *, size_t
 struct program {
     const char *name;
     reading *read;
+    viewing *payload;
+    adding *figures_add;
     sorting *which;
     writing *write;
     relaying *relay;
@@ -56,6 +60,7 @@ static struct headers headers;
 static struct tables tables;
 static uint32_t lent_rows[MOST_NUMBERS];
 static uint32_t lent_words[GAMULISYAN_WORDS];
+static uint64_t lent_figures[GAMULISYAN_FIGURES];
 static uint8_t lent_output[MOST_BYTES + 64];
 
 /* The new envelope of a relay: received by `a`, its bytes being its own pool. */
@@ -69,6 +74,18 @@ static struct second_reply archive_read(uint32_t edition, const uint8_t *input, 
 {
     struct gamulisyan_answer read = gamulisyan_read(edition, input, length, rows, numbers, words, word_count);
     return (struct second_reply){read.answer, read.place, read.rows};
+}
+
+static struct second_part archive_payload(uint32_t edition, const uint8_t *input, size_t length)
+{
+    struct gamulisyan_part part = gamulisyan_payload(edition, input, length);
+    return (struct second_part){part.start, part.end - part.start};
+}
+
+static struct second_answer archive_figures_add(uint32_t edition, const uint8_t *input, size_t length, uint64_t *figures, size_t numbers)
+{
+    struct gamulisyan_coded added = gamulisyan_figures_add(edition, input, length, figures, numbers);
+    return (struct second_answer){added.answer, added.place};
 }
 
 static struct second_reply archive_write(uint32_t edition, const uint32_t *rows, size_t numbers, const uint8_t *pool, size_t pool_length,
@@ -104,8 +121,10 @@ static struct second_sorted archive_which(const uint8_t *input, size_t length, u
     return (struct second_sorted){{sorted.answer, sorted.place, sorted.rows}, sorted.editions};
 }
 
-static const struct program archive = {"archive", archive_read, archive_which, archive_write, archive_relay, archive_present, archive_lookup};
-static const struct program second = {"second", second_read, second_which, second_write, second_relay, second_present, second_lookup};
+static const struct program archive = {"archive",     archive_read,  archive_payload, archive_figures_add, archive_which,
+                                       archive_write, archive_relay, archive_present, archive_lookup};
+static const struct program second = {"second",     second_read,  second_payload, second_figures_add, second_which,
+                                      second_write, second_relay, second_present, second_lookup};
 
 static const uint8_t *header_at(size_t number)
 {
@@ -138,6 +157,17 @@ static void require(int holds, const char *program, const char *call, size_t num
 static struct second_reply read_one(const struct program *program, size_t number)
 {
     return program->read(EDITION, header_at(number), header_length(number), lent_rows, MOST_NUMBERS, lent_words, GAMULISYAN_WORDS);
+}
+
+static struct second_part payload_one(const struct program *program, size_t number)
+{
+    return program->payload(EDITION, header_at(number), header_length(number));
+}
+
+/* To the lent figures, which whoever calls this begins anew. */
+static struct second_answer figures_add_one(const struct program *program, size_t number)
+{
+    return program->figures_add(EDITION, header_at(number), header_length(number), lent_figures, GAMULISYAN_FIGURES);
 }
 
 static struct second_sorted which_one(const struct program *program, size_t number)
@@ -195,6 +225,31 @@ static void check_reading(const struct program *program)
         require(is_whole(read, number) && read.rows * ROW == table_length(number)
                     && memcmp(lent_rows, table_at(number), table_length(number) * sizeof *lent_rows) == 0,
                 program->name, "read", number);
+    }
+}
+
+/* There is no payload: the part begins behind the header, and is empty. */
+static void check_viewing(const struct program *program)
+{
+    for (size_t number = 0; number < headers.count; number++) {
+        struct second_part payload = payload_one(program, number);
+        require(payload.start == header_length(number) && payload.length == 0, program->name, "payload", number);
+    }
+}
+
+/* All are edition D's, and accepted: the figures have so many messages and bytes, their envelopes are those of the tables, and nothing else. */
+static void check_adding(const struct program *program)
+{
+    uint64_t expected[GAMULISYAN_FIGURES] = {0}, *own = expected + GAMULISYAN_FIGURES_D;
+    memset(lent_figures, 0, sizeof lent_figures);
+    for (size_t number = 0; number < headers.count; number++) {
+        struct second_answer added = figures_add_one(program, number);
+        own[GAMULISYAN_FIGURES_ACCEPTED]++;
+        own[GAMULISYAN_FIGURES_BYTES] += header_length(number);
+        for (size_t place = 0; place < table_length(number); place += ROW)
+            own[GAMULISYAN_FIGURES_ENVELOPES] += table_at(number)[place] <= GAMULISYAN_BASE_OPENS;
+        require(added.answer == GAMULISYAN_ACCEPTED && added.place == 0 && memcmp(lent_figures, expected, sizeof expected) == 0, program->name, "figures_add",
+                number);
     }
 }
 
@@ -277,6 +332,10 @@ static void check_both(void)
 {
     fill_tables(&archive);
     check_reading(&second);
+    check_viewing(&archive);
+    check_viewing(&second);
+    check_adding(&archive);
+    check_adding(&second);
     check_sorting(&archive);
     check_sorting(&second);
     check_writing(&archive);
@@ -301,6 +360,10 @@ static void call_all(const struct program *program, enum call call)
     for (size_t number = 0; number < headers.count; number++)
         if (call == READ)
             read_one(program, number);
+        else if (call == PAYLOAD)
+            payload_one(program, number);
+        else if (call == FIGURES_ADD)
+            figures_add_one(program, number);
         else if (call == WHICH)
             which_one(program, number);
         else if (call == WRITE)
@@ -313,10 +376,11 @@ static void call_all(const struct program *program, enum call call)
             lookup_one(program, number);
 }
 
-/* Nanoseconds of the processor for that many times over the whole input. */
+/* Nanoseconds of the processor for that many times over the whole input. Figures begin empty, and no batch is so long that they become full. */
 static double time_batch(const struct program *program, enum call call, unsigned long times)
 {
     struct timespec from, to;
+    memset(lent_figures, 0, sizeof lent_figures);
     clock_gettime(CLOCK_PROCESS_CPUTIME_ID, &from);
     for (unsigned long time = 0; time < times; time++)
         call_all(program, call);
@@ -351,7 +415,7 @@ static void print_times(enum call call)
 
 static enum call call_named(const char *name)
 {
-    static const char *const names[] = {"read", "which", "write", "relay", "present"};
+    static const char *const names[] = {"read", "payload", "figures_add", "which", "write", "relay", "present"};
     enum call call = READ;
     while (call < LOOKUP && strcmp(name, names[call]) != 0)
         call++;
@@ -366,6 +430,10 @@ static void call_once(const char *name, enum call call)
     fill_tables(other);
     if (call == READ)
         check_reading(program);
+    else if (call == PAYLOAD)
+        check_viewing(program);
+    else if (call == FIGURES_ADD)
+        check_adding(program);
     else if (call == WHICH)
         check_sorting(program);
     else if (call == WRITE)

@@ -129,3 +129,18 @@ struct second_answer archive_date_encode(uint32_t kind, const struct second_date
                                     date->minute, date->second, date->millisecond, date->designator};
     return answer_of(gamulisyan_date_encode(kind, plain, output, room));
 }
+
+struct second_answer archive_figures_add(uint32_t edition, const uint8_t *input, size_t length, uint64_t *figures, size_t numbers)
+{
+    return answer_of(gamulisyan_figures_add(edition, input, length, figures, numbers));
+}
+
+struct second_answer archive_figures_join(const uint64_t *others, size_t other_numbers, uint64_t *figures, size_t numbers)
+{
+    return answer_of(gamulisyan_figures_join(others, other_numbers, figures, numbers));
+}
+
+struct second_answer archive_figures_report(const uint64_t *figures, size_t numbers, uint8_t *output, size_t output_length)
+{
+    return answer_of(gamulisyan_figures_report(figures, numbers, output, output_length));
+}

@@ -13,3 +13,6 @@
 #define second_lookup archive_lookup
 #define second_which archive_which
 #define second_relay archive_relay
+#define second_figures_add archive_figures_add
+#define second_figures_join archive_figures_join
+#define second_figures_report archive_figures_report

@@ -2,6 +2,7 @@
    COUNT comparisons are made; and the customer's demands on every header that is accepted. */
 #include "both.h"
 #include "damage.h"
+#include "figures.h"
 #include "generate.h"
 #include "lookup.h"
 #include "present.h"
@@ -175,6 +176,7 @@ static void check_header(struct source *source, struct tally *tally, uint32_t ed
     }
     if (random_once_in(source, 2))
         check_which(source, tally, header);
+    check_figures(source, tally, edition, header);
     if (read.answer != ACCEPTED)
         return;
     check_demands(tally, edition, header, read);
@@ -267,6 +269,7 @@ int main(int count, char **arguments)
         }
         check_values(&source, &tally);
         check_any_lookup(&source, &tally);
+        check_any_figures(&source, &tally, &header);
     }
     printf("%lu passed, %lu failed\n", tally.passed, tally.failed);
     return tally.failed == 0 ? 0 : 1;

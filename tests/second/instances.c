@@ -15,6 +15,7 @@ int main(void)
     run_lookup(&bench);
     run_which(&bench);
     run_relay(&bench);
+    run_figures(&bench);
     printf("%u passed, %u failed\n", bench.passed, bench.failed);
     return bench.failed == 0 ? 0 : 1;
 }

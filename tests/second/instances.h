@@ -13,5 +13,6 @@ void run_present(struct bench *bench);
 void run_lookup(struct bench *bench);
 void run_which(struct bench *bench);
 void run_relay(struct bench *bench);
+void run_figures(struct bench *bench);
 
 #endif

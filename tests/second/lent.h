@@ -6,7 +6,7 @@
 #include <stddef.h>
 #include <stdint.h>
 
-enum { GUARD = 64, MOST_LENT = 1048576 + 4096, PATTERN = 0xA5 };
+enum { GUARD = 64, MOST_LENT = 16 * 1048576 + 4096, PATTERN = 0xA5 };
 
 /* Words, so that rows may be lent from it too. */
 struct lent {

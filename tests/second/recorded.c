@@ -27,6 +27,16 @@ static size_t piece_bytes(const char **text, uint8_t *bytes)
     return length;
 }
 
+/* Lays a piece so many times, the first where it lies. Long runs are of single bytes. */
+static void repeat(uint8_t *piece, size_t size, uint64_t times)
+{
+    if (size == 1)
+        memset(piece, *piece, times);
+    else
+        for (uint64_t time = 1; time < times; time++)
+            memcpy(piece + time * size, piece, size);
+}
+
 size_t hex_bytes(const char *text, uint8_t *bytes)
 {
     size_t length = 0;
@@ -37,8 +47,8 @@ size_t hex_bytes(const char *text, uint8_t *bytes)
         size_t size = piece_bytes(&text, piece);
         uint64_t times = *text == '*' ? number(text + 1) : 1;
         text += strcspn(text, "+");
-        for (; times > 0; times--, length += size)
-            memmove(bytes + length, piece, size);
+        repeat(piece, size, times);
+        length += size * times;
     }
     return length;
 }

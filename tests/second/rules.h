@@ -37,7 +37,8 @@ enum {
     ROOM_EXCEEDED = 14,
     NO_TABLE = 15,
     OUTPUT_TOO_SHORT = 16,
-    NO_SUCH_PARAMETER = 17
+    NO_SUCH_PARAMETER = 17,
+    FIGURES_FULL = 19 /* document 02, order 13 */
 };
 
 enum {
@@ -108,9 +109,29 @@ enum { CODE_ANY_TEXT = 0x14, CODE_BLOCK_1 = 0x16, CODE_BLOCK_2 = 0x17, CODE_BLOC
 
 enum { DATE_LENGTH = 9, DESIGNATED_DATE_LENGTH = 10 };
 
+/* Order 13's figures: an edition's fifteen numbers by their places, B's in front of D's, then the unknown ones. Refused by n stands at n - 1. */
+enum {
+    FIGURE_ACCEPTED = 0,
+    FIGURE_REFUSED = 1,
+    FIGURE_REFUSED_LAST = 12,
+    FIGURE_ENVELOPES = 13,
+    FIGURE_BYTES = 14,
+    EDITION_FIGURES = 15,
+    FIGURE_UNKNOWN = 2 * EDITION_FIGURES,
+    FIGURES = FIGURE_UNKNOWN + 1,
+    MESSAGES_MOST = 1000000,
+    HEADER_MOST = ENVELOPES * ENVELOPE_LIMIT
+};
+
 static inline bool edition_known(uint32_t edition)
 {
     return edition == EDITION_B || edition == EDITION_D;
+}
+
+/* Where an edition's figures begin. */
+static inline unsigned figures_of(uint32_t edition)
+{
+    return edition == EDITION_B ? 0 : EDITION_FIGURES;
 }
 
 static inline uint8_t extra_code(uint32_t edition)

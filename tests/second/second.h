@@ -74,6 +74,13 @@ struct second_reply second_relay(uint32_t edition, const uint8_t *input, size_t 
                                  size_t pool_length, uint32_t *rows, size_t rows_length, uint32_t *words, size_t word_count, uint8_t *output,
                                  size_t output_length);
 
+/* Order 13: thirty-one numbers lent from call to call, all 0 before the first message, as rules.h has their places. An add takes a message; a join takes
+   others, which stay as they are, and both are then in `figures`; a report puts its text at the front of `output`, and its place is the bytes written.
+   FIGURES_FULL at 0, with nothing changed, for numbers that are no figures or that would be of more than a million messages. */
+struct second_answer second_figures_add(uint32_t edition, const uint8_t *input, size_t length, uint64_t *figures, size_t numbers);
+struct second_answer second_figures_join(const uint64_t *others, size_t other_numbers, uint64_t *figures, size_t numbers);
+struct second_answer second_figures_report(const uint64_t *figures, size_t numbers, uint8_t *output, size_t output_length);
+
 /* The empty part at the front if the header is refused. */
 struct second_part second_payload(uint32_t edition, const uint8_t *input, size_t length);
 

@@ -281,6 +281,7 @@ int main(int count, char **arguments)
     check_file(arguments[1], "lookup.tsv", check_lookup, &bench, &tally);
     check_file(arguments[1], "which.tsv", check_which, &bench, &tally);
     check_file(arguments[1], "relay.tsv", check_relay, &bench, &tally);
+    check_file(arguments[1], "figures.tsv", check_figures, &bench, &tally);
     printf("%u passed, %u failed\n", tally.passed, tally.failed);
     return tally.failed == 0 ? 0 : 1;
 }

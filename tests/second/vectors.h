@@ -25,5 +25,6 @@ checker check_present;
 checker check_lookup;
 checker check_which;
 checker check_relay;
+checker check_figures;
 
 #endif

@@ -7,7 +7,7 @@
 #include <stdio.h>
 #include <string.h>
 
-enum { LAST_ANSWER = GAMULISYAN_PARAMETER_UNKNOWN, LAST_KIND = GAMULISYAN_BEHAVIOUR_OPENS, PADDING = 4 };
+enum { LAST_ANSWER = GAMULISYAN_FIGURES_FULL, LAST_KIND = GAMULISYAN_BEHAVIOUR_OPENS, PADDING = 4 };
 
 _Static_assert(sizeof(struct gamulisyan_answer) == sizeof(uint32_t) + PADDING + 2 * sizeof(size_t), "answer");
 _Static_assert(sizeof(struct gamulisyan_sorted) == sizeof(uint32_t) + PADDING + 2 * sizeof(size_t) + sizeof(uint32_t) + PADDING, "sorted");

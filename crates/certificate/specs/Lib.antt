@@ -20,3 +20,4 @@ pub mod SomeAnswer
 pub mod SomePiece
 pub mod Relay
 pub mod RelayDemands
+pub mod Months

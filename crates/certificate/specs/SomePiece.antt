@@ -13,7 +13,8 @@ use Rattle.meaning.specs.Listing.{hexOf, firstLine}
 use Rattle.listing.specs.declared.Piece.{Piece}
 use Rattle.listing.specs.Text.{rowOf, viewOf, linesOf, viewFrom, textAt}
 use Rattle.listing.specs.Pieces.{pieceLeast, Cursor, cursor, viewStop, rowStop, lineStop, stopAt, NextPiece}
-use Rattle.listing.specs.Stages.{fieldsOf, ViewAt}
+use Rattle.pen.specs.Fields.{fieldsOf}
+use Rattle.listing.specs.Stages.{ViewAt}
 use Rattle.listing.specs.Cursors.{first-then, first-some, fields-some, hex-length, view-chunk, lines-within, text-over, numbers-at, views-at}
 
 -- a row that is lent has numbers

@@ -8,12 +8,14 @@ ghost use Rattle.lookup.specs.Promise.{LookupPromise};
 ghost use Rattle.which.specs.Promise.{WhichPromise};
 ghost use Rattle.relay.specs.Promise.{RelayPromise};
 ghost use Rattle.coders.specs.Plain.{NumberDecodes, NumberEncodes, DateDecodes, DateEncodes, plainOf};
+ghost use Rattle.figures.specs.Promises.{AddPromise, JoinPromise, ReportPromise};
 ghost use Rattle.gamulisyan.specs.Version.{version};
 ghost use mathlib.Core.Path.{_≡_};
 use coders::Date;
 use coders::decode::DecodedDate;
 use coders::decode::DecodedNumber;
 use coders::encode::Encoded;
+use figures::Figured;
 use reader::Part;
 use table::reply::Reply;
 use which::Sorted;
@@ -120,4 +122,22 @@ fn version() -> u32
     ensures { λ r. ⌜ r ≡ version ⌝ }
 {
     crate::gamulisyan_version()
+}
+
+fn figures_add(edition: u32, input: &[u8], figures: &mut [u64]) -> Figured
+    ensures { λ r. ⌜ AddPromise edition (now (input .entry)) (now (figures .entry)) (now (figures .exit)) r ⌝ }
+{
+    crate::gamulisyan_figures_add(edition, input, figures)
+}
+
+fn figures_join(others: &[u64], figures: &mut [u64]) -> Figured
+    ensures { λ r. ⌜ JoinPromise (now (others .entry)) (now (figures .entry)) (now (figures .exit)) r ⌝ }
+{
+    crate::gamulisyan_figures_join(others, figures)
+}
+
+fn figures_report(figures: &[u64], output: &mut [u8]) -> Figured
+    ensures { λ r. ⌜ ReportPromise (now (figures .entry)) (now (output .entry)) (now (output .exit)) r ⌝ }
+{
+    crate::gamulisyan_figures_report(figures, output)
 }

@@ -10,12 +10,14 @@ ghost use Rattle.lookup.specs.Promise.{LookupPromise};
 ghost use Rattle.which.specs.Promise.{WhichPromise};
 ghost use Rattle.relay.specs.Promise.{RelayPromise};
 ghost use Rattle.coders.specs.Plain.{NumberDecodes, NumberEncodes, DateDecodes, DateEncodes, plainOf};
+ghost use Rattle.figures.specs.Promises.{AddPromise, JoinPromise, ReportPromise};
 ghost use Rattle.gamulisyan.specs.Version.{version};
 ghost use mathlib.Core.Path.{_≡_};
 use coders::Date;
 use coders::decode::DecodedDate;
 use coders::decode::DecodedNumber;
 use coders::encode::Encoded;
+use figures::Figured;
 use reader::Part;
 use table::reply::Reply;
 use which::Sorted;
@@ -156,6 +158,27 @@ pub extern "C" fn gamulisyan_date_encode(kind: u32, date: Date, output: &mut [u8
     ensures { λ r. ⌜ DateEncodes kind (plainOf date) (now (output .entry)) (now (output .exit)) r ⌝ }
 {
     coders::encode::date(kind, date, output)
+}
+
+#[no_mangle]
+pub extern "C" fn gamulisyan_figures_add(edition: u32, input: &[u8], figures: &mut [u64]) -> Figured
+    ensures { λ r. ⌜ AddPromise edition (now (input .entry)) (now (figures .entry)) (now (figures .exit)) r ⌝ }
+{
+    figures::add::add(edition, input, figures)
+}
+
+#[no_mangle]
+pub extern "C" fn gamulisyan_figures_join(others: &[u64], figures: &mut [u64]) -> Figured
+    ensures { λ r. ⌜ JoinPromise (now (others .entry)) (now (figures .entry)) (now (figures .exit)) r ⌝ }
+{
+    figures::join::join(others, figures)
+}
+
+#[no_mangle]
+pub extern "C" fn gamulisyan_figures_report(figures: &[u64], output: &mut [u8]) -> Figured
+    ensures { λ r. ⌜ ReportPromise (now (figures .entry)) (now (output .entry)) (now (output .exit)) r ⌝ }
+{
+    figures::report::report(figures, output)
 }
 
 // A line that `./release` stamps. The promise ties it to specs/Version.antt: a stamp of one and not the other is not proved.

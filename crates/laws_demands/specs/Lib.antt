@@ -34,4 +34,5 @@ pub mod JoinedValues
 pub mod Tolerant
 pub mod Notes
 pub mod Days
+pub mod Months
 pub mod LookedUp

@@ -14,7 +14,8 @@ use Rattle.listing.specs.declared.Piece.{Piece}
 use Rattle.listing.specs.Text.{rowOf, viewOf, viewFrom}
 use Rattle.listing.specs.Pieces.{pieceLeast, cursor, viewStop, rowStop, PieceOf}
 use Rattle.pen.specs.Wrote.{Wrote}
-use Rattle.listing.specs.Stages.{ViewPiece, RowPiece, fieldsOf}
+use Rattle.pen.specs.Fields.{fieldsOf}
+use Rattle.listing.specs.Stages.{ViewPiece, RowPiece}
 use Rattle.pen.specs.Written.{wrote-as}
 use Rattle.listing.proofs.Written.{piece-of, stops-at}
 use Rattle.listing.specs.Cursors.{view-rest, view-chunk, hex-length, fields-some}

@@ -1,6 +1,6 @@
 -- The text from a cursor on, line by line: a line's fields, a view's chunks, and what follows a line.
 use Prim.Native.Nat.{ℕ, zero, suc, _+_, _-_, _*_, _≤_, _<_, min}
-use mathlib.Core.List.{List, [], _∷_, _++_, append-assoc, map}
+use mathlib.Core.List.{List, [], _∷_, _++_, append-assoc}
 use mathlib.Core.Bool.{Bool, true, false}
 use mathlib.Core.Path.{_≡_, refl, ap, sym, _∙_, subst}
 use native.Mathlib.Numerals.{add-one}
@@ -13,25 +13,8 @@ use Rattle.meaning.specs.Basics.{pick}
 use Rattle.meaning.specs.Memory.{roomOf, reply}
 use Rattle.meaning.specs.Listing.{decimal, hexOf, viewed, lineOf, firstLine}
 use Rattle.listing.specs.Text.{rowOf, viewOf, rowText, linesFrom, linesOf, viewFrom, rowFrom, textAt}
-use Rattle.listing.specs.Stages.{fieldsOf, ViewAt}
-
-pub fields-next : (n : ℕ) (row : List ℕ) → fieldsOf (n ∷ row) ≡ (decimal n ++ (0x09 ∷ [])) ++ fieldsOf row
-unfolding fieldsOf
-fields-next n row = refl
-
-pub fields-none : fieldsOf [] ≡ []
-unfolding fieldsOf
-fields-none = refl
-
-one-more : (f rest t : List ℕ) → f ++ (0x09 ∷ (rest ++ t)) ≡ ((f ++ (0x09 ∷ [])) ++ rest) ++ t
-one-more f rest t = sym (append-assoc (f ++ (0x09 ∷ [])) rest t ∙ append-assoc f (0x09 ∷ []) (rest ++ t))
-
--- a line of numbers and one field behind them
-line-of-fields : (row last : List ℕ) → lineOf (map decimal row ++ (last ∷ [])) ≡ fieldsOf row ++ (last ++ (0x0a ∷ []))
-unfolding lineOf fieldsOf
-line-of-fields [] last = refl
-line-of-fields (n ∷ []) last = one-more (decimal n) [] (last ++ (0x0a ∷ []))
-line-of-fields (n ∷ (m ∷ row)) last = ap (λ (x : List ℕ). decimal n ++ (0x09 ∷ x)) (line-of-fields (m ∷ row) last) ∙ one-more (decimal n) (fieldsOf (m ∷ row)) (last ++ (0x0a ∷ []))
+use Rattle.pen.specs.Fields.{fieldsOf, line-of-fields}
+use Rattle.listing.specs.Stages.{ViewAt}
 
 pub first-line-fields : (answer place count : ℕ) → (decimal answer ++ (0x09 ∷ [])) ++ ((decimal place ++ (0x09 ∷ [])) ++ (decimal count ++ (0x0a ∷ []))) ≡ firstLine (reply answer place count)
 unfolding lineOf

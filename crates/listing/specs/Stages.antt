@@ -5,14 +5,10 @@ use mathlib.Core.Path.{_≡_}
 use lib.ListN.{length}
 use Rattle.meaning.specs.Listing.{decimal}
 use Rattle.pen.specs.Wrote.{Wrote}
+use Rattle.pen.specs.Fields.{fieldsOf}
 use Rattle.listing.specs.declared.Piece.{Piece}
 use Rattle.listing.specs.Text.{viewOf, viewFrom}
 use Rattle.listing.specs.Pieces.{pieceLeast, viewStop, rowStop, PieceOf}
-
--- the fields of a row's numbers, each with its tab
-unfoldable pub fieldsOf : List ℕ → List ℕ
-fieldsOf [] = []
-fieldsOf (n ∷ row) = (decimal n ++ (0x09 ∷ [])) ++ fieldsOf row
 
 -- a number of a row has ten digits at most
 pub record WroteField (before after : List ℕ) (at number end : ℕ) : Type 0 where

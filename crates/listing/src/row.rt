@@ -15,7 +15,8 @@ ghost use Rattle.meaning.specs.Listing.{hexOf};
 ghost use Rattle.listing.specs.Text.{rowOf, viewOf};
 ghost use Rattle.listing.specs.Pieces.{pieceLeast};
 ghost use Rattle.pen.specs.Wrote.{Wrote};
-ghost use Rattle.listing.specs.Stages.{WroteEnd, WroteField, RowPiece, ViewPiece, ViewRoom, fieldsOf};
+ghost use Rattle.pen.specs.Fields.{fieldsOf};
+ghost use Rattle.listing.specs.Stages.{WroteEnd, WroteField, RowPiece, ViewPiece, ViewRoom};
 
 // "or `-` if none"
 const NONE: u8 = 0x2d;

@@ -31,6 +31,8 @@ use Rattle.meaning.specs.Which.{editionsOf, readEither, whichAnswer, whi
 use Rattle.meaning.specs.WhichCases.{sortings}
 use Rattle.meaning.specs.Relay.{movedTable, relay, relayAnswer, relayRows, relayWords, relayOutput}
 use Rattle.meaning.specs.RelayCases.{relaying}
+use Rattle.meaning.specs.Figures.{entryOf, total, figuresOf, addsOf, sums, sumOf, messagesIn, areFigures, takesMore, addAnswer, addFigures, joinable, joinAnswer, joinFigures, reportLine, report, reportAnswer, reportOutput}
+use Rattle.meaning.specs.FigureCases.{figures}
 use Rattle.meaning.specs.LongCases.{stages}
 use Rattle.meaning.specs.QuickCases.{quick}
 
@@ -56,6 +58,6 @@ abbrev pub andThen : Bool → (Unit {0} → Bool) → Bool
 andThen false rest = false
 andThen true rest = rest tt
 
-pub bounds : T (andThen (quick && coding.payload && stages && lookings && sortings && presence && skips && relaying && values) (λ _. andThen (presents && days) (λ _. andThen widths (λ _. andThen readings (λ _. andThen breaks (λ _. writings))))))
-unfolding textByte takeText textOk turn takeNumber numberOk lastDay passes takeDate dateOk highFirst tooWide takeBytes blockOf takeBlock blockOk shared own moves takeValue find look stepMove step run inside envelope header readBy valid writeValue wayOf fit fitRow closeWithin close planOf writeRows belongs belonging heldAgainst cellsOf ranksOf skipsOf skipsHeld laidOver write occurs wordOf wordsOf onesWithin onesOf answerBy rowsBy wordsBy writeAnswer writeOutput payloadStart payloadEnd payloadBytes numberValue digitsWithin digitsOf packed decodeNumber numberDecoded numberPlain numberBytes numberEncoded numberOutput decodeDate dateDecoded datePlain dateInRange dateEncoded dateOutput decimal viewed lineOf listingOf listing copyAll lookOn allEnvelopes lookedUp present checked presentAnswer lookup editionsOf readEither whichAnswer whichRows whichWords movedTable relay relayAnswer relayRows relayWords relayOutput
+pub bounds : T (andThen (quick && coding.payload && stages && figures && lookings && sortings && presence && skips && relaying && values) (λ _. andThen (presents && days) (λ _. andThen widths (λ _. andThen readings (λ _. andThen breaks (λ _. writings))))))
+unfolding textByte takeText textOk turn takeNumber numberOk lastDay passes takeDate dateOk highFirst tooWide takeBytes blockOf takeBlock blockOk shared own moves takeValue find look stepMove step run inside envelope header readBy valid writeValue wayOf fit fitRow closeWithin close planOf writeRows belongs belonging heldAgainst cellsOf ranksOf skipsOf skipsHeld laidOver write occurs wordOf wordsOf onesWithin onesOf answerBy rowsBy wordsBy writeAnswer writeOutput payloadStart payloadEnd payloadBytes numberValue digitsWithin digitsOf packed decodeNumber numberDecoded numberPlain numberBytes numberEncoded numberOutput decodeDate dateDecoded datePlain dateInRange dateEncoded dateOutput decimal viewed lineOf listingOf listing copyAll lookOn allEnvelopes lookedUp present checked presentAnswer lookup editionsOf readEither whichAnswer whichRows whichWords movedTable relay relayAnswer relayRows relayWords relayOutput entryOf total figuresOf addsOf sums sumOf messagesIn areFigures takesMore addAnswer addFigures joinable joinAnswer joinFigures reportLine report reportAnswer reportOutput
 bounds = tt

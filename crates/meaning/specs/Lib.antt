@@ -21,6 +21,7 @@ pub mod Relay
 pub mod Payload
 pub mod Plain
 pub mod Listing
+pub mod Figures
 -- Instances, which are theorems: how a case is held against the definitions, document 01's own, then our own, each file named after what it tries.
 pub mod Cases
 pub mod Instances
@@ -36,6 +37,7 @@ pub mod PresentCases
 pub mod LookupCases
 pub mod WhichCases
 pub mod RelayCases
+pub mod FigureCases
 pub mod CodeCases
 pub mod FurtherCases
 pub mod DigitCases

@@ -2,3 +2,4 @@
 pub mod Wrote
 pub mod Written
 pub mod Decimals
+pub mod Fields

@@ -32,3 +32,5 @@ pub const TABLE_WRONG: u32 = 15;
 pub const OUTPUT_SHORT: u32 = 16;
 
 pub const PARAMETER_UNKNOWN: u32 = 17;
+
+pub const FIGURES_FULL: u32 = 19;

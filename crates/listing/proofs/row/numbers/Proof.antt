@@ -5,9 +5,8 @@ use mathlib.Core.Path.{_≡_, refl, _∙_}
 use native.Mathlib.Omega.{arith}
 use lib.ListN.{length}
 use Rattle.meaning.specs.Listing.{decimal}
-use Rattle.listing.specs.Stages.{fieldsOf}
+use Rattle.pen.specs.Fields.{fieldsOf, fields-next, fields-none}
 use Rattle.pen.specs.Written.{Printing, printing-begins, printing-goes, printing-ends}
-use Rattle.listing.specs.Cursors.{fields-next, fields-none}
 use Rattle.listing.proofs.row.numbers.Statement.{statement}
 use Rattle.listing.proofs.row.numbers.Tie as tie
 
