@@ -3,7 +3,7 @@
                                        both programs checked
      bench once INPUT PROGRAM CALL     the call once for each header of the input, for whoever counts instructions from outside
      bench time INPUT CALL             nanoseconds of the processor for a header, the archive's and the second program's
-   PROGRAM is archive or second, CALL is read, payload, figures_add (to figures that begin empty), which, write, relay (of a small
+   PROGRAM is archive or second, CALL is read, read_plain (of the second program its only reading), payload, figures_add (to figures that begin empty), which, write, relay (of a small
    envelope), present or lookup (these two of code 06, which stands behind every list, or nowhere). Whatever is measured is checked: every call must be accepted, and rows
    and bytes must be the other program's. */
 #define _POSIX_C_SOURCE 200809L
@@ -22,7 +22,7 @@ enum { EDITION = GAMULISYAN_EDITION_D, ROW = GAMULISYAN_ROW_NUMBERS, MOST_NUMBER
 /* Nanoseconds: of one batch, and of all of them. */
 enum { BATCH = 1000000, LONG_ENOUGH = 2000000000 };
 
-enum call { READ, PAYLOAD, FIGURES_ADD, WHICH, WRITE, RELAY, PRESENT, LOOKUP };
+enum call { READ, READ_PLAIN, PAYLOAD, FIGURES_ADD, WHICH, WRITE, RELAY, PRESENT, LOOKUP };
 
 typedef struct second_reply reading(uint32_t, const uint8_t *, size_t, uint32_t *, size_t, uint32_t *, size_t);
 typedef struct second_part viewing(uint32_t, const uint8_t *, size_t);
@@ -41,6 +41,7 @@ typedef struct second_sorted sorting(const uint8_t *, size_t, uint32_t *, size_t
 struct program {
     const char *name;
     reading *read;
+    reading *read_plain;
     viewing *payload;
     adding *figures_add;
     sorting *which;
@@ -73,6 +74,13 @@ static struct second_reply archive_read(uint32_t edition, const uint8_t *input, 
                                         size_t word_count)
 {
     struct gamulisyan_answer read = gamulisyan_read(edition, input, length, rows, numbers, words, word_count);
+    return (struct second_reply){read.answer, read.place, read.rows};
+}
+
+static struct second_reply archive_read_plain(uint32_t edition, const uint8_t *input, size_t length, uint32_t *rows, size_t numbers, uint32_t *words,
+                                              size_t word_count)
+{
+    struct gamulisyan_answer read = gamulisyan_read_plain(edition, input, length, rows, numbers, words, word_count);
     return (struct second_reply){read.answer, read.place, read.rows};
 }
 
@@ -121,9 +129,9 @@ static struct second_sorted archive_which(const uint8_t *input, size_t length, u
     return (struct second_sorted){{sorted.answer, sorted.place, sorted.rows}, sorted.editions};
 }
 
-static const struct program archive = {"archive",     archive_read,  archive_payload, archive_figures_add, archive_which,
-                                       archive_write, archive_relay, archive_present, archive_lookup};
-static const struct program second = {"second",     second_read,  second_payload, second_figures_add, second_which,
+static const struct program archive = {"archive",     archive_read,  archive_read_plain, archive_payload, archive_figures_add, archive_which,
+                                       archive_write, archive_relay, archive_present,    archive_lookup};
+static const struct program second = {"second",     second_read,  second_read,    second_payload, second_figures_add, second_which,
                                       second_write, second_relay, second_present, second_lookup};
 
 static const uint8_t *header_at(size_t number)
@@ -154,9 +162,14 @@ static void require(int holds, const char *program, const char *call, size_t num
     exit(1);
 }
 
+static struct second_reply read_by(reading *read, size_t number)
+{
+    return read(EDITION, header_at(number), header_length(number), lent_rows, MOST_NUMBERS, lent_words, GAMULISYAN_WORDS);
+}
+
 static struct second_reply read_one(const struct program *program, size_t number)
 {
-    return program->read(EDITION, header_at(number), header_length(number), lent_rows, MOST_NUMBERS, lent_words, GAMULISYAN_WORDS);
+    return read_by(program->read, number);
 }
 
 static struct second_part payload_one(const struct program *program, size_t number)
@@ -218,10 +231,10 @@ static void fill_tables(const struct program *program)
     }
 }
 
-static void check_reading(const struct program *program)
+static void check_reading(const struct program *program, reading *reads)
 {
     for (size_t number = 0; number < headers.count; number++) {
-        struct second_reply read = read_one(program, number);
+        struct second_reply read = read_by(reads, number);
         require(is_whole(read, number) && read.rows * ROW == table_length(number)
                     && memcmp(lent_rows, table_at(number), table_length(number) * sizeof *lent_rows) == 0,
                 program->name, "read", number);
@@ -331,7 +344,8 @@ static void check_alike(void)
 static void check_both(void)
 {
     fill_tables(&archive);
-    check_reading(&second);
+    check_reading(&second, second.read);
+    check_reading(&archive, archive.read_plain);
     check_viewing(&archive);
     check_viewing(&second);
     check_adding(&archive);
@@ -360,6 +374,8 @@ static void call_all(const struct program *program, enum call call)
     for (size_t number = 0; number < headers.count; number++)
         if (call == READ)
             read_one(program, number);
+        else if (call == READ_PLAIN)
+            read_by(program->read_plain, number);
         else if (call == PAYLOAD)
             payload_one(program, number);
         else if (call == FIGURES_ADD)
@@ -415,7 +431,7 @@ static void print_times(enum call call)
 
 static enum call call_named(const char *name)
 {
-    static const char *const names[] = {"read", "payload", "figures_add", "which", "write", "relay", "present"};
+    static const char *const names[] = {"read", "read_plain", "payload", "figures_add", "which", "write", "relay", "present"};
     enum call call = READ;
     while (call < LOOKUP && strcmp(name, names[call]) != 0)
         call++;
@@ -429,7 +445,9 @@ static void call_once(const char *name, enum call call)
     const struct program *other = of_archive ? &second : &archive;
     fill_tables(other);
     if (call == READ)
-        check_reading(program);
+        check_reading(program, program->read);
+    else if (call == READ_PLAIN)
+        check_reading(program, program->read_plain);
     else if (call == PAYLOAD)
         check_viewing(program);
     else if (call == FIGURES_ADD)
