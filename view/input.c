@@ -34,7 +34,7 @@ static const char *take_all(int file, struct input *input)
         if (taken < 0)
             return errno == EBADF ? "it is closed" : errno == EISDIR ? "it is a folder" : "it cannot be read";
         if (taken == 0)
-            return input->length == 0 ? "it is empty" : NULL;
+            return NULL;
         input->length += (size_t)taken;
         if (input->length > MOST_INPUT)
             return "it has more than 67,108,864 bytes";
@@ -44,25 +44,31 @@ static const char *take_all(int file, struct input *input)
     return fault;
 }
 
-static const char *open_file(const char *name, int *file)
+/* Takes all of an open file, which it leaves open. */
+static const char *take_open(int file, struct input *input)
 {
-    *file = strcmp(name, "-") == 0 ? STDIN_FILENO : open(name, O_RDONLY | O_CLOEXEC);
-    if (*file >= 0)
-        return NULL;
-    return errno == ENOENT ? "there is no such file" : "it cannot be read";
+    *input = (struct input){NULL, 0};
+    const char *fault = take_all(file, input);
+    if (fault != NULL)
+        free(input->bytes);
+    return fault;
+}
+
+const char *take_file(const char *name, struct input *input)
+{
+    int file = open(name, O_RDONLY | O_CLOEXEC);
+    if (file < 0)
+        return errno == ENOENT ? "there is no such file" : "it cannot be read";
+    const char *fault = take_open(file, input);
+    close(file);
+    return fault;
 }
 
 const char *take_input(const char *name, struct input *input)
 {
-    int file;
-    *input = (struct input){NULL, 0};
-    const char *fault = open_file(name, &file);
-    if (fault != NULL)
+    const char *fault = strcmp(name, "-") == 0 ? take_open(STDIN_FILENO, input) : take_file(name, input);
+    if (fault != NULL || input->length > 0)
         return fault;
-    fault = take_all(file, input);
-    if (file != STDIN_FILENO)
-        close(file);
-    if (fault != NULL)
-        free(input->bytes);
-    return fault;
+    free(input->bytes);
+    return "it is empty";
 }

@@ -13,8 +13,10 @@ struct input {
     size_t length;
 };
 
-/* Takes a file's name, or `-` for standard input, and room for the input. Answers NULL, and then the caller frees `bytes`; or why the file
-   cannot be shown, and then leaves nothing to free. */
+/* Takes a file's name and room for the input. Answers NULL, and then the caller frees `bytes`; or why the file cannot be taken, and then leaves nothing to free. */
+const char *take_file(const char *name, struct input *input);
+
+/* The same of a file that is not empty; `-` is standard input. */
 const char *take_input(const char *name, struct input *input);
 
 #endif
