@@ -19,7 +19,7 @@ use Rattle.reader.specs.declared.Part.{Part}
 use Rattle.reader.specs.Promises.{ReadsBy, ReadPromise, PartPromise, PayloadPromise}
 use Rattle.writer.specs.Promise.{WritePromise}
 use Rattle.certificate.specs.OneAnswer.{one_read}
-use Rattle.certificate.specs.Lent.{first_rows, behind_rows, rows-read, rows_behind, bytes_written, accepted-call, fills, refuses, lays, written-call, same_count}
+use Rattle.certificate.specs.Lent.{first_rows, behind_rows, rows_read, rows_behind, bytes_written, accepted_call, fills, refuses, lays, written_call, same_count}
 
 -- a call that answers 0 had room for the rows that it read
 pub had_room : {w : Strictness} {edition : ℕ} {input before words after words' : List ℕ} {a : declared.Reply} → ReadsBy w edition input before words a after words' → a.answer ≡ 0 → {place : ℕ} {rows : List Placed} → read_by w edition input ≡ accepted place rows → length rows ≤ room_with before words
@@ -44,8 +44,8 @@ pub read_write_same_bytes : {edition : ℕ} {input before words rows words' outp
     → ReadPromise edition input before words a rows words' → a.answer ≡ 0 → WritePromise edition (first_rows a.rows rows) input output b after → a.place ≤ length output
     → SameBytes input a output b after
 read_write_same_bytes {edition} {input} {rows = rows} {output = output} {a = a} p z q room =
-    let (place, found, is, f) = accepted-call p z in
-    let table : first_rows a.rows rows ≡ table_of found = rows-read f in
+    let (place, found, is, f) = accepted_call p z in
+    let table : first_rows a.rows rows ≡ table_of found = rows_read f in
     let again = read_then_written edition input place found p.bytes is (length output) (omega (arith, f.ends)) in
     let l = lays q (ap (λ (x : List ℕ). write edition x input (length output)) table ∙ again) in
     let shape = accepted_shape strict edition input place found p.bytes is in
@@ -83,7 +83,7 @@ same_table {reading = reading} {out = out} {after = after} {bytes = bytes} {a = 
       answers = f.answers;
       ends = f.ends ∙ sym l.ends;
       count = f.count ∙ n;
-      means = (means.0 ∙ ap (cells_of (bytes ++ payload)) (sym (rows-read f)) ∙ ap (λ (x : List ℕ). cells_of x (first_rows b.rows after)) front, means.1 ∙ ap skips_of (sym (rows-read f)));
+      means = (means.0 ∙ ap (cells_of (bytes ++ payload)) (sym (rows_read f)) ∙ ap (λ (x : List ℕ). cells_of x (first_rows b.rows after)) front, means.1 ∙ ap skips_of (sym (rows_read f)));
       leaves = rows_behind f;
     }
 
@@ -91,7 +91,7 @@ pub write_read_same_table : {edition : ℕ} {rows pool output out before words a
     → WritePromise edition rows pool output a out → a.answer ≡ 0 → (payload : List ℕ) → ReadPromise edition (sent a out payload) before words b after words' → a.rows ≤ room_with before words
     → SameTable rows pool a (sent a out payload) before b after
 write_read_same_table {edition} {rows} {pool} {output} p z payload q room =
-    let (bytes, w, l) = written-call p z in
+    let (bytes, w, l) = written_call p z in
     same_table p w payload q room (written_then_read edition rows pool (length output) bytes p.bytes w payload)
 
 -- 3. "The label can't lie": "A table written under one edition and read under the other is the same table, or is refused with 7 or 9: never a different table."
@@ -107,7 +107,7 @@ pub label_never_lies : (e : Edition) {rows pool output out before words after wo
     → WritePromise (number_of e) rows pool output a out → a.answer ≡ 0 → (payload : List ℕ) → ReadPromise (number_of (other e)) (sent a out payload) before words b after words'
     → ((plain_table rows pool ≡ true) × (a.rows ≤ room_with before words → SameTable rows pool a (sent a out payload) before b after)) ⊎ ((plain_table rows pool ≡ false) × RefusesLabel before words b after words')
 label_never_lies e {rows} {pool} {output} {out} {before} {words} {after} {words'} {a} {b} p z payload q =
-    let (bytes, w, l) = written-call p z in
+    let (bytes, w, l) = written_call p z in
     at bytes w (ap (λ (x : List ℕ). x ++ payload) (bytes_written l)) (label_cannot_lie e rows pool (length output) bytes p.bytes w payload)
   where
     as_answered : {refusal : ℕ} → b.answer ≡ refusal → (refusal ≡ 7) ⊎ (refusal ≡ 9) → (b.answer ≡ 7) ⊎ (b.answer ≡ 9)
@@ -133,7 +133,7 @@ pub zero_is_same_table : (e : Edition) {rows pool output out before words after 
     → WritePromise (number_of e) rows pool output a out → a.answer ≡ 0 → (payload : List ℕ) → ReadPromise (number_of (other e)) (sent a out payload) before words b after words' → b.answer ≡ 0
     → (plain_table rows pool ≡ true) × SameTable rows pool a (sent a out payload) before b after
 zero_is_same_table e {rows} {pool} {output} {out} {before} {words} {after} {words'} {a} {b} p z payload q accepts =
-    let (bytes, w, l) = written-call p z in
+    let (bytes, w, l) = written_call p z in
     at bytes w (ap (λ (x : List ℕ). x ++ payload) (bytes_written l)) (label_cannot_lie e rows pool (length output) bytes p.bytes w payload)
   where
     at : (bytes : List ℕ) → write (number_of e) rows pool (length output) ≡ written bytes → sent a out payload ≡ bytes ++ payload
@@ -156,7 +156,7 @@ pub payload_changes_nothing : {edition : ℕ} {input before words after words₁
     → ReadPromise edition input before words a after words₁ → a.answer ≡ 0 → (payload : List ℕ) → ReadPromise edition (take a.place input ++ payload) before words b later words₂ → (a ≡ b) × (after ≡ later) × (words₁ ≡ words₂)
 unfolding answer_by rows_by words_by
 payload_changes_nothing {edition} {input} {before} {words} {a = a} p z payload q =
-    let (place, rows, is, f) = accepted-call p z in
+    let (place, rows, is, f) = accepted_call p z in
     let ends : take a.place input ++ payload ≡ take place input ++ payload = ap (λ (n : ℕ). take n input ++ payload) f.ends in
     let alike : read edition (take a.place input ++ payload) ≡ read edition input = ap (read edition) ends ∙ payload_alters_nothing edition input place rows p.bytes is payload ∙ sym is in
     one_read p (record { bytes = p.bytes; answers = q.answers ∙ ap (read_reply (room_with before words)) alike; rows = q.rows ∙ ap (read_memory (room_with before words) table_of before) alike; carries = q.carries ∙ ap (read_memory (room_with before words) words_read words) alike })
@@ -168,7 +168,7 @@ pub payload_behind_header : {edition : ℕ} {input before words after words' byt
     → PayloadPromise edition input bytes → PartPromise edition input part → (take a.place input ++ bytes ≡ input) × (part.start ≡ a.place) × (part.end ≡ length input)
 unfolding payload_bytes payload_start payload_end
 payload_behind_header {input = input} {a = a} p z q r =
-    let (place, rows, is, f) = accepted-call p z in
+    let (place, rows, is, f) = accepted_call p z in
     let payload : take a.place input ++ _ ≡ take a.place input ++ drop a.place input = ap (λ (x : List ℕ). take a.place input ++ x) (q.bytes ∙ ap (part_bytes input) is ∙ ap (λ (n : ℕ). drop n input) (sym f.ends)) in
     (payload ∙ take-append-drop a.place input, r.starts ∙ ap part_start is ∙ sym f.ends, r.ends ∙ ap (part_end input) is)
 

@@ -18,14 +18,14 @@ use Rattle.coders.specs.declared.Date.{Date}
 use Rattle.coders.specs.declared.encode.Encoded.{Encoded}
 use Rattle.coders.specs.Plain.{NumberDecodes, NumberEncodes, DateDecodes, DateEncodes, plain_of}
 use Rattle.certificate.specs.OneAnswer.{same_date}
-use Rattle.certificate.specs.Lent.{laid_behind, Encodes, encoded-call, encodes, encoded_front, decoded_call, decodes}
+use Rattle.certificate.specs.Lent.{laid_behind, Encodes, encoded_call, encodes, encoded_front, decoded_call, decodes}
 
 -- the bytes of a number that was encoded are decoded to it
 pub number_coded_again : {value : ℕ} {before after : List ℕ} {a : Encoded} {b : DecodedNumber} → NumberEncodes value before after a → a.answer ≡ 0 → NumberDecodes (take a.place after) b
     → (b.answer ≡ 0) × (b.place ≡ a.place) × (b.value ≡ value)
 unfolding number_encoded number_output number_decoded number_plain
 number_coded_again {value} {before} {after} {a} p z q =
-    let (range, e) = encoded-call 10 (number_bytes value) before (omega arith) (leb value number_most) p.is p.lays z in
+    let (range, e) = encoded_call 10 (number_bytes value) before (omega arith) (leb value number_most) p.is p.lays z in
     let (again, worth) = number_again value (leb-true value number_most range) in
     let d : decode_number (take a.place after) ≡ decoded (number_bytes value) = ap decode_number (encoded_front e) ∙ again in
     let (answers, ends) = decodes 10 q.is d in
@@ -47,7 +47,7 @@ pub date_coded_again : {kind : ℕ} {date : Date} {before after : List ℕ} {a :
     → (b.answer ≡ 0) × (b.place ≡ a.place) × (b.date ≡ date)
 unfolding date_encoded date_output date_decoded date_plain
 date_coded_again {kind} {date} {before} {after} {a} p z q =
-    let (range, e) = encoded-call 9 (date_bytes (plain_of date)) before (omega arith) (date_in_range kind (plain_of date)) p.is p.lays z in
+    let (range, e) = encoded_call 9 (date_bytes (plain_of date)) before (omega arith) (date_in_range kind (plain_of date)) p.is p.lays z in
     let (again, worth) = date_again kind (plain_of date) range in
     let d : decode_date kind (take a.place after) ≡ decoded (date_bytes (plain_of date)) = ap (decode_date kind) (encoded_front e) ∙ again in
     let (answers, ends) = decodes 9 q.is d in
@@ -72,7 +72,7 @@ decoded_day_exists {bytes} {a} p z =
 
 pub encoded_day_exists : {date : Date} {before after : List ℕ} {a : Encoded} → DateEncodes date_absolute (plain_of date) before after a → a.answer ≡ 0 → DayExists (plain_of date)
 unfolding date_encoded date_output
-encoded_day_exists {date} {before} p z = day_exists (plain_of date) (encoded-call 9 (date_bytes (plain_of date)) before (omega arith) (date_in_range date_absolute (plain_of date)) p.is p.lays z).0
+encoded_day_exists {date} {before} p z = day_exists (plain_of date) (encoded_call 9 (date_bytes (plain_of date)) before (omega arith) (date_in_range date_absolute (plain_of date)) p.is p.lays z).0
 
 -- "A refused call changes nothing lent; an accepted one changes only its .. bytes." Whatever refuses it: 16, for want of room, too.
 
@@ -104,7 +104,7 @@ module _ (refusal : ℕ) (bytes before : List ℕ) {after : List ℕ} {result : 
   accepted_leaves : 1 ≤ refusal → (in_range : Bool) → outcome result.answer result.place ≡ encode_outcome refusal in_range (length before) bytes → after ≡ encode_memory in_range before bytes → result.answer ≡ 0 → (in_range ≡ true) × OnlyItsBytes bytes before after result
   unfolding laid_over
   accepted_leaves some in_range is leaves z =
-      let (range, e) = encoded-call refusal bytes before some in_range is leaves z in
+      let (range, e) = encoded_call refusal bytes before some in_range is leaves z in
       let room = fitted refusal bytes before some in_range is z in (
         range,
         record {

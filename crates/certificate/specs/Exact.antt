@@ -16,7 +16,7 @@ use Rattle.table.specs.declared.reply.Reply as declared
 use Rattle.reader.specs.Promises.{ReadPromise}
 use Rattle.writer.specs.Promise.{WritePromise}
 use Rattle.certificate.specs.Calls.{had_room}
-use Rattle.certificate.specs.Lent.{Filled, Laid, accepted-call, fills, written-call, lays}
+use Rattle.certificate.specs.Lent.{Filled, Laid, accepted_call, fills, written_call, lays}
 
 -- 1. "The reader accepts exactly the edition's headers and gives exactly the rows."
 -- A call answers 0 if and only if the input is a header of the edition, with any payload behind it, whose rows have room; then it leaves that table's rows and words, starts included.
@@ -34,23 +34,23 @@ module _ {edition : ℕ} {input before words after words' : List ℕ} {a : decla
   unfolding answer_by
   as_read = p.answers
 
-  pub call-accepts-exactly : (a.answer ≡ 0) ↔ HeaderFilled edition input before words a after words'
-  call-accepts-exactly = (
+  pub call_accepts_exactly : (a.answer ≡ 0) ↔ HeaderFilled edition input before words a after words'
+  call_accepts_exactly = (
     (λ z.
-        let (place, rows, is, f) = accepted-call p z in
+        let (place, rows, is, f) = accepted_call p z in
         record { place = place; rows = rows; header = (accepts_exactly edition input place rows p.bytes).0 is; room = had_room p z is; filled = f }),
     λ h. h.filled.answers,
   )
 
   -- and every such header is accepted, where its rows have room
-  pub call-accepts-header : (place : ℕ) (rows : List Placed) → HeaderOf edition input place rows → length rows ≤ room_with before words → Filled place rows before words a after words'
-  call-accepts-header place rows h room = fills p ((accepts_exactly edition input place rows p.bytes).1 h) room
+  pub call_accepts_header : (place : ℕ) (rows : List Placed) → HeaderOf edition input place rows → length rows ≤ room_with before words → Filled place rows before words a after words'
+  call_accepts_header place rows h room = fills p ((accepts_exactly edition input place rows p.bytes).1 h) room
 
   -- 2. "Each refusal has its number and place, is given exactly when the documents say."
   -- A call answers this number, other than 0, with this place and these rows, if and only if what document 01 says of the number holds.
 
-  pub call-refuses-exactly : (refusal place count : ℕ) → 1 ≤ refusal → (reply a.answer a.place a.rows ≡ reply refusal place count) ↔ ReaderRefusal edition input (room_with before words) refusal place count
-  call-refuses-exactly refusal place count some =
+  pub call_refuses_exactly : (refusal place count : ℕ) → 1 ≤ refusal → (reply a.answer a.place a.rows ≡ reply refusal place count) ↔ ReaderRefusal edition input (room_with before words) refusal place count
+  call_refuses_exactly refusal place count some =
       let both = refuses_exactly edition input (room_with before words) refusal place count p.bytes some in
       ((λ q. both.0 (sym as_read ∙ q)), λ r. as_read ∙ both.1 r)
 
@@ -90,8 +90,8 @@ module _ {edition : ℕ} {input before words after words' : List ℕ} {a : decla
       at (refused refusal place) q r = q ∙ ap (λ (x : ℕ). refused x place) (sym (ap (λ (x : Reply). x.answer) r)) ∙ ap (refused a.answer) (sym (ap (λ (x : Reply). x.place) r))
       at (accepted place rows) q r = absurd (by_room place rows (leb (length rows) (room_with before words)) (ap (λ (x : Reply). x.answer) r))
 
-  pub call-first-fault : (a.answer ≡ 0 → ⊥) → (a.answer ≡ 2 → ⊥) → (a.answer ≡ 14 → ⊥) → CallDecided edition input a.answer a.place
-  call-first-fault some two full =
+  pub call_first_fault : (a.answer ≡ 0 → ⊥) → (a.answer ≡ 2 → ⊥) → (a.answer ≡ 14 → ⊥) → CallDecided edition input a.answer a.place
+  call_first_fault some two full =
       let d = first_fault_decides edition input a.answer a.place p.bytes (was_refused some full) two in
       record { front = d.front; back = d.back; parts = d.parts; near = d.near; others = λ other before words after words' b q. as_called q (d.others other) }
     where
@@ -114,15 +114,15 @@ module _ {edition : ℕ} {rows pool before after : List ℕ} {a : declared.Reply
   as_written = p.answers
 
   -- 0 if and only if the rows are a table of the edition within its limits whose bytes have room; these then stand at the output's front, and nothing behind them changed
-  pub call-writes-exactly : (bytes : List ℕ) → WritesAs edition rows pool (length before) bytes → Laid bytes rows before a after
-  call-writes-exactly bytes w = lays p ((writes_exactly edition rows pool (length before) bytes).1 w)
+  pub call_writes_exactly : (bytes : List ℕ) → WritesAs edition rows pool (length before) bytes → Laid bytes rows before a after
+  call_writes_exactly bytes w = lays p ((writes_exactly edition rows pool (length before) bytes).1 w)
 
-  pub call-wrote : a.answer ≡ 0 → (bytes : List ℕ) × WritesAs edition rows pool (length before) bytes × Laid bytes rows before a after
-  call-wrote z = let (bytes, w, l) = written-call p z in (bytes, (writes_exactly edition rows pool (length before) bytes).0 w, l)
+  pub call_wrote : a.answer ≡ 0 → (bytes : List ℕ) × WritesAs edition rows pool (length before) bytes × Laid bytes rows before a after
+  call_wrote z = let (bytes, w, l) = written_call p z in (bytes, (writes_exactly edition rows pool (length before) bytes).0 w, l)
 
   -- what is said of a refusal's number holds, and where it holds that number is answered at that place
-  pub call-write-refused : (a.answer ≡ 0 → ⊥) → WriterFault edition rows pool (length before) a.answer a.place
-  call-write-refused some = at (write edition rows pool (length before)) refl as_written
+  pub call_write_refused : (a.answer ≡ 0 → ⊥) → WriterFault edition rows pool (length before) a.answer a.place
+  call_write_refused some = at (write edition rows pool (length before)) refl as_written
     where
       at : (found : Written) → write edition rows pool (length before) ≡ found → reply a.answer a.place a.rows ≡ write_reply (room_of rows) found → WriterFault edition rows pool (length before) a.answer a.place
       at (written bytes) q r = absurd (some (ap (λ (x : Reply). x.answer) r))
@@ -130,7 +130,7 @@ module _ {edition : ℕ} {rows pool before after : List ℕ} {a : declared.Reply
           let f = (writer_refuses_exactly edition rows pool (length before) refusal place).0 q in
           subst (λ (x : ℕ). WriterFault edition rows pool (length before) x a.place) (sym (ap (λ (x : Reply). x.answer) r)) (subst (WriterFault edition rows pool (length before) refusal) (sym (ap (λ (x : Reply). x.place) r)) f)
 
-  pub call-write-refuses : (refusal place : ℕ) → WriterFault edition rows pool (length before) refusal place → (a.answer ≡ refusal) × (a.place ≡ place) × (a.rows ≡ 0)
-  call-write-refuses refusal place f =
+  pub call_write_refuses : (refusal place : ℕ) → WriterFault edition rows pool (length before) refusal place → (a.answer ≡ refusal) × (a.place ≡ place) × (a.rows ≡ 0)
+  call_write_refuses refusal place f =
       let r = as_written ∙ ap (write_reply (room_of rows)) ((writer_refuses_exactly edition rows pool (length before) refusal place).1 f) in
       (ap (λ (x : Reply). x.answer) r, ap (λ (x : Reply). x.place) r, ap (λ (x : Reply). x.rows) r)

@@ -59,8 +59,8 @@ module _ {place : ℕ} {rows : List Placed} {before words after words' : List �
   table_long : length (table_of rows) ≡ a.rows * row_width
   table_long = table_length rows ∙ ap (λ (n : ℕ). n * row_width) (sym f.count)
 
-  pub rows-read : first_rows a.rows after ≡ table_of rows
-  rows-read = ap (first_rows a.rows) f.leaves ∙ laid_front before (table_of rows) table_long
+  pub rows_read : first_rows a.rows after ≡ table_of rows
+  rows_read = ap (first_rows a.rows) f.leaves ∙ laid_front before (table_of rows) table_long
 
   pub rows_behind : behind_rows a.rows after ≡ behind_rows a.rows before
   rows_behind = ap (behind_rows a.rows) f.leaves ∙ laid_behind before (table_of rows) table_long
@@ -74,9 +74,9 @@ module _ {w : Strictness} {edition : ℕ} {input before words after words' : Lis
   abbrev AcceptedCall : Type 0
   AcceptedCall = (place : ℕ) × (rows : List Placed) × (read_by w edition input ≡ accepted place rows) × Filled place rows before words a after words'
 
-  pub accepted-call : a.answer ≡ 0 → AcceptedCall
+  pub accepted_call : a.answer ≡ 0 → AcceptedCall
   unfolding answer_by rows_by words_by
-  accepted-call z = at (read_by w edition input) refl p.answers p.rows p.carries
+  accepted_call z = at (read_by w edition input) refl p.answers p.rows p.carries
     where
       fits : (place : ℕ) (rows : List Placed) → read_by w edition input ≡ accepted place rows → (room : Bool)
           → reply a.answer a.place a.rows ≡ reply (pick room 0 14) place (length rows) → after ≡ pick room (laid_over before (table_of rows)) before → words' ≡ pick room (laid_over words (words_read rows)) words → AcceptedCall
@@ -133,9 +133,9 @@ module _ {edition : ℕ} {rows pool before after : List ℕ} {a : declared.Reply
         leaves = p.leaves ∙ ap (write_memory before) q;
       }
 
-  pub written-call : a.answer ≡ 0 → WrittenCall
+  pub written_call : a.answer ≡ 0 → WrittenCall
   unfolding write_answer
-  written-call z = at (write edition rows pool (length before)) refl p.answers
+  written_call z = at (write edition rows pool (length before)) refl p.answers
     where
       at : (found : Written) → write edition rows pool (length before) ≡ found → reply a.answer a.place a.rows ≡ write_reply (room_of rows) found → WrittenCall
       at (unwritten refusal place) q r =
@@ -160,9 +160,9 @@ pub record Encodes (bytes before after : List ℕ) (result : Encoded) : Type 0 w
 
 -- an encoder that answers 0 had a value in range, and its bytes had room
 module _ (refusal : ℕ) (bytes before : List ℕ) {after : List ℕ} {result : Encoded} where
-  pub encoded-call : 1 ≤ refusal → (in_range : Bool) → outcome result.answer result.place ≡ encode_outcome refusal in_range (length before) bytes → after ≡ encode_memory in_range before bytes → result.answer ≡ 0 → (in_range ≡ true) × Encodes bytes before after result
-  encoded-call some false is leaves z = let x : result.answer ≡ refusal = ap (λ (o : Outcome). o.answer) is in absurd (omega arith)
-  encoded-call some true is leaves z = fits (leb (length bytes) (length before)) is leaves
+  pub encoded_call : 1 ≤ refusal → (in_range : Bool) → outcome result.answer result.place ≡ encode_outcome refusal in_range (length before) bytes → after ≡ encode_memory in_range before bytes → result.answer ≡ 0 → (in_range ≡ true) × Encodes bytes before after result
+  encoded_call some false is leaves z = let x : result.answer ≡ refusal = ap (λ (o : Outcome). o.answer) is in absurd (omega arith)
+  encoded_call some true is leaves z = fits (leb (length bytes) (length before)) is leaves
     where
       fits : (room : Bool) → outcome result.answer result.place ≡ pick room (outcome 0 (length bytes)) (outcome 16 (length bytes)) → after ≡ pick room (laid_over before bytes) before → (true ≡ true) × Encodes bytes before after result
       fits false o m = let x : result.answer ≡ 16 = ap (λ (o : Outcome). o.answer) o in absurd (omega arith)

@@ -16,9 +16,9 @@ use Rattle.reader.specs.Promises.{ReadsBy}
 use Rattle.writer.specs.Promise.{WritePromise}
 use Rattle.present.specs.Promise.{PresentPromise}
 use Rattle.lookup.specs.Promise.{LookupPromise}
-use Rattle.certificate.specs.Lent.{first_rows, rows-read, accepted-call, written-call}
-use Rattle.certificate.specs.Presence.{words-carried}
-use Rattle.certificate.specs.Present.{present-by-procedure}
+use Rattle.certificate.specs.Lent.{first_rows, rows_read, accepted_call, written_call}
+use Rattle.certificate.specs.Presence.{words_carried}
+use Rattle.certificate.specs.Present.{present_by_procedure}
 
 pub one_lookup : {rows words : List ℕ} {code : ℕ} {a b : declared.Reply} → LookupPromise rows words code a → LookupPromise rows words code b → a ≡ b
 one_lookup p q = ap (λ (r : Reply). record { answer = r.answer; place = r.place; rows = r.rows }) (p.answers ∙ sym q.answers)
@@ -39,16 +39,16 @@ first_value_lem {rows} {words} {code} p l =
 
 pub lookup_in_written : {edition code : ℕ} {rows pool before after words : List ℕ} {a b : declared.Reply} → WritePromise edition rows pool before a after → a.answer ≡ 0 → TrueWords rows words → can_ask code ≡ true → LookupPromise rows words code b → FirstValue rows code b
 lookup_in_written {edition} {code} {rows} {pool} {before} {words = words} p z t c q =
-    let (bytes, w, l) = written-call p z in
+    let (bytes, w, l) = written_call p z in
     first_value_lem q (written_looks_up edition rows pool (length before) bytes w words t code c)
 
 -- the rows and words that one call of a reader left
 pub lookup_in_read : {w : Strictness} {edition code : ℕ} {input before words after words' : List ℕ} {a b : declared.Reply} → ReadsBy w edition input before words a after words' → a.answer ≡ 0 → envelopes_most ≤ length words' → can_ask code ≡ true
     → LookupPromise (first_rows a.rows after) words' code b → FirstValue (first_rows a.rows after) code b
 lookup_in_read {w} {edition} {code} {input} {after = after} {words' = words'} {a = a} p z enough c q =
-    let (place, found, is, f) = accepted-call p z in
-    let carried = words-carried p z in
-    let table = rows-read f in
+    let (place, found, is, f) = accepted_call p z in
+    let carried = words_carried p z in
+    let table = rows_read f in
     let own : TrueWords (first_rows a.rows after) words' = record { front = ap (λ (n : ℕ). take n words') carried.one_each ∙ carried.walked; enough = enough } in
     first_value_lem q (subst (λ (x : List ℕ). LooksUp x words' code) (sym table) (read_looks_up w edition input place found p.bytes is words' (subst (λ (x : List ℕ). TrueWords x words') table own) code c))
 
@@ -59,4 +59,4 @@ lookup_is_present {edition} {code} {rows} {pool} {words} {a} {b} p z t q =
     let well = zero_means edition rows pool code (ap (λ (r : Reply). r.answer) (sym p.answers) ∙ z) in
     let l = looks_up_present well.told rows pool words code well.check t well.asked in
     let r = q.answers ∙ l.is in
-    (ap (λ (x : Reply). x.answer) r, ap (λ (x : Reply). x.place) r ∙ sym (present-by-procedure p z).0, omega (arith, ap (λ (x : Reply). x.rows) r, l.few))
+    (ap (λ (x : Reply). x.answer) r, ap (λ (x : Reply). x.place) r ∙ sym (present_by_procedure p z).0, omega (arith, ap (λ (x : Reply). x.rows) r, l.few))

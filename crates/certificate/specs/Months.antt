@@ -8,12 +8,12 @@ use Rattle.meaning.specs.Memory.{Reply, reply, laid_over, read_reply, room_with,
 use Rattle.meaning.specs.Plain.{Outcome, outcome, encode_outcome, encode_memory}
 use Rattle.meaning.specs.Figures.{Message, Entry, taken, turned, entry_in, entry_by, entry_of, total, figures_of, messages_most, are_figures, takes_more, add_answer, add_figures, joinable, join_answer, join_figures, report, report_answer, report_output}
 use Rattle.laws_steps.specs.Logic.{are_bytes}
-use Rattle.laws_demands.specs.Months.{are_messages, are_figures_lem, added, not-added, joined}
+use Rattle.laws_demands.specs.Months.{are_messages, are_figures_lem, added, not_added, joined}
 use Rattle.table.specs.declared.reply.Reply as declared
 use Rattle.reader.specs.Promises.{ReadPromise}
 use Rattle.figures.specs.declared.Figured.{Figured}
 use Rattle.figures.specs.Promises.{message, AddPromise, JoinPromise, ReportPromise}
-use Rattle.certificate.specs.Lent.{accepted-call}
+use Rattle.certificate.specs.Lent.{accepted_call}
 
 -- One answer, and some answer
 
@@ -46,7 +46,7 @@ call_added ms t few {edition} {input} p = let (a, f) = added ms t (message editi
 -- "19 at place 0 after 1,000,000 messages of any edition, figures unchanged"
 pub call_full : (ms : List Message) → T (are_messages ms) → messages_most ≤ length ms → {edition : ℕ} {input after : List ℕ} {r : Figured} → AddPromise edition input (figures_of ms) after r
     → (outcome r.answer r.place ≡ outcome 19 0) × (after ≡ figures_of ms)
-call_full ms t many {edition} {input} p = let (a, f) = not-added ms t (message edition input) many in (p.answers ∙ a, p.figures ∙ f)
+call_full ms t many {edition} {input} p = let (a, f) = not_added ms t (message edition input) many in (p.answers ∙ a, p.figures ∙ f)
 
 -- the empty figures are thirty-one zeros
 pub empty_figures : figures_of [] ≡ replicate 31 0
@@ -94,7 +94,7 @@ pub counts_as_read : {edition : ℕ} {e : Edition} {input before words after wor
     → (rows : List Placed) × (read edition input ≡ accepted a.place rows) × (entry_of (message edition input) ≡ taken e (length (words_read rows)) a.place)
 unfolding entry_of read_by
 counts_as_read {edition} {e} {input} k p z =
-    let (place, rows, is, f) = accepted-call p z in
+    let (place, rows, is, f) = accepted_call p z in
     let at : accepted place rows ≡ accepted (a_place p) rows = ap (λ (n : ℕ). accepted n rows) (sym f.ends) in
     (rows, is ∙ at, ap (entry_by input) k ∙ ap (entry_in e) (ap (labelled strict input) (sym k) ∙ is ∙ at))
   where

@@ -55,9 +55,9 @@ never_fourteen edition input {refusal} {place} q is = at (label_of edition) q
 
 module _ {edition : ℕ} {input before words after words' bytes : List ℕ} {a : declared.Reply} {part : Part} (p : ReadPromise edition input before words a after words') (q : PayloadPromise edition input bytes) (r : PartPromise edition input part) where
   -- "on any other refusal it is the empty part at the front": whatever the reader refuses, but for want of room
-  pub refused-payload-empty : (a.answer ≡ 0 → ⊥) → (a.answer ≡ 14 → ⊥) → (bytes ≡ []) × (part.start ≡ 0) × (part.end ≡ 0)
+  pub refused_payload_empty : (a.answer ≡ 0 → ⊥) → (a.answer ≡ 14 → ⊥) → (bytes ≡ []) × (part.start ≡ 0) × (part.end ≡ 0)
   unfolding answer_by payload_bytes payload_start payload_end
-  refused-payload-empty some roomy = at (read edition input) (ap (λ (x : Reply). x.answer) p.answers) q.bytes r.starts r.ends
+  refused_payload_empty some roomy = at (read edition input) (ap (λ (x : Reply). x.answer) p.answers) q.bytes r.starts r.ends
     where
       fits : (room : Bool) → a.answer ≡ pick room 0 14 → (bytes ≡ []) × (part.start ≡ 0) × (part.end ≡ 0)
       fits true x = absurd (some x)
@@ -68,9 +68,9 @@ module _ {edition : ℕ} {input before words after words' bytes : List ℕ} {a :
       at (accepted place rows) x b s e = fits (leb (length rows) (room_with before words)) x
 
   -- "so 14 can't arise": where the reader has no room for the rows, the payload stands behind the header all the same
-  pub payload-without-room : a.answer ≡ 14 → (take a.place input ++ bytes ≡ input) × (part.start ≡ a.place) × (part.end ≡ length input)
+  pub payload_without_room : a.answer ≡ 14 → (take a.place input ++ bytes ≡ input) × (part.start ≡ a.place) × (part.end ≡ length input)
   unfolding answer_by payload_bytes payload_start payload_end
-  payload-without-room z = at (read edition input) refl p.answers q.bytes r.starts r.ends
+  payload_without_room z = at (read edition input) refl p.answers q.bytes r.starts r.ends
     where
       at : (found : Answer) → read edition input ≡ found → reply a.answer a.place a.rows ≡ read_reply (room_with before words) found → bytes ≡ part_bytes input found → part.start ≡ part_start found → part.end ≡ part_end input found
           → (take a.place input ++ bytes ≡ input) × (part.start ≡ a.place) × (part.end ≡ length input)

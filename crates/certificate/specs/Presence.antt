@@ -14,7 +14,7 @@ use Rattle.laws_tables.specs.AllTabled.{accepted_tabled}
 use Rattle.laws_tables.specs.Wording.{tabled_split, words_count, HeadBits, head_bits}
 use Rattle.table.specs.declared.reply.Reply as declared
 use Rattle.reader.specs.Promises.{ReadsBy}
-use Rattle.certificate.specs.Lent.{first_rows, laid_front, laid_behind, rows-read, accepted-call}
+use Rattle.certificate.specs.Lent.{first_rows, laid_front, laid_behind, rows_read, accepted_call}
 
 -- a word of some rows: its ones are as many as their different codes, and it has no bit but 0 and 2 to 11
 pub record IsWord (w : ℕ) : Type 0 where
@@ -51,13 +51,13 @@ pub record Carried (rows words words' : List ℕ) : Type 0 where
   pub each : AreWords (words_of (ranks_of rows))
 
 module _ {w : Strictness} {edition : ℕ} {input before words after words' : List ℕ} {a : declared.Reply} (p : ReadsBy w edition input before words a after words') where
-  pub words-carried : a.answer ≡ 0 → Carried (first_rows a.rows after) words words'
-  words-carried z =
-      let (place, found, is, f) = accepted-call p z in
+  pub words_carried : a.answer ≡ 0 → Carried (first_rows a.rows after) words words'
+  words_carried z =
+      let (place, found, is, f) = accepted_call p z in
       let (n, few, tabled) = accepted_tabled w edition input place found is in
       let rows = first_rows a.rows after in
       let count : length (words_read found) ≡ n = words_count (tabled_split tabled) in
-      let same : words_of (ranks_of rows) ≡ words_read found = ap (λ (x : List ℕ). words_of (ranks_of x)) (rows-read f) ∙ ap words_of (table_ranks 0 (map numbers_of found)) in
+      let same : words_of (ranks_of rows) ≡ words_read found = ap (λ (x : List ℕ). words_of (ranks_of x)) (rows_read f) ∙ ap words_of (table_ranks 0 (map numbers_of found)) in
       record {
         envelopes = n;
         few = few;

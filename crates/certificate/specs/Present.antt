@@ -19,7 +19,7 @@ use Rattle.laws_tables.specs.Ties.{number_of, plain_table}
 use Rattle.laws_steps.specs.Hopping.{rank_at}
 use Rattle.laws_tables.specs.Passing.{FirstIs}
 use Rattle.laws_tables.specs.PresentValues.{present_is, has_kind}
-use Rattle.laws_demands.specs.PresentAnswers.{AllWell, zero_means, all_well, refused-as-written, found-as-written, found-without-room, no_such_code, same_under_other}
+use Rattle.laws_demands.specs.PresentAnswers.{AllWell, zero_means, all_well, refused_as_written, found_as_written, found_without_room, no_such_code, same_under_other}
 use Rattle.table.specs.declared.reply.Reply as declared
 use Rattle.writer.specs.Promise.{WritePromise}
 use Rattle.present.specs.Promise.{PresentPromise}
@@ -40,20 +40,20 @@ module _ {edition : ℕ} {rows pool : List ℕ} {code : ℕ} {a : declared.Reply
   pub well : a.answer ≡ 0 → AllWell edition rows pool code
   well z = zero_means edition rows pool code (sym (ap (λ (r : Reply). r.answer) p.answers) ∙ z)
 
-  pub present-by-procedure : a.answer ≡ 0 → (a.place ≡ present code (ranks_of rows)) × (a.rows ≡ room_of rows)
-  present-by-procedure z = let q = p.answers ∙ all_well edition rows pool code (well z) in (ap (λ (r : Reply). r.place) q, ap (λ (r : Reply). r.rows) q)
+  pub present_by_procedure : a.answer ≡ 0 → (a.place ≡ present code (ranks_of rows)) × (a.rows ≡ room_of rows)
+  present_by_procedure z = let q = p.answers ∙ all_well edition rows pool code (well z) in (ap (λ (r : Reply). r.place) q, ap (λ (r : Reply). r.rows) q)
 
   -- 2. The row given has a value with the code; no row before it has one, in its envelope or in one before it; and where it is the row count, none has.
-  pub present-is-first : a.answer ≡ 0 → FirstIs code rows (room_of rows) 0 a.place
-  present-is-first z = let w = well z in subst (FirstIs code rows (room_of rows) 0) (sym (present-by-procedure z).0) (present_is w.told rows pool code w.check w.asked)
+  pub present_is_first : a.answer ≡ 0 → FirstIs code rows (room_of rows) 0 a.place
+  present_is_first z = let w = well z in subst (FirstIs code rows (room_of rows) 0) (sym (present_by_procedure z).0) (present_is w.told rows pool code w.check w.asked)
 
   -- so it is of a kind that the code opens or holds, at envelope level
-  pub present-has-kind : a.answer ≡ 0 → (a.place < a.rows) → (code_of (rank_at rows a.place).kind ≡ code) × ((rank_at rows a.place).level ≡ 0)
-  present-has-kind z h = has_kind code (rank_at rows a.place) ((present-is-first z).has (omega (arith, (present-by-procedure z).1)))
+  pub present_has_kind : a.answer ≡ 0 → (a.place < a.rows) → (code_of (rank_at rows a.place).kind ≡ code) × ((rank_at rows a.place).level ≡ 0)
+  present_has_kind z h = has_kind code (rank_at rows a.place) ((present_is_first z).has (omega (arith, (present_by_procedure z).1)))
 
   -- 3. "Refusals: 1; then 17 at place 0 ..": of an unknown code, in a known edition
-  pub present-no-code : {e : Edition} → label_of edition ≡ known e → can_ask code ≡ false → (a.answer ≡ 17) × (a.place ≡ 0) × (a.rows ≡ 0)
-  present-no-code {e} k n = let q = p.answers ∙ no_such_code edition e rows pool code k n in (ap (λ (r : Reply). r.answer) q, ap (λ (r : Reply). r.place) q, ap (λ (r : Reply). r.rows) q)
+  pub present_no_code : {e : Edition} → label_of edition ≡ known e → can_ask code ≡ false → (a.answer ≡ 17) × (a.place ≡ 0) × (a.rows ≡ 0)
+  present_no_code {e} k n = let q = p.answers ∙ no_such_code edition e rows pool code k n in (ap (λ (r : Reply). r.answer) q, ap (λ (r : Reply). r.place) q, ap (λ (r : Reply). r.rows) q)
 
   -- ".. then 15 and 5 as the writer gives them": what a call of `write` refuses for the same edition, rows and pool, but 16, `present` refuses with the
   -- same number and place; where it writes, or answers 16, `present` answers 0
@@ -61,9 +61,9 @@ module _ {edition : ℕ} {rows pool : List ℕ} {code : ℕ} {a : declared.Reply
     abbrev AsWritten : Type 0
     AsWritten = ((b.answer ≡ 0 → ⊥) → (b.answer ≡ 16 → ⊥) → a ≡ b) × (b.answer ≡ 0 → a.answer ≡ 0) × (b.answer ≡ 16 → a.answer ≡ 0)
 
-    pub present-refuses-as-write : AsWritten
+    pub present_refuses_as_write : AsWritten
     unfolding write_answer
-    present-refuses-as-write = at (write edition rows pool (length before)) refl w.answers
+    present_refuses_as_write = at (write edition rows pool (length before)) refl w.answers
       where
         accepts : present_answer edition rows pool code ≡ reply 0 (present code (ranks_of rows)) (room_of rows) → a.answer ≡ 0
         accepts q = ap (λ (r : Reply). r.answer) (p.answers ∙ q)
@@ -72,19 +72,19 @@ module _ {edition : ℕ} {rows pool : List ℕ} {code : ℕ} {a : declared.Reply
         stops refusal place true s q r =
             let n : refusal ≡ 16 = eqb-true refusal 16 s in
             let x : b.answer ≡ refusal = ap (λ (y : Reply). y.answer) r in
-            let found = accepts (found-without-room edition rows pool code (length before) asked place (q ∙ ap (λ (k : ℕ). unwritten k place) n)) in
+            let found = accepts (found_without_room edition rows pool code (length before) asked place (q ∙ ap (λ (k : ℕ). unwritten k place) n)) in
             (λ y z. absurd (z (x ∙ n)), λ y. found, λ y. found)
         stops refusal place false s q r =
             let n = eqb-false refusal 16 s in
             let x : b.answer ≡ refusal = ap (λ (y : Reply). y.answer) r in
-            let same : a ≡ b = ap declared_of (p.answers ∙ refused-as-written edition rows pool code (length before) asked refusal place n q ∙ sym r) in
+            let same : a ≡ b = ap declared_of (p.answers ∙ refused_as_written edition rows pool code (length before) asked refusal place n q ∙ sym r) in
             (λ y z. same, λ y. ap (λ (k : declared.Reply). k.answer) same ∙ y, λ y. absurd (n (sym x ∙ y)))
 
         at : (found : Written) → write edition rows pool (length before) ≡ found → reply b.answer b.place b.rows ≡ write_reply (room_of rows) found → AsWritten
         at (unwritten refusal place) q r = stops refusal place (eqb refusal 16) refl q r
         at (written bytes) q r =
             let x : b.answer ≡ 0 = ap (λ (y : Reply). y.answer) r in
-            let found = accepts (found-as-written edition rows pool code (length before) asked bytes q) in
+            let found = accepts (found_as_written edition rows pool code (length before) asked bytes q) in
             (λ y z. absurd (y x), λ y. found, λ y. found)
 
 -- 4. Under the other edition the answer on a plain table is the same.

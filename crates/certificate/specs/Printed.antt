@@ -16,7 +16,7 @@ use Rattle.laws_steps.specs.Logic.{are_bytes}
 use Rattle.table.specs.declared.reply.Reply.{Reply}
 use Rattle.listing.specs.Text.{row_of, view_of, row_text, lines_from, lines_of, view_from, row_from, text_at}
 use Rattle.listing.specs.Pieces.{piece_least, cursor, stop_at, NextPiece}
-use Rattle.listing.specs.Listed.{text-whole}
+use Rattle.listing.specs.Listed.{text_whole}
 use Rattle.lister.specs.Promise.{TablePromise}
 use Rattle.certificate.specs.Printing.{Calls, last, further}
 
@@ -44,7 +44,7 @@ IsTable edition = TablePromise edition dated rows_before words_before is_read ro
 table_of_lem : (edition : ℕ) → reply 0 15 3 ≡ answer_by strict edition dated rows_before words_before → rows_after ≡ rows_by strict edition dated rows_before words_before → IsTable edition
 table_of_lem edition answers leaves =
     let bytes : T (are_bytes dated) = tt in
-    record { reads = record { bytes = bytes; answers = answers; rows = leaves; carries = refl }; lists = λ few room enough. text-whole edition dated rows_before words_before bytes answers leaves enough few room }
+    record { reads = record { bytes = bytes; answers = answers; rows = leaves; carries = refl }; lists = λ few room enough. text_whole edition dated rows_before words_before bytes answers leaves enough few room }
 
 tables : IsTable 1 × IsTable 2
 unfolding text_byte take_text text_ok turn take_number number_ok last_day passes take_date date_ok high_first too_wide take_bytes block_of take_block block_ok shared own moves take_value find look step_move step run inside envelope header read_by belongs belonging laid_over answer_by rows_by

@@ -42,14 +42,14 @@ calls_few {answer} {place} {count} {rows = rows} {bytes = bytes} (again {piece =
 -- Of a table from `lister::read_table`, lent the definition's 3,072 rows and sixteen words.
 module _ {edition : ℕ} {input before words after words' : List ℕ} {a : Reply} (p : TablePromise edition input before words a after words') (few : length input ≤ input_most) (room : room_of before ≡ rows_lent) (enough : words_borrowed ≤ length words) where
   -- the pieces from the first on, put together, are the listing
-  pub pieces-are-listing : {joined : List ℕ} → Calls a.answer a.place a.rows after input 0 0 joined → joined ≡ listing edition input
-  pieces-are-listing c = pieces_joined c ∙ p.lists few room enough
+  pub pieces_are_listing : {joined : List ℕ} → Calls a.answer a.place a.rows after input 0 0 joined → joined ≡ listing edition input
+  pieces_are_listing c = pieces_joined c ∙ p.lists few room enough
 
   -- and calls that each write something are no more than the listing has bytes: then an empty one comes
-  pub listing-ends : {n : ℕ} → Going a.answer a.place a.rows after input n 0 0 → n ≤ length (listing edition input)
-  listing-ends {n} g = subst (λ (text : List ℕ). n ≤ length text) (p.lists few room enough) (calls_few g)
+  pub listing_ends : {n : ℕ} → Going a.answer a.place a.rows after input n 0 0 → n ≤ length (listing edition input)
+  listing_ends {n} g = subst (λ (text : List ℕ). n ≤ length text) (p.lists few room enough) (calls_few g)
 
 -- Of a table from `lister::print`: what it lends is that.
 pub printed_is_listing : {edition : ℕ} {input joined : List ℕ} {a : Reply} (p : PrintPromise edition input a) → length input ≤ input_most → Calls a.answer a.place a.rows p.after input 0 0 joined → joined ≡ listing edition input
 printed_is_listing p few c =
-    pieces-are-listing p.table few (omega (arith, length-replicate {A = ℕ} (rows_lent * row_width) 0)) (omega (arith, length-replicate {A = ℕ} words_borrowed 0)) c
+    pieces_are_listing p.table few (omega (arith, length-replicate {A = ℕ} (rows_lent * row_width) 0)) (omega (arith, length-replicate {A = ℕ} words_borrowed 0)) c

@@ -1,5 +1,5 @@
 -- Every call has an answer that its promise allows, for whatever is given and lent, bytes where it lends bytes: of the payload view, the coders and the listing programs' body.
--- (`some_read` and `some_write` are in Premises, `some-piece` in SomePiece; each order's entry has its own beside its `one-..`.)
+-- (`some_read` and `some_write` are in Premises, `some_piece` in SomePiece; each order's entry has its own beside its `one-..`.)
 use Rattle.std.specs.Prelude.{ℕ, ◌-◌, ◌*◌, ◌≤◌, List, ◌≡◌, refl, T, length, take, drop, replicate}
 use Rattle.std.proofs.Common.{sym, arith, lt-ltb, length-drop, take_all}
 use Rattle.meaning.specs.Told.{strict}
@@ -17,7 +17,7 @@ use Rattle.coders.specs.declared.decode.DecodedNumber.{DecodedNumber}
 use Rattle.coders.specs.declared.decode.DecodedDate.{DecodedDate}
 use Rattle.coders.specs.declared.encode.Encoded.{Encoded}
 use Rattle.coders.specs.Plain.{NumberDecodes, NumberEncodes, DateDecodes, DateEncodes}
-use Rattle.listing.specs.Listed.{text-whole}
+use Rattle.listing.specs.Listed.{text_whole}
 use Rattle.lister.specs.Promise.{TablePromise, PrintPromise, LongPromise}
 use Rattle.certificate.specs.OneAnswer.{encoded_as}
 use Rattle.certificate.specs.Premises.{some_read}
@@ -62,7 +62,7 @@ some_date_encoded kind date before = (encoded_as (date_encoded kind date (length
 pub some_table : (edition : ℕ) (input before words : List ℕ) → T (are_bytes input) → (a : declared.Reply) × (after : List ℕ) × (words' : List ℕ) × TablePromise edition input before words a after words'
 some_table edition input before words t =
     let (a, after, words', p) = some_read strict edition input before words t in
-    (a, after, words', record { reads = p; lists = λ few room enough. text-whole edition input before words t p.answers p.rows enough few room })
+    (a, after, words', record { reads = p; lists = λ few room enough. text_whole edition input before words t p.answers p.rows enough few room })
 
 -- what is printed from
 pub some_print : (edition : ℕ) (input : List ℕ) → T (are_bytes input) → (a : declared.Reply) × PrintPromise edition input a

@@ -12,7 +12,7 @@ use Rattle.listing.specs.Text.{row_of, view_of, lines_of, view_from, text_at}
 use Rattle.listing.specs.Pieces.{piece_least, Cursor, cursor, view_stop, row_stop, line_stop, stop_at, NextPiece}
 use Rattle.pen.specs.Fields.{fields_of}
 use Rattle.listing.specs.Stages.{ViewAt}
-use Rattle.listing.specs.Cursors.{first_then, first_some, fields_some, hex_length, view_chunk, lines_within, text-over, numbers-at, views-at}
+use Rattle.listing.specs.Cursors.{first_then, first_some, fields_some, hex_length, view_chunk, lines_within, text_over, numbers_at, views_at}
 
 -- a row that is lent has numbers
 row_some : (rows : List ℕ) (i : ℕ) → i < room_of rows → 1 ≤ length (row_of rows i)
@@ -61,8 +61,8 @@ module _ (answer place count : ℕ) (rows bytes before : List ℕ) where
   row_up_to i byte h least = rw (lt-ltb i many h) (by byte)
     where
       by : (byte : ℕ) → UpTo (suc i) byte (row_stop room (suc i) (length (view_of (row_of rows i) bytes)) byte)
-      by zero = some_bytes (suc i) 0 (cursor (suc i) 1) (fields_of (row_of rows i)) (numbers-at answer place count rows bytes i h) (fields_some (row_of rows i) (row_some rows i (omega (arith, lines_within answer count rows))))
-      by (suc gone) = rw (add-one gone) at (view_up_to (suc i) gone (view_of (row_of rows i) bytes) (views-at answer place count rows bytes i h) least)
+      by zero = some_bytes (suc i) 0 (cursor (suc i) 1) (fields_of (row_of rows i)) (numbers_at answer place count rows bytes i h) (fields_some (row_of rows i) (row_some rows i (omega (arith, lines_within answer count rows))))
+      by (suc gone) = rw (add-one gone) at (view_up_to (suc i) gone (view_of (row_of rows i) bytes) (views_at answer place count rows bytes i h) least)
 
   line_up_to : (line byte : ℕ) → piece_least ≤ room → UpTo line byte (line_stop room many rows bytes line byte)
   line_up_to zero byte least = some_bytes 0 byte (cursor 1 0) (first_line (reply answer place count)) (first_then answer place count rows bytes byte) (first_some answer place count)
@@ -70,7 +70,7 @@ module _ (answer place count : ℕ) (rows bytes before : List ℕ) where
     where
       by : (z : Bool) → ltb i many ≡ z → UpTo (suc i) byte (line_stop room many rows bytes (suc i) byte)
       by true q = row_up_to i byte (ltb-true i many q) least
-      by false q = let h = ltb-false i many q in rw q (record { piece = []; is = refl; goes = λ k none. text-over answer place count rows bytes (suc i) byte (omega arith) })
+      by false q = let h = ltb-false i many q in rw q (record { piece = []; is = refl; goes = λ k none. text_over answer place count rows bytes (suc i) byte (omega arith) })
 
   up_to : (line byte : ℕ) → UpTo line byte (stop_at answer count rows bytes line byte room)
   unfolding stop_at
@@ -80,8 +80,8 @@ module _ (answer place count : ℕ) (rows bytes before : List ℕ) where
       by true q = let h = ltb-true room piece_least q in rw q (record { piece = []; is = refl; goes = λ k none. absurd (omega arith) })
       by false q = rw q (line_up_to line byte (ltb-false room piece_least q))
 
-  pub some-piece : (line byte : ℕ) → (after : List ℕ) × (r : Piece) × NextPiece answer place count rows bytes line byte before after r
-  some-piece line byte =
+  pub some_piece : (line byte : ℕ) → (after : List ℕ) × (r : Piece) × NextPiece answer place count rows bytes line byte before after r
+  some_piece line byte =
       let stop = stop_at answer count rows bytes line byte room in
       let u = up_to line byte in
       (laid_over before u.piece, record { length = length u.piece; line = stop.line; byte = stop.byte }, record { piece = u.piece; is = u.is; stops = refl; lays = refl; long = refl; goes = u.goes })

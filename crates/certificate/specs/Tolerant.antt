@@ -16,7 +16,7 @@ use Rattle.table.specs.declared.reply.Reply as declared
 use Rattle.reader.specs.Promises.{ReadPromise, TolerantPromise}
 use Rattle.writer.specs.Promise.{WritePromise}
 use Rattle.certificate.specs.OneAnswer.{one_read}
-use Rattle.certificate.specs.Lent.{first_rows, laid_front, rows-read, bytes_written, accepted-call, refuses, lays, written-call}
+use Rattle.certificate.specs.Lent.{first_rows, laid_front, rows_read, bytes_written, accepted_call, refuses, lays, written_call}
 use Rattle.certificate.specs.Calls.{read_write_same_bytes, sent, SameTable, write_read_same_table}
 
 -- where the two readings agree, a call of the one is a call of the other
@@ -75,28 +75,28 @@ tolerant_call_behind_eleven {edition} {input} {before} {words} {a = a} {b = b} p
 module _ {edition : ℕ} {input before words rows words' output out : List ℕ} {a b : declared.Reply} (p : TolerantPromise edition input before words a rows words') (z : a.answer ≡ 0)
     (q : WritePromise edition (first_rows a.rows rows) input output b out) (room : a.place ≤ length output) where
   -- the rows are written, as a header that is no longer
-  pub tolerant-then-written : (b.answer ≡ 0) × (b.place ≤ a.place) × (b.rows ≡ a.rows)
-  tolerant-then-written =
-      let (place, found, is, f) = accepted-call p z in
+  pub tolerant_then_written : (b.answer ≡ 0) × (b.place ≤ a.place) × (b.rows ≡ a.rows)
+  tolerant_then_written =
+      let (place, found, is, f) = accepted_call p z in
       let short = short_form edition input place found p.bytes is in
-      let table : first_rows a.rows rows ≡ table_of found = rows-read f in
+      let table : first_rows a.rows rows ≡ table_of found = rows_read f in
       let l = lays q (ap (λ (x : List ℕ). write edition x input (length output)) table ∙ short.is (length output) (omega (arith, short.shorter, f.ends))) in
       (l.answers, omega (arith, l.ends, short.shorter, f.ends), omega (arith, l.count, ap length table, table_length found, f.count))
 
   -- which the strict reader takes, where as many rows are lent and sixteen words, as a table that means the same
-  pub tolerant-then-strict : (payload : List ℕ) {lent lentWords after afterWords : List ℕ} {c : declared.Reply} → ReadPromise edition (sent b out payload) lent lentWords c after afterWords → b.rows ≤ room_with lent lentWords
+  pub tolerant_then_strict : (payload : List ℕ) {lent lentWords after afterWords : List ℕ} {c : declared.Reply} → ReadPromise edition (sent b out payload) lent lentWords c after afterWords → b.rows ≤ room_with lent lentWords
       → SameTable (first_rows a.rows rows) input b (sent b out payload) lent c after
-  tolerant-then-strict payload r few = write_read_same_table q tolerant-then-written.0 payload r few
+  tolerant_then_strict payload r few = write_read_same_table q tolerant_then_written.0 payload r few
 
   -- a second time: read tolerantly with any payload behind it, and written from those rows, it is the same header
-  pub tolerant-again : (payload : List ℕ) {lent lentWords later laterWords output' out' : List ℕ} {c d : declared.Reply} → TolerantPromise edition (sent b out payload) lent lentWords c later laterWords → b.rows ≤ room_with lent lentWords
+  pub tolerant_again : (payload : List ℕ) {lent lentWords later laterWords output' out' : List ℕ} {c d : declared.Reply} → TolerantPromise edition (sent b out payload) lent lentWords c later laterWords → b.rows ≤ room_with lent lentWords
       → WritePromise edition (first_rows c.rows later) (sent b out payload) output' d out' → b.place ≤ length output' → (d.answer ≡ 0) × (d.place ≡ b.place) × (take d.place out' ≡ take b.place out)
-  tolerant-again payload {output' = output'} {c = c} {d = d} r few s room' =
-      let (bytes, w, l) = written-call q tolerant-then-written.0 in
+  tolerant_again payload {output' = output'} {c = c} {d = d} r few s room' =
+      let (bytes, w, l) = written_call q tolerant_then_written.0 in
       let front : take b.place out ≡ bytes = bytes_written l in
       let long : length (take b.place out) ≡ b.place = ap length front ∙ sym l.ends in
       let strictly = as_strict (alike bytes w front payload) r in
-      let same = tolerant-then-strict payload strictly few in
+      let same = tolerant_then_strict payload strictly few in
       let again = read_write_same_bytes strictly same.answers s (omega (arith, same.ends)) in
       let header : take c.place (sent b out payload) ≡ take b.place out = ap (λ (n : ℕ). take n (sent b out payload)) (same.ends ∙ sym long) ∙ take-append_seam (take b.place out) payload in
       (again.answers, again.ends ∙ same.ends, ap (take d.place) again.leaves ∙ laid_front output' (take c.place (sent b out payload)) (ap length header ∙ long ∙ sym (again.ends ∙ same.ends)) ∙ header)

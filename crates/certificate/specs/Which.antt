@@ -15,7 +15,7 @@ use Rattle.reader.specs.Promises.{ReadPromise}
 use Rattle.writer.specs.Promise.{WritePromise}
 use Rattle.which.specs.declared.Sorted as which
 use Rattle.which.specs.Promise.{WhichPromise}
-use Rattle.certificate.specs.Lent.{first_rows, rows-read, accepted-call, written-call, bytes_written}
+use Rattle.certificate.specs.Lent.{first_rows, rows_read, accepted_call, written_call, bytes_written}
 use Rattle.certificate.specs.Calls.{sent}
 
 abbrev as_sorted : Sorted → which.Sorted
@@ -55,7 +55,7 @@ pub which_as_read : (e : Edition) {input before words after words' later words''
     → WhichPromise input before words b later words'' → (reply b.answer b.place b.rows ≡ reply a.answer a.place a.rows) × (later ≡ after) × (words'' ≡ words') × Names b.editions e
 unfolding which_answer which_rows which_words answer_by rows_by words_by
 which_as_read e {input} {before} {words} {a = a} {b = b} p z q =
-    let (place, found, is, f) = accepted-call p z in
+    let (place, found, is, f) = accepted_call p z in
     let same : read_either input ≡ read (number_of e) input = allowed_rows e input p.bytes is ∙ sym is in
     let r : reply b.answer b.place b.rows ≡ reply a.answer a.place a.rows = ap (λ (s : Sorted). s.reply) q.answers ∙ ap (read_reply (room_with before words)) same ∙ sym p.answers in
     (r, q.rows ∙ ap (read_memory (room_with before words) table_of before) same ∙ sym p.rows, q.carries ∙ ap (read_memory (room_with before words) words_read words) same ∙ sym p.carries, named (ap (λ (s : Sorted). s.editions) q.answers) (ap (λ (x : Reply). x.answer) (sym (ap (λ (s : Sorted). s.reply) q.answers) ∙ r) ∙ z) (allowed_named e input is))
@@ -75,9 +75,9 @@ editions_are_lem {input} {before} {words} {a = a} p z =
 pub which_three_if_plain : (e : Edition) {input before words after words' later words'' : List ℕ} {a : declared.Reply} {b : which.Sorted} → ReadPromise (number_of e) input before words a after words' → a.answer ≡ 0
     → WhichPromise input before words b later words'' → ((plain_table (first_rows a.rows after) input ≡ true) × (b.editions ≡ 3)) ⊎ ((plain_table (first_rows a.rows after) input ≡ false) × (b.editions ≡ number_of e))
 which_three_if_plain e {input} {after = after} {a = a} {b = b} p z q =
-    let (place, found, is, f) = accepted-call p z in
+    let (place, found, is, f) = accepted_call p z in
     let r = (which_as_read e p z q).0 in
-    at (table_of found) (rows-read f) (editions_are_lem q (ap (λ (x : Reply). x.answer) r ∙ z)) (three_if_plain_table e input place found p.bytes is)
+    at (table_of found) (rows_read f) (editions_are_lem q (ap (λ (x : Reply). x.answer) r ∙ z)) (three_if_plain_table e input place found p.bytes is)
   where
     at : (table : List ℕ) → first_rows a.rows after ≡ table → b.editions ≡ editions_of input
         → ((plain_table table input ≡ true) × (editions_of input ≡ 3)) ⊎ ((plain_table table input ≡ false) × (editions_of input ≡ number_of e))
@@ -89,7 +89,7 @@ which_three_if_plain e {input} {after = after} {a = a} {b = b} p z q =
 pub written_then_which : (e : Edition) {rows pool output out before words after words' : List ℕ} {a : declared.Reply} {b : which.Sorted} → WritePromise (number_of e) rows pool output a out → a.answer ≡ 0 → (payload : List ℕ)
     → WhichPromise (sent a out payload) before words b after words' → b.answer ≡ 0 → Names b.editions e
 written_then_which e {rows} {pool} {output} {out} {a = a} {b = b} p z payload q w =
-    let (bytes, is, l) = written-call p z in
+    let (bytes, is, l) = written_call p z in
     let front : bytes ++ payload ≡ sent a out payload = ap (λ (x : List ℕ). x ++ payload) (sym (bytes_written l)) in
     at (editions_are_lem q w ∙ ap editions_of (sym front)) (written_named e rows pool (length output) bytes p.bytes is payload)
   where

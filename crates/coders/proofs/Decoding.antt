@@ -21,14 +21,14 @@ use Rattle.values.specs.declared.number.Number.{Number}
 use Rattle.values.specs.declared.number.Number.TheVariants.{Counts, Fails}
 use Rattle.coders.specs.declared.Date.{Date}
 use Rattle.values.specs.Stages.{span, spans, misses, Valued}
-use Rattle.values.specs.Answers.{valued-at, valued-refused}
+use Rattle.values.specs.Answers.{valued_at, valued_refused}
 use Rattle.values.specs.Numbers.{counts, tally, tallied, Counted}
 use Rattle.date.specs.Dates.{reaching, date_length, check_at, earlier}
-use Rattle.date.specs.DateSteps.{date-begins, date_over, date_ends, date_wrong, date-goes}
+use Rattle.date.specs.DateSteps.{date_begins, date_over, date_ends, date_wrong, date_goes}
 use Rattle.coders.specs.declared.decode.DecodedDate.{DecodedDate}
 use Rattle.coders.specs.Stepped.{FailsAt, has_designator, Behind, TimeRead}
 use Rattle.coders.specs.Plain.{NumberDecodes, DateDecodes, DecodesReach, is_date, plain_of, undecoded_at}
-use Rattle.values.specs.Counting.{counted_is, counted-refused}
+use Rattle.values.specs.Counting.{counted_is, counted_refused}
 
 pub from_all : (s : List ℕ) → from s 0 (length s) ≡ s
 unfolding from
@@ -74,20 +74,20 @@ module _ (s : List ℕ) {r : Number} (a : Counted s (length s) 0 r) where
   unfolding number_decoded number_plain decode_number
   refused_at place q = record { is = rw q refl; worth = rw q refl }
 
-  pub number-refused : {refusal place : ℕ} → r ≡ Fails refusal place → NumberDecodes s (record { answer = 10; place = place; value = 0 })
-  number-refused {place = place} h =
-      let (q, k) = valued-refused (counted-refused a h) refl in
+  pub number_refused : {refusal place : ℕ} → r ≡ Fails refusal place → NumberDecodes s (record { answer = 10; place = place; value = 0 })
+  number_refused {place = place} h =
+      let (q, k) = valued_refused (counted_refused a h) refl in
       refused_at place (exactly_refused s number (ap (span 0) (sym here) ∙ q) k)
 
-  pub number-left : {value after : ℕ} → r ≡ Counts value after → after < length s → NumberDecodes s (record { answer = 10; place = after; value = 0 })
-  number-left {after = after} h k =
-      let p = valued-at (counted_is a h) refl in
+  pub number_left : {value after : ℕ} → r ≡ Counts value after → after < length s → NumberDecodes s (record { answer = 10; place = after; value = 0 })
+  number_left {after = after} h k =
+      let p = valued_at (counted_is a h) refl in
       refused_at after (exactly_left s number (ap (span 0) (sym here) ∙ p.0) (omega arith) k)
 
-  pub number-whole : {value after : ℕ} → r ≡ Counts value after → length s ≤ after → NumberDecodes s (record { answer = 0; place = after; value = value })
+  pub number_whole : {value after : ℕ} → r ≡ Counts value after → length s ≤ after → NumberDecodes s (record { answer = 0; place = after; value = value })
   unfolding number_decoded number_plain decode_number tallied
-  number-whole {value} {after} h k =
-      let p = valued-at (counted_is a h) refl in
+  number_whole {value} {after} h k =
+      let p = valued_at (counted_is a h) refl in
       let (q, n, e) = exactly_all s number (ap (span 0) (sym here) ∙ p.0) (omega arith) k in
       let w : number_value 0 (front number) ≡ value = tally_worth number (ap (tally 0 0) (sym here) ∙ a.is ∙ ap (tallied s (length s) 0) h) in
       record { is = rw (q, n) refl; worth = rw q (sym w) }
@@ -155,17 +155,17 @@ module _ (s : List ℕ) (isAbsolute : Bool) where
   undated_at : (place : ℕ) → exactly s date ≡ undecoded place → DecodesReach (dated (reaching isAbsolute)) s (undecoded_at place)
   undated_at place q = record { is = rw q refl; worth = rw q refl }
 
-  pub behind-none : Behind s isAbsolute 0
-  behind-none = record { inside = omega arith; is = date-begins s (length s) 0 isAbsolute many designated refl }
+  pub behind_none : Behind s isAbsolute 0
+  behind_none = record { inside = omega arith; is = date_begins s (length s) 0 isAbsolute many designated refl }
 
   module _ {j : ℕ} (b : Behind s isAbsolute j) (h : j < many) {r : Bool} (f : FailsAt s isAbsolute j r) where
-    pub next-there : r ≡ false → j < length s
-    next-there q = (f.passed q).0
+    pub next_there : r ≡ false → j < length s
+    next_there q = (f.passed q).0
 
-    pub behind-next : r ≡ false → Behind s isAbsolute (j + 1)
-    behind-next q =
+    pub behind_next : r ≡ false → Behind s isAbsolute (j + 1)
+    behind_next q =
         let (l, p) = f.passed q in
-        record { inside = omega arith; is = b.is ∙ date-goes s (length s) 0 isAbsolute many j h (le_refl (length s)) (omega arith) refl p }
+        record { inside = omega arith; is = b.is ∙ date_goes s (length s) 0 isAbsolute many j h (le_refl (length s)) (omega arith) refl p }
 
     -- a byte that is missing or wrong
     pub undated : r ≡ true → DecodesReach (dated (reaching isAbsolute)) s (undecoded_at j)
@@ -179,8 +179,8 @@ module _ (s : List ℕ) (isAbsolute : Bool) where
             let z : length s - (0 + j) ≡ length s - j = omega arith in
             exactly_refused s date (ap (span 0) (sym there) ∙ b.is ∙ date_wrong s (length s) 0 isAbsolute many j h (le_refl (length s)) (omega arith) refl p ∙ ap (misses 9) z) b.inside
 
-  pub within-nine : {j : ℕ} → j < 9 → j < many
-  within-nine h = omega (arith, nine_bytes designated)
+  pub within_nine : {j : ℕ} → j < 9 → j < many
+  within_nine h = omega (arith, nine_bytes designated)
 
   module _ (n : ℕ) (is-many : n ≡ many) (b : Behind s isAbsolute n) where
     span_here : span 0 date ≡ spans n (from s n (length s))
@@ -189,11 +189,11 @@ module _ (s : List ℕ) (isAbsolute : Bool) where
         ap (span 0) (sym there) ∙ b.is ∙ date_over s (length s) 0 isAbsolute many n (omega arith) ∙ ap (λ (x : ℕ). spans n (from s x (length s))) z
 
     -- a byte left over
-    pub date-left : n < length s → DecodesReach (dated (reaching isAbsolute)) s (undecoded_at n)
-    date-left l = undated_at n (exactly_left s date span_here refl l)
+    pub date_left : n < length s → DecodesReach (dated (reaching isAbsolute)) s (undecoded_at n)
+    date_left l = undated_at n (exactly_left s date span_here refl l)
 
-    pub date-whole : length s ≤ n → {d : Date} → plain_of d ≡ date_of s → DecodesReach (dated (reaching isAbsolute)) s (record { answer = 0; place = n; date = d })
-    date-whole l g =
+    pub date_whole : length s ≤ n → {d : Date} → plain_of d ≡ date_of s → DecodesReach (dated (reaching isAbsolute)) s (record { answer = 0; place = n; date = d })
+    date_whole l g =
         let w = exactly_all s date span_here refl l in
         let f = front_whole checks s date (date_fronts checks [] s) w.2 in
         record { is = rw (w.0, w.1) refl; worth = g ∙ rw (w.0, f.0) refl }

@@ -129,15 +129,15 @@ lay_all bytes before q = q ∙ rw (take-length bytes) refl
 
 -- what an encoder answers: a value out of range, too little room, or the bytes
 module _ (refusal : ℕ) {fits : Bool} (before bytes : List ℕ) where
-  pub encodes-out : fits ≡ false → (outcome refusal 0 ≡ encode_outcome refusal fits (length before) bytes) × (before ≡ encode_memory fits before bytes)
-  encodes-out h = rw h (refl, refl)
+  pub encodes_out : fits ≡ false → (outcome refusal 0 ≡ encode_outcome refusal fits (length before) bytes) × (before ≡ encode_memory fits before bytes)
+  encodes_out h = rw h (refl, refl)
 
-  pub encodes-short : {many : ℕ} → fits ≡ true → many ≡ length bytes → length before < many → (outcome 16 many ≡ encode_outcome refusal fits (length before) bytes) × (before ≡ encode_memory fits before bytes)
-  encodes-short h k l = let q = lt-leb (length bytes) (length before) (omega arith) in rw (h, q, k) (refl, refl)
+  pub encodes_short : {many : ℕ} → fits ≡ true → many ≡ length bytes → length before < many → (outcome 16 many ≡ encode_outcome refusal fits (length before) bytes) × (before ≡ encode_memory fits before bytes)
+  encodes_short h k l = let q = lt-leb (length bytes) (length before) (omega arith) in rw (h, q, k) (refl, refl)
 
-  pub encodes-laid : {many : ℕ} {after : List ℕ} → fits ≡ true → many ≡ length bytes → many ≤ length before → after ≡ laid_over before bytes
+  pub encodes_laid : {many : ℕ} {after : List ℕ} → fits ≡ true → many ≡ length bytes → many ≤ length before → after ≡ laid_over before bytes
       → (outcome 0 many ≡ encode_outcome refusal fits (length before) bytes) × (after ≡ encode_memory fits before bytes)
-  encodes-laid h k l a = let q = le-leb (length bytes) (length before) (omega arith) in rw (h, q, k, a) (refl, refl)
+  encodes_laid h k l a = let q = le-leb (length bytes) (length before) (omega arith) in rw (h, q, k, a) (refl, refl)
 
 pub number_encodes : (value : ℕ) (before after : List ℕ) {r : Encoded}
     → (outcome r.answer r.place ≡ encode_outcome 10 (leb value number_most) (length before) (number_bytes value)) × (after ≡ encode_memory (leb value number_most) before (number_bytes value))

@@ -15,7 +15,7 @@ use Rattle.values.specs.declared.Value.{Value}
 use Rattle.values.specs.declared.Value.TheVariants.{Is, Refused}
 use Rattle.coders.specs.declared.encode.Encoded.{Encoded}
 use Rattle.values.specs.Stages.{span, spans, misses, Valued}
-use Rattle.values.specs.Answers.{valued-at, valued-refused}
+use Rattle.values.specs.Answers.{valued_at, valued_refused}
 use Rattle.date.specs.Dates.{reaching, date_length}
 use Rattle.coders.specs.Plain.{Fits, ten_bytes, DateEncodes, EncodesReach}
 use Rattle.laws_steps.specs.Logic.{both_hold}
@@ -109,39 +109,39 @@ module _ (d : Date) (isAbsolute : Bool) {many : ℕ} {array : List ℕ} (hm : ma
   abbrev checks : List Check
   checks = date_checks (reaching isAbsolute) (designated d)
 
-  pub bytes-here : take many array ≡ date_bytes d
-  bytes-here = rw (hm, ha) (part_by d (designated d))
+  pub bytes_here : take many array ≡ date_bytes d
+  bytes_here = rw (hm, ha) (part_by d (designated d))
 
-  pub many-fits : many ≤ length array
-  many-fits = let k = at_most_ten (designated d) in omega (arith, hm, ap length ha)
+  pub many_fits : many ≤ length array
+  many_fits = let k = at_most_ten (designated d) in omega (arith, hm, ap length ha)
 
-  pub many-long : many ≡ length (date_bytes d)
-  many-long = hm ∙ (long_by d isAbsolute (designated d)).0
+  pub many_long : many ≡ length (date_bytes d)
+  many_long = hm ∙ (long_by d isAbsolute (designated d)).0
 
-  pub many-part : many ≡ length (take many array)
-  many-part = many-long ∙ ap length (sym bytes-here)
+  pub many_part : many ≡ length (take many array)
+  many_part = many_long ∙ ap length (sym bytes_here)
 
   abbrev taken : Taken
   taken = take_date checks [] (from (take many array) 0 many)
 
   taken_here : taken ≡ take_date checks [] (date_bytes d)
   taken_here =
-      let q : from (take many array) 0 many ≡ take many array = ap (from (take many array) 0) many-part ∙ from_all (take many array) in
-      ap (take_date checks []) (q ∙ bytes-here)
+      let q : from (take many array) 0 many ≡ take many array = ap (from (take many array) 0) many_part ∙ from_all (take many array) in
+      ap (take_date checks []) (q ∙ bytes_here)
 
   ok_here : date_ok checks [] (date_bytes d) ≡ is_taken taken
-  ok_here = ok_taken checks [] (date_bytes d) (omega (arith, many-long, hm, (long_by d isAbsolute (designated d)).1)) ∙ ap is_taken (sym taken_here)
+  ok_here = ok_taken checks [] (date_bytes d) (omega (arith, many_long, hm, (long_by d isAbsolute (designated d)).1)) ∙ ap is_taken (sym taken_here)
 
   module _ {r : Value} (v : Valued (take many array) many 0 0 0 taken r) where
-    pub date-allowed : Fits d ≡ true → {k start n after : ℕ} → r ≡ Is k start n after → reach_allows d (dated (reaching isAbsolute)) ≡ true
-    date-allowed f h =
-        let p = valued-at v h in
+    pub date_allowed : Fits d ≡ true → {k start n after : ℕ} → r ≡ Is k start n after → reach_allows d (dated (reaching isAbsolute)) ≡ true
+    date_allowed f h =
+        let p = valued_at v h in
         let g = (both_hold (fits_digits d) (leb d.designator 255) f).0 in
         rw (g, ok_here) (spans_taken taken p.0)
 
-    pub date-denied : Fits d ≡ true → {refusal place : ℕ} → r ≡ Refused refusal place → reach_allows d (dated (reaching isAbsolute)) ≡ false
-    date-denied f h =
-        let p = valued-refused v h in
+    pub date_denied : Fits d ≡ true → {refusal place : ℕ} → r ≡ Refused refusal place → reach_allows d (dated (reaching isAbsolute)) ≡ false
+    date_denied f h =
+        let p = valued_refused v h in
         let g = (both_hold (fits_digits d) (leb d.designator 255) f).0 in
         rw (g, ok_here) (misses_taken taken p.0)
 

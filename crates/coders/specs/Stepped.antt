@@ -5,7 +5,7 @@ use Rattle.meaning.specs.Plain.{Date}
 use Rattle.laws_steps.specs.From.{from}
 use Rattle.values.specs.Stages.{span}
 use Rattle.date.specs.Dates.{reaching, date_length, check_at, earlier}
-use Rattle.date.specs.DateSteps.{dateFrom}
+use Rattle.date.specs.DateSteps.{date_from}
 
 -- whether byte j is missing or does not pass its check
 pub record FailsAt (s : List ℕ) (isAbsolute : Bool) (j : ℕ) (r : Bool) : Type 0 where
@@ -19,7 +19,7 @@ has_designator s = ltb 9 (length s)
 -- the bytes before byte j have passed
 pub record Behind (s : List ℕ) (isAbsolute : Bool) (j : ℕ) : Type 0 where
   pub inside : j ≤ length s
-  pub is : span 0 (take_date (date_checks (reaching isAbsolute) (has_designator s)) [] (from s 0 (length s))) ≡ dateFrom s (length s) 0 isAbsolute (date_length (has_designator s)) j
+  pub is : span 0 (take_date (date_checks (reaching isAbsolute) (has_designator s)) [] (from s 0 (length s))) ≡ date_from s (length s) 0 isAbsolute (date_length (has_designator s)) j
 
 pub record DayRead (s : List ℕ) (isAbsolute : Bool) (year month day : ℕ) : Type 0 where
   pub behind : Behind s isAbsolute 4

@@ -153,5 +153,5 @@ fn lay(bytes: &[u8], output: &mut [u8])
     requires { length bytes.now ≤ length output.old }
     ensures { output.new ≡ laid_over output.old bytes.now }
 {
-    bytes::copy(bytes, output);
+    output[..bytes.len()].copy_from_slice(bytes);
 }

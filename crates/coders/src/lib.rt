@@ -1,5 +1,6 @@
 // Numbers and dates to and from plain values: "Number and date decoders answer 9 or 10 with the place in their own slice";
 // "Encoders answer 9 or 10, place 0, for a value out of range, and then 16 for room."
+#![tactic(auto)]
 mod decimal;
 pub mod decode;
 pub mod encode;
@@ -11,7 +12,7 @@ use table::kinds::{DATE_ABSOLUTE, DATE_BACKWARD, DATE_FORWARD};
 
 // A plain date: "the seven components and a designator, 0 for none".
 #[repr(C)]
-#[derive(Drop)]
+#[derive(Clone, Copy)]
 pub struct Date {
     pub year: u32,
     pub month: u32,

@@ -51,19 +51,19 @@ module _ (least most b : ℕ) (h : b < 256) (l : least ≤ 99) (m : most ≤ 99)
       let g = leb-true (two_digits b) most is-most in
       rw (low-one, low-ten, le-leb (pair_byte least) b (omega arith), le-leb b (pair_byte most) (omega arith)) refl
 
-  pub within-is : {x : Bool} {first last : ℕ} → first ≡ pair_byte least → last ≡ pair_byte most → x ≡ is_digit (b % 16) → (x && leb first b && leb b last) ≡ pair_within least most b
-  within-is p q r = rw (p, q, r) (alike (is_digit (b % 16) && leb (pair_byte least) b && leb b (pair_byte most)) (pair_within least most b) ordered said)
+  pub within_is : {x : Bool} {first last : ℕ} → first ≡ pair_byte least → last ≡ pair_byte most → x ≡ is_digit (b % 16) → (x && leb first b && leb b last) ≡ pair_within least most b
+  within_is p q r = rw (p, q, r) (alike (is_digit (b % 16) && leb (pair_byte least) b && leb b (pair_byte most)) (pair_within least most b) ordered said)
 
 module _ (s : List ℕ) (at j : ℕ) (isAbsolute : Bool) {b : ℕ} (is : b ≡ get_or s (at + j) 0) {r : Bool} where
-  pub check-padded : j ≡ 8 → ((before : List ℕ) → r ≡ passes half before b) → r ≡ passes (check_at isAbsolute j) (earlier s at j) (get_or s (at + j) 0)
-  check-padded h a = a (earlier s at j) ∙ rw (is, eq-eqb j 8 h) refl
+  pub check_padded : j ≡ 8 → ((before : List ℕ) → r ≡ passes half before b) → r ≡ passes (check_at isAbsolute j) (earlier s at j) (get_or s (at + j) 0)
+  check_padded h a = a (earlier s at j) ∙ rw (is, eq-eqb j 8 h) refl
 
   module _ (h : j ≡ 8 → ⊥) where
-    pub check-letter : j ≡ 9 → ((before : List ℕ) → r ≡ passes letter before b) → r ≡ passes (check_at isAbsolute j) (earlier s at j) (get_or s (at + j) 0)
-    check-letter k a = a (earlier s at j) ∙ rw (is, ne_eqb j 8 h, eq-eqb j 9 k) refl
+    pub check_letter : j ≡ 9 → ((before : List ℕ) → r ≡ passes letter before b) → r ≡ passes (check_at isAbsolute j) (earlier s at j) (get_or s (at + j) 0)
+    check_letter k a = a (earlier s at j) ∙ rw (is, ne_eqb j 8 h, eq-eqb j 9 k) refl
 
-    pub check-pair : (j ≡ 9 → ⊥) → r ≡ passes (pair_check isAbsolute j) (earlier s at j) b → r ≡ passes (check_at isAbsolute j) (earlier s at j) (get_or s (at + j) 0)
-    check-pair k a = a ∙ rw (is, ne_eqb j 8 h, ne_eqb j 9 k) refl
+    pub check_pair : (j ≡ 9 → ⊥) → r ≡ passes (pair_check isAbsolute j) (earlier s at j) b → r ≡ passes (check_at isAbsolute j) (earlier s at j) (get_or s (at + j) 0)
+    check_pair k a = a ∙ rw (is, ne_eqb j 8 h, ne_eqb j 9 k) refl
 
 pub check_absolute : (j b : ℕ) (before : List ℕ) {isAbsolute r : Bool} → isAbsolute ≡ true → r ≡ passes (absolute_check j) before b → r ≡ passes (pair_check isAbsolute j) before b
 check_absolute j b before h a = a ∙ rw h refl
@@ -73,10 +73,10 @@ unfolding passes
 check_relative j b before h a = a ∙ rw h refl
 
 module _ (e : Edition) (code : ℕ) {r : Form} (a : DateCode e code r) where
-  pub dated-at : {kind : ℕ} {isAbsolute designated : Bool} → r ≡ Dated kind isAbsolute designated
+  pub dated_at : {kind : ℕ} {isAbsolute designated : Bool} → r ≡ Dated kind isAbsolute designated
       → Bears code kind (date (reaching isAbsolute) designated) × ((n : Next) → look code (dates_of e n) ≡ hit (on code ▸ kind ▸ date (reaching isAbsolute) designated ▸ n))
   unfolding DateCode
-  dated-at h = rw h at a
+  dated_at h = rw h at a
 
   pub undated : r ≡ Unknown → (n : Next) → look code (dates_of e n) ≡ none
   unfolding DateCode

@@ -64,8 +64,8 @@ module _ (b : ℕ) (before : List ℕ) {first : Bool} (is : first ≡ pair_withi
   abbrev digits : Bool
   digits = is_digit (b / 16) && is_digit (b % 16)
 
-  pub early-passes : first ≡ true → true ≡ pair_within 1 (last_day_after before) b
-  early-passes q = early digits (two_digits b) (last_day_after before) (after_between before).0 (sym is ∙ q)
+  pub early_passes : first ≡ true → true ≡ pair_within 1 (last_day_after before) b
+  early_passes q = early digits (two_digits b) (last_day_after before) (after_between before).0 (sym is ∙ q)
 
-  pub late-passes : first ≡ false → {most : ℕ} → most ≡ last_day_after before → {r : Bool} → r ≡ pair_within 29 most b → r ≡ pair_within 1 (last_day_after before) b
-  late-passes q m p = p ∙ rw m (late digits (two_digits b) (last_day_after before) (sym is ∙ q))
+  pub late_passes : first ≡ false → {most : ℕ} → most ≡ last_day_after before → {r : Bool} → r ≡ pair_within 29 most b → r ≡ pair_within 1 (last_day_after before) b
+  late_passes q m p = p ∙ rw m (late digits (two_digits b) (last_day_after before) (sym is ∙ q))

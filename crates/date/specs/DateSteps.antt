@@ -28,18 +28,18 @@ nine_at_least false = omega arith
 
 -- a date of `many` bytes at `at`, from its byte j on
 module _ (s : List ℕ) (end : ℕ) (at : ℕ) (isAbsolute : Bool) (many : ℕ) where
-  unfoldable pub dateFrom : ℕ → Span
-  dateFrom j = span j (take_date (checks_from isAbsolute j (many - j)) (earlier s at j) (from s (at + j) end))
+  unfoldable pub date_from : ℕ → Span
+  date_from j = span j (take_date (checks_from isAbsolute j (many - j)) (earlier s at j) (from s (at + j) end))
 
-  pub date-begins : (designated : Bool) → many ≡ date_length designated → span 0 (take_date (date_checks (reaching isAbsolute) designated) [] (from s at end)) ≡ dateFrom 0
-  unfolding dateFrom earlier
-  date-begins designated h =
+  pub date_begins : (designated : Bool) → many ≡ date_length designated → span 0 (take_date (date_checks (reaching isAbsolute) designated) [] (from s at end)) ≡ date_from 0
+  unfolding date_from earlier
+  date_begins designated h =
       let p : at ≡ at + 0 = omega arith in
       let q : date_length designated ≡ many - 0 = omega arith in
       rw (all_checks isAbsolute designated, q) (ap (λ (x : ℕ). span 0 (take_date (checks_from isAbsolute 0 (many - 0)) [] (from s x end))) p)
 
-  pub date_over : (j : ℕ) → many ≤ j → dateFrom j ≡ spans j (from s (at + j) end)
-  unfolding dateFrom take_date
+  pub date_over : (j : ℕ) → many ≤ j → date_from j ≡ spans j (from s (at + j) end)
+  unfolding date_from take_date
   date_over j h =
       let q : many - j ≡ 0 = omega arith in
       rw q (ap (λ (x : ℕ). spans x (from s (at + j) end)) (omega arith))
@@ -48,25 +48,25 @@ module _ (s : List ℕ) (end : ℕ) (at : ℕ) (isAbsolute : Bool) (many : ℕ) 
     one_more : many - j ≡ suc (many - (j + 1))
     one_more = omega arith
 
-    pub date_ends : end ≤ at + j → dateFrom j ≡ misses 6 (end - end)
-    unfolding dateFrom take_date
+    pub date_ends : end ≤ at + j → date_from j ≡ misses 6 (end - end)
+    unfolding date_from take_date
     date_ends g = rw (one_more, from_end s (at + j) end g) (ap (misses 6) (omega arith))
 
     -- r: whether byte j passes
     module _ (l : end ≤ length s) (g : at + j < end) {r : Bool} (is : r ≡ passes (check_at isAbsolute j) (earlier s at j) (get_or s (at + j) 0)) where
-      pub date_wrong : r ≡ false → dateFrom j ≡ misses 9 (end - (at + j))
-      unfolding dateFrom take_date
+      pub date_wrong : r ≡ false → date_from j ≡ misses 9 (end - (at + j))
+      unfolding date_from take_date
       date_wrong q = rw (one_more, from_cons s (at + j) end g l, sym is ∙ q) (ap (misses 9) (omega (arith, from_length s (at + j + 1) end (omega arith) l)))
 
-      pub date-goes : r ≡ true → dateFrom j ≡ dateFrom (j + 1)
-      unfolding dateFrom take_date earlier
-      date-goes q =
+      pub date_goes : r ≡ true → date_from j ≡ date_from (j + 1)
+      unfolding date_from take_date earlier
+      date_goes q =
           let b = get_or s (at + j) 0 in
           let onward = take_date (checks_from isAbsolute (j + 1) (many - (j + 1))) (b ∷ earlier s at j) (from s (at + j + 1) end) in
           let p : at + j + 1 ≡ at + (j + 1) = omega arith in
           let w : earlier s at (j + 1) ≡ b ∷ earlier s at j = rw (add-one j) refl in
           rw (one_more, from_cons s (at + j) end g l, sym is ∙ q) (span_prefixed j b onward ∙ rw (w, p) refl)
 
-  pub passing-goes : end ≤ length s → (n : ℕ) → n ≤ many → at + n ≤ end → Passing s at isAbsolute n → dateFrom 0 ≡ dateFrom n
-  passing-goes l zero h g p = refl
-  passing-goes l (suc n) h g (p, q) = passing-goes l n (omega arith) (omega arith) p ∙ date-goes n (omega arith) l (omega arith) refl q ∙ rw (add-one n) refl
+  pub passing_goes : end ≤ length s → (n : ℕ) → n ≤ many → at + n ≤ end → Passing s at isAbsolute n → date_from 0 ≡ date_from n
+  passing_goes l zero h g p = refl
+  passing_goes l (suc n) h g (p, q) = passing_goes l n (omega arith) (omega arith) p ∙ date_goes n (omega arith) l (omega arith) refl q ∙ rw (add-one n) refl

@@ -1,4 +1,6 @@
 // "Date: a code, then year 4 digits, month, day, hour, minute, second 2 each, millisecond 3 digits and four zero bits."
+#![tactic(auto)]
+
 ghost use Rattle.std.specs.Prelude.{◌≡◌, List, [], true, ℕ, ◌+◌, ◌≤◌, ◌<◌, length, get_or};
 ghost use Rattle.meaning.specs.Basics.{pick};
 ghost use Rattle.meaning.specs.Bytes.{pair_within, passes, half, letter, is_leap, last_day, last_day_after, date_checks, take_date};

@@ -71,9 +71,9 @@ module _ (ns : List ℕ) (long : length ns ≡ figures_borrowed) where
   last_alone = sum_next ns 30 31 (omega arith) (omega arith) ∙ omega (arith, sum_none ns 31)
 
   -- an edition after the other, then the unknown
-  pub all-summed : (b d all : ℕ) → b ≡ capped (0 + sum_of (part ns 0 13)) → d ≡ capped (b + sum_of (part ns 15 28)) → all ≡ capped (d + sum_of (part ns 30 31)) → all ≡ capped (messages_in ns)
+  pub all_summed : (b d all : ℕ) → b ≡ capped (0 + sum_of (part ns 0 13)) → d ≡ capped (b + sum_of (part ns 15 28)) → all ≡ capped (d + sum_of (part ns 30 31)) → all ≡ capped (messages_in ns)
   unfolding messages_in
-  all-summed b d all p q r =
+  all_summed b d all p q r =
       let sb = sum_of (part ns 0 13) in
       let sd = sum_of (part ns 15 28) in
       r ∙ ap (λ (n : ℕ). capped (n + sum_of (part ns 30 31))) (q ∙ ap (λ (n : ℕ). capped (n + sd)) p ∙ capped_again (0 + sb) sd) ∙ capped_again ((0 + sb) + sd) (sum_of (part ns 30 31))
@@ -99,9 +99,9 @@ module _ (ns : List ℕ) (long : length ns ≡ figures_borrowed) where
             let few : messages_in ns ≤ messages_most = leb-true (messages_in ns) messages_most q in
             absurd (omega (arith, capped_self (messages_in ns) (omega arith)))
 
-    pub not-many : (all ≡ suc messages_most → ⊥) → (messages_in ns ≤ messages_most) × (all ≡ messages_in ns) × (get_or ns 0 0 ≤ messages_most) × (get_or ns 15 0 ≤ messages_most)
+    pub not_many : (all ≡ suc messages_most → ⊥) → (messages_in ns ≤ messages_most) × (all ≡ messages_in ns) × (get_or ns 0 0 ≤ messages_most) × (get_or ns 15 0 ≤ messages_most)
     unfolding capped
-    not-many h = by (leb (messages_in ns) messages_most) refl
+    not_many h = by (leb (messages_in ns) messages_most) refl
       where
         by : (z : Bool) → leb (messages_in ns) messages_most ≡ z → (messages_in ns ≤ messages_most) × (all ≡ messages_in ns) × (get_or ns 0 0 ≤ messages_most) × (get_or ns 15 0 ≤ messages_most)
         by true q =

@@ -36,35 +36,35 @@ module _ (ns : List ℕ) (long : length ns ≡ figures_borrowed) where
   once : (i k : ℕ) → i < figures_borrowed → raised ns i k ≡ sums ns (raised zeros i k)
   once i k h = ap (λ (l : List ℕ). raised l i k) (sym (nothing_added ns figures_borrowed)) ∙ raised_sums ns zeros i k (omega arith) (omega arith)
 
-  pub apart-raised : raised ns 30 1 ≡ sums ns (adds_of apart)
+  pub apart_raised : raised ns 30 1 ≡ sums ns (adds_of apart)
   unfolding adds_of
-  apart-raised = once 30 1 (omega arith)
+  apart_raised = once 30 1 (omega arith)
 
   -- three numbers raised, one after the other
-  pub taken-raised : (e : Edition) (envelopes bytes : ℕ) → raised (raised (raised ns (first_of e + 14) bytes) (first_of e + 13) envelopes) (first_of e) 1 ≡ sums ns (adds_of (taken e envelopes bytes))
+  pub taken_raised : (e : Edition) (envelopes bytes : ℕ) → raised (raised (raised ns (first_of e + 14) bytes) (first_of e + 13) envelopes) (first_of e) 1 ≡ sums ns (adds_of (taken e envelopes bytes))
   unfolding adds_of
-  taken-raised B envelopes bytes =
+  taken_raised B envelopes bytes =
       ap (λ (l : List ℕ). raised (raised l 13 envelopes) 0 1) (once 14 bytes (omega arith))
       ∙ ap (λ (l : List ℕ). raised l 0 1) (raised_sums ns (raised zeros 14 bytes) 13 envelopes (omega arith) (omega arith))
       ∙ raised_sums ns (raised (raised zeros 14 bytes) 13 envelopes) 0 1 (omega arith) (omega arith)
       ∙ (let p : 0 + bytes ≡ bytes = omega arith in let q : 0 + envelopes ≡ envelopes = omega arith in rw (p, q) refl)
-  taken-raised D envelopes bytes =
+  taken_raised D envelopes bytes =
       ap (λ (l : List ℕ). raised (raised l 28 envelopes) 15 1) (once 29 bytes (omega arith))
       ∙ ap (λ (l : List ℕ). raised l 15 1) (raised_sums ns (raised zeros 29 bytes) 28 envelopes (omega arith) (omega arith))
       ∙ raised_sums ns (raised (raised zeros 29 bytes) 28 envelopes) 15 1 (omega arith) (omega arith)
       ∙ (let p : 0 + bytes ≡ bytes = omega arith in let q : 0 + envelopes ≡ envelopes = omega arith in rw (p, q) refl)
 
   -- .. and together
-  pub taken-set : (e : Edition) (envelopes bytes : ℕ)
+  pub taken_set : (e : Edition) (envelopes bytes : ℕ)
       → set (set (set ns (first_of e + 14) (get_or ns (first_of e + 14) 0 + bytes)) (first_of e + 13) (get_or ns (first_of e + 13) 0 + envelopes)) (first_of e) (get_or ns (first_of e) 0 + 1) ≡ sums ns (adds_of (taken e envelopes bytes))
-  taken-set e envelopes bytes =
+  taken_set e envelopes bytes =
       let f = first_of e in
       let with-bytes = raised ns (f + 14) bytes in
       let p : get_or with-bytes (f + 13) 0 ≡ get_or ns (f + 13) 0 = get_or-set_other ns (f + 14) (f + 13) (get_or ns (f + 14) 0 + bytes) 0 (λ q. omega arith) in
       let with-both = raised with-bytes (f + 13) envelopes in
       let r : get_or with-both f 0 ≡ get_or ns f 0 =
       get_or-set_other with-bytes (f + 13) f (get_or with-bytes (f + 13) 0 + envelopes) 0 (λ q. omega arith) ∙ get_or-set_other ns (f + 14) f (get_or ns (f + 14) 0 + bytes) 0 (λ q. omega arith) in
-      ap (λ (n : ℕ). set (set with-bytes (f + 13) (n + envelopes)) f (get_or ns f 0 + 1)) (sym p) ∙ ap (λ (n : ℕ). set with-both f (n + 1)) (sym r) ∙ taken-raised e envelopes bytes
+      ap (λ (n : ℕ). set (set with-bytes (f + 13) (n + envelopes)) f (get_or ns f 0 + 1)) (sym p) ∙ ap (λ (n : ℕ). set with-both f (n + 1)) (sym r) ∙ taken_raised e envelopes bytes
 
 -- a refusal's number: one computed test over 2 to 13 in both editions
 
@@ -98,8 +98,8 @@ module _ (ns : List ℕ) (long : length ns ≡ figures_borrowed) (e : Edition) (
       by B = omega arith
       by D = omega arith
 
-  pub turned-raised : raised ns (first_of e + r - 1) 1 ≡ sums ns (adds_of (turned e r))
-  turned-raised = once ns long (first_of e + r - 1) 1 within ∙ ap (sums ns) (same_is (raised zeros (first_of e + r - 1) 1) (adds_of (turned e r)) (each (raises e) 2 12 (all_raise e) r least (omega arith)))
+  pub turned_raised : raised ns (first_of e + r - 1) 1 ≡ sums ns (adds_of (turned e r))
+  turned_raised = once ns long (first_of e + r - 1) 1 within ∙ ap (sums ns) (same_is (raised zeros (first_of e + r - 1) 1) (adds_of (turned e r)) (each (raises e) 2 12 (all_raise e) r least (omega arith)))
 
 -- Numbers added one by one: the first i of them
 

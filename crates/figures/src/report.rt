@@ -110,7 +110,7 @@ fn lay(text: &[u8], output: &mut [u8]) -> Figured
             place: many,
         };
     }
-    bytes::copy(text, output);
+    output[..many].copy_from_slice(text);
     Figured {
         answer: 0,
         place: many,

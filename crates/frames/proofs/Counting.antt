@@ -10,7 +10,7 @@ use Rattle.meaning.specs.Headers.{Placed, refused, accepted, envelopes_most, hea
 use Rattle.meaning.specs.Memory.{words_read}
 use Rattle.laws_steps.specs.From.{from}
 use Rattle.laws_steps.specs.Frames.{from_all}
-use Rattle.laws_tables.specs.EnvelopeCounts.{base_alone, others-behind}
+use Rattle.laws_tables.specs.EnvelopeCounts.{base_alone, others_behind}
 use Rattle.frames.specs.declared.frame.Frame.{Frame}
 use Rattle.frames.specs.declared.frame.Frame.TheVariants.{Opens, Refused}
 use Rattle.frames.specs.Frames.{framed, FrameFits, MayCome, HeaderFramed}
@@ -43,9 +43,9 @@ module _ {s : List ℕ} {left at : ℕ} {r : Frame} (f : HeaderFramed s at left 
               absurd (omega arith);
         }
 
-    pub counted-base : {base : Bool} {first end : ℕ} → left ≤ envelopes_most → r ≡ Opens base first end → base ≡ true → EnvelopesCounted s (envelopes_most - left + 1)
+    pub counted_base : {base : Bool} {first end : ℕ} → left ≤ envelopes_most → r ≡ Opens base first end → base ≡ true → EnvelopesCounted s (envelopes_most - left + 1)
     unfolding framed
-    counted-base {first = first} {end = end} few h b =
+    counted_base {first = first} {end = end} few h b =
         record {
           is = λ t place rows q.
               let (rest, a, n) = p t place rows q in
@@ -58,6 +58,6 @@ module _ {s : List ℕ} {left at : ℕ} {r : Frame} (f : HeaderFramed s at left 
     passed_one {first = first} {end = end} few h b t place rows q =
         let (rest, a, n) = p t place rows q in
         let is = rw (h, b) at (f.is t) in
-        let (others, o, m) = others-behind t (header (left - 1) t) s at first end place rest (sym is ∙ a) in
+        let (others, o, m) = others_behind t (header (left - 1) t) s at first end place rest (sym is ∙ a) in
         let one = (may_come h).0 in
         (others, o, omega (arith, n, m, one))

@@ -18,11 +18,11 @@ use Rattle.skips.specs.Classes.{class_of}
 use Rattle.hold_skips.specs.Holding.{held_if, HeldFrom, HeldTurn, EnvelopeHeld, RunToHold}
 use Rattle.hold_skips.specs.declared.Held.{Held}
 use Rattle.hold_skips.specs.declared.Held.TheVariants.{Row, Envelope, Wrong}
-use Rattle.skips.specs.Owning.{of-agent}
+use Rattle.skips.specs.Owning.{of_agent}
 use Rattle.skips.specs.Belonging.{follower_alone, follower_inner, Light, light_belongs, Leader, is_leader}
 use Rattle.skips.specs.Passes.{hoppable, none_wrong}
-use Rattle.skips.specs.Ends.{IsTop, run_ends, runs_to, alone, envelope-run}
-use Rattle.skips.specs.Classing.{is_plain, is-deeper, is-agent, is-follower, is-envelope, deeper_owns}
+use Rattle.skips.specs.Ends.{IsTop, run_ends, runs_to, alone, envelope_run}
+use Rattle.skips.specs.Classing.{is_plain, is_deeper, is_agent, is_follower_lem, is_envelope_lem, deeper_owns}
 
 pub none_held : (m : List ℕ) (n : ℕ) → n ≤ room_of m → HeldFrom m n n n
 none_held m n r = record { room = r; few = omega arith; most = omega arith; right = none_wrong m n; inner = λ j x y. absurd (omega arith); free = λ u. absurd (omega arith); there = λ u. absurd (omega arith) }
@@ -60,18 +60,18 @@ module _ {m : List ℕ} {n last kind end : ℕ} (b : RunToHold m n last kind end
   last_in : last < n
   last_in = omega (arith, b.from.few, b.from.most)
 
-  pub last-inside : last < room_of m
-  last-inside = omega (arith, last_in, b.from.room)
+  pub last_inside : last < room_of m
+  last_inside = omega (arith, last_in, b.from.room)
 
-  pub run-begins : (level : ℕ) → RunHeld m n last kind level last
-  run-begins level = record { most = omega arith; right = b.from.right; run = λ j x y. absurd (omega arith) }
+  pub run_begins : (level : ℕ) → RunHeld m n last kind level last
+  run_begins level = record { most = omega arith; right = b.from.right; run = λ j x y. absurd (omega arith) }
 
   module _ {level i : ℕ} (r : RunHeld m n last kind level i) where
     here : i < n
     here = omega (arith, r.most, last_in)
 
-    pub here-inside : i < room_of m
-    here-inside = omega (arith, here, b.from.room)
+    pub here_inside : i < room_of m
+    here_inside = omega (arith, here, b.from.room)
 
     pub run_on : (rank_at m i).kind ≡ kind → (rank_at m i).level ≡ level → given_at m i ≡ i + 1 → (i ≡ 0 → ⊥) → RunHeld m n last kind level (i - 1)
     run_on k l g z =
@@ -107,8 +107,8 @@ module _ {m : List ℕ} {n last kind end : ℕ} (b : RunToHold m n last kind end
           ends false z u = z
           ends true z u = false_not (sym (b.from.free u) ∙ light_belongs (rank_at m i) (rank_at m (suc last)) leader.light z)
 
-      pub run-held : {h : Held} → h ≡ held_if (given_at m i) (last + 1) i → HeldTurn m n (suc last) end h
-      run-held q = held_turn q (λ g. (from g, omega (arith, less)))
+      pub run_held : {h : Held} → h ≡ held_if (given_at m i) (last + 1) i → HeldTurn m n (suc last) end h
+      run_held q = held_turn q (λ g. (from g, omega (arith, less)))
         where
           from : given_at m i ≡ last + 1 → HeldFrom m n i end
           from g = record {
@@ -157,8 +157,8 @@ module _ {m : List ℕ} {n next end : ℕ} (f : HeldFrom m n next end) (some : 0
   pub turn_inside : next - 1 < room_of m
   turn_inside = omega (arith, at_hand, f.room)
 
-  pub turn-hoppable : Hoppable m n (next - 1)
-  turn-hoppable = hoppable m n next some (omega (arith, f.few, f.most)) f.room f.right
+  pub turn_hoppable : Hoppable m n (next - 1)
+  turn_hoppable = hoppable m n next some (omega (arith, f.few, f.most)) f.room f.right
 
   right_behind : AllRight m n (suc (next - 1))
   right_behind = subst (AllRight m n) (sym next_is) f.right
@@ -182,8 +182,8 @@ module _ {m : List ℕ} {n next end : ℕ} (f : HeldFrom m n next end) (some : 0
             at j x y true z = subst (λ (u : ℕ). 3 ≤ (rank_at m u).kind) (sym (eqb-true j (next - 1) z)) (omega (arith, k, not_envelope kind known e))
             at j x y false z = let d = eqb-false j (next - 1) z in f.inner j (omega (arith, some)) y
 
-    pub plain-held : {h : Held} → class < 0x1000 → h ≡ held_if (given_at m (next - 1)) next (next - 1) → HeldTurn m n next end h
-    plain-held u q = let (l, o) = is_plain kind class c u in one_turn l.no_envelope o (sym (skip l ∙ next_is)) q
+    pub plain_held : {h : Held} → class < 0x1000 → h ≡ held_if (given_at m (next - 1)) next (next - 1) → HeldTurn m n next end h
+    plain_held u q = let (l, o) = is_plain kind class c u in one_turn l.no_envelope o (sym (skip l ∙ next_is)) q
       where
         ends : Light (rank_at m (next - 1)).kind → (z : Bool) → belongs (rank_at m (next - 1)) (rank_at m (suc (next - 1))) ≡ z → suc (next - 1) < n → belongs (rank_at m (next - 1)) (rank_at m (suc (next - 1))) ≡ false
         ends l false z v = z
@@ -194,36 +194,36 @@ module _ {m : List ℕ} {n next end : ℕ} (f : HeldFrom m n next end) (some : 0
         skip l = alone m n (next - 1) at_hand (ends (subst Light k l) (belongs (rank_at m (next - 1)) (rank_at m (suc (next - 1)))) refl)
 
     module _ (g : 0x1000 ≤ class) (u : class < 0x2000) where
-      pub deeper-owned : Owned m (next - 1) deeper_test
-      deeper-owned s =
-          let (p, q, r, d) = is-deeper kind class c g u in
+      pub deeper_owned : Owned m (next - 1) deeper_test
+      deeper_owned s =
+          let (p, q, r, d) = is_deeper kind class c g u in
           let level = (rank_at m (next - 1)).level in
           ap (λ (x : ℕ). belongs (rank x level) s) (sym k) ∙ deeper_owns kind level s p r d
 
-      pub deeper-held : {right : ℕ} {h : Held} → right ≡ skip_at m n (next - 1) → h ≡ held_if (given_at m (next - 1)) right (next - 1) → HeldTurn m n next end h
-      deeper-held v q = let (p, o, r, d) = is-deeper kind class c g u in one_turn p o v q
+      pub deeper_held : {right : ℕ} {h : Held} → right ≡ skip_at m n (next - 1) → h ≡ held_if (given_at m (next - 1)) right (next - 1) → HeldTurn m n next end h
+      deeper_held v q = let (p, o, r, d) = is_deeper kind class c g u in one_turn p o v q
 
     module _ (g : 0x2000 ≤ class) (u : class < 0x3000) where
-      pub agent-owned : Owned m (next - 1) (above_test 15)
-      agent-owned s = of-agent (rank_at m (next - 1)).level s (sym k ∙ is-agent kind class c g u)
+      pub agent_owned : Owned m (next - 1) (above_test 15)
+      agent_owned s = of_agent (rank_at m (next - 1)).level s (sym k ∙ is_agent kind class c g u)
 
-      pub agent-held : {right : ℕ} {h : Held} → right ≡ skip_at m n (next - 1) → h ≡ held_if (given_at m (next - 1)) right (next - 1) → HeldTurn m n next end h
-      agent-held v q = let e = is-agent kind class c g u in one_turn (ap is_envelope e) (ap is_follower e) v q
+      pub agent_held : {right : ℕ} {h : Held} → right ≡ skip_at m n (next - 1) → h ≡ held_if (given_at m (next - 1)) right (next - 1) → HeldTurn m n next end h
+      agent_held v q = let e = is_agent kind class c g u in one_turn (ap is_envelope e) (ap is_follower e) v q
 
     module _ (g : 0x3000 ≤ class) (u : class < 0x4000) where
-      pub run-to-hold : RunToHold m n (next - 1) kind end
-      run-to-hold = record { from = subst (λ (x : ℕ). HeldFrom m n x end) (sym next_is) f; kind_is = k; follower = is-follower kind class c g u }
+      pub run_to_hold : RunToHold m n (next - 1) kind end
+      run_to_hold = record { from = subst (λ (x : ℕ). HeldFrom m n x end) (sym next_is) f; kind_is = k; follower = is_follower_lem kind class c g u }
 
-      pub run-turned : (h : Held) → HeldTurn m n (suc (next - 1)) end h → HeldTurn m n next end h
-      run-turned h t = subst (λ (x : ℕ). HeldTurn m n x end h) next_is t
+      pub run_turned : (h : Held) → HeldTurn m n (suc (next - 1)) end h → HeldTurn m n next end h
+      run_turned h t = subst (λ (x : ℕ). HeldTurn m n x end h) next_is t
 
-    pub envelope-held : (h : Held) → 0x4000 ≤ class → EnvelopeHeld m (next - 1) end h → HeldTurn m n next end h
+    pub envelope_held : (h : Held) → 0x4000 ≤ class → EnvelopeHeld m (next - 1) end h → HeldTurn m n next end h
     unfolding HeldTurn EnvelopeHeld
-    envelope-held (Row j) g t = absurd t
-    envelope-held Wrong g t = tt
-    envelope-held (Envelope j) g (q, z, v) =
-        let top : IsTop (rank_at m (next - 1)) = subst (λ (x : ℕ). IsTop (rank x (rank_at m (next - 1)).level)) k (is_top kind (rank_at m (next - 1)).level (is-envelope kind class c g) z) in
-        let skip : skip_at m n (next - 1) ≡ end = envelope-run m n (next - 1) at_hand end top (omega (arith, some, f.few)) f.most (λ i x y. f.inner i (omega (arith, some)) y) f.there in (
+    envelope_held (Row j) g t = absurd t
+    envelope_held Wrong g t = tt
+    envelope_held (Envelope j) g (q, z, v) =
+        let top : IsTop (rank_at m (next - 1)) = subst (λ (x : ℕ). IsTop (rank x (rank_at m (next - 1)).level)) k (is_top kind (rank_at m (next - 1)).level (is_envelope_lem kind class c g) z) in
+        let skip : skip_at m n (next - 1) ≡ end = envelope_run m n (next - 1) at_hand end top (omega (arith, some, f.few)) f.most (λ i x y. f.inner i (omega (arith, some)) y) f.there in (
           subst (λ (x : ℕ). HeldFrom m n x x) (sym q)
               (record {
                 room = f.room;

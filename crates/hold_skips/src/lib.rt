@@ -1,4 +1,6 @@
 // Skip numbers of rows that are to be written, held against the right ones.
+#![tactic(auto)]
+
 ghost use Rattle.std.specs.Prelude.{◌≡◌, true, ℕ, suc, ◌≤◌, ◌<◌};
 ghost use Rattle.meaning.specs.Memory.{room_of, skips_held};
 ghost use Rattle.laws_steps.specs.Hopping.{given_at, skip_at, held_at, AllRight};

@@ -12,7 +12,7 @@ use Rattle.meaning.specs.Writing.{valid, write_value, is_pass, fits, lead, fit_r
 use Rattle.laws_steps.specs.Logic.{left_of, right_of, either, is_false, not_both}
 use Rattle.laws_steps.specs.Tables.{room_number, every_in, Hits, find_hits, all_rooms, each_room}
 use Rattle.laws_steps.specs.Lookups.{row_at, pass_facts}
-use Rattle.laws_steps.specs.Fits.{heavy, pass_lightens, fit-holds, close_once}
+use Rattle.laws_steps.specs.Fits.{heavy, pass_lightens, fit_holds, close_once}
 use Rattle.laws_steps.specs.WrittenRead.{fit_all, then_make}
 use Rattle.laws_tables.specs.ReadWritten.{fit_own}
 
@@ -192,7 +192,7 @@ move_sound e st {m} i = go_sound st m.next (every_in sound_move i (completable_a
 
 pub row_sound : (e : Edition) (row : Row) (st st' : State) (bs : List ℕ) → fit_row e st row ≡ fits st' bs → Sound st'
 row_sound e row =
-    fit-holds e row (λ st st' bs. Sound st') (λ st st' m bs i p. subst Sound p.to (move_sound e st i)) (λ st st' m bs i q h. h)
+    fit_holds e row (λ st st' bs. Sound st') (λ st st' m bs i p. subst Sound p.to (move_sound e st i)) (λ st st' m bs i q h. h)
 
 pub start_sound : (b : Bool) → Sound (start b)
 start_sound true t = absurd t

@@ -14,7 +14,7 @@ use Rattle.meaning.specs.Writing.{fits, fit_row}
 use Rattle.laws_steps.specs.Logic.{left_of, right_of, either, not_both, is_true}
 use Rattle.laws_steps.specs.Nesting.{false_not}
 use Rattle.laws_steps.specs.Tables.{room_number, every_in, all_rooms, each_room}
-use Rattle.laws_steps.specs.Fits.{fit-holds}
+use Rattle.laws_steps.specs.Fits.{fit_holds}
 use Rattle.laws_steps.specs.WrittenRead.{fit_all, then_inv}
 use Rattle.laws_tables.specs.RightSkips.{standing}
 use Rattle.laws_tables.specs.Tabled.{is_deep, Deep, go_deep, moves_well, move_well, leads_well, row_well, well_test}
@@ -88,7 +88,7 @@ module _ (e : Edition) (st : State) {m : Move} (i : In m (moves e st.room)) (o :
 
 row_dateless : (e : Edition) (row : Row) (st st' : State) (bs : List ℕ) → fit_row e st row ≡ fits st' bs → Off st → Deep st → (Off st' × Deep st') × (is_date row.kind ≡ true → 1 ≤ row.level)
 row_dateless e row =
-    fit-holds e row (λ st st' bs. Off st → Deep st → (Off st' × Deep st') × (is_date row.kind ≡ true → 1 ≤ row.level))
+    fit_holds e row (λ st st' bs. Off st → Deep st → (Off st' × Deep st') × (is_date row.kind ≡ true → 1 ≤ row.level))
     (λ st st' m bs i p o d. (
       subst (λ (x : State). Off x × Deep x) p.to (move_on e st i o d),
       λ q. let h = date_deep_lem e st i o d (ap is_date p.kind_is ∙ q) in omega (arith, p.level_is),

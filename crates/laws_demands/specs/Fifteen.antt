@@ -8,7 +8,7 @@ use Rattle.meaning.specs.Reading.{Row}
 use Rattle.meaning.specs.Headers.{start}
 use Rattle.meaning.specs.Writing.{Fit, unfit, fits, fit_row, close, Cell, cell, broken, Opens, envelope_row, inner_row, opens_of, Envelope, Plan, stuck, plan, on_plan, new_plan, row_plan, turn_plan, end_plan, next_row, last_row, plan_of, whole_plan}
 use Rattle.laws_steps.specs.Envelopes.{opening_row}
-use Rattle.laws_steps.specs.Plans.{OpensIs, opens_is, fits_inner, Planned, plan-rows, plan-end, plan_turn}
+use Rattle.laws_steps.specs.Plans.{OpensIs, opens_is, fits_inner, Planned, plan_rows, plan_end, plan_turn}
 use Rattle.laws_demands.specs.Completing.{Sound, completes, row_sound, start_sound}
 
 -- Rows that begin a table
@@ -23,14 +23,14 @@ Ends e cs i b st = (more : List Row) × (bs : List ℕ) × Planned e Any (cs ++ 
 ends_here : (e : Edition) (i : ℕ) (b : Bool) (st : State) → Sound st → Ends e [] i b st
 ends_here e i true st s =
     let (rows, st', bs, q) = completes e st s in
-    (rows, bs, subst (λ (x : List Row). Planned e Any (map cell x) i true st bs) (append-nil rows) (plan-rows e Any rows [] true (plan-end e Any tt) i st st' bs q))
+    (rows, bs, subst (λ (x : List Row). Planned e Any (map cell x) i true st bs) (append-nil rows) (plan_rows e Any rows [] true (plan_end e Any tt) i st st' bs q))
 ends_here e i false st s =
     let (rows, st', bs, q) = completes e st s in
     let (last, st₂, ds, q₂) = completes e (start true) (start_sound true) in
     let base : (j : ℕ) (st₃ st₄ : State) (cs : List ℕ) → close e st₃ ≡ fits st₄ cs → Planned e Any (map cell (opening_row true ∷ last)) j false st₃ cs
     = λ j st₃ st₄ cs r. plan_turn e Any Any true (map cell last) j st₃ st₄ cs ds r (λ vs x. tt)
-    (subst (λ (x : List Row). Planned e Any (map cell x) (suc j) true (start true) ds) (append-nil last) (plan-rows e Any last [] true (plan-end e Any tt) (suc j) (start true) st₂ ds q₂)) in
-    (rows ++ (opening_row true ∷ last), bs, plan-rows e Any rows (opening_row true ∷ last) false base i st st' bs q)
+    (subst (λ (x : List Row). Planned e Any (map cell x) (suc j) true (start true) ds) (append-nil last) (plan_rows e Any last [] true (plan_end e Any tt) (suc j) (start true) st₂ ds q₂)) in
+    (rows ++ (opening_row true ∷ last), bs, plan_rows e Any rows (opening_row true ∷ last) false base i st st' bs q)
 
 stuck_plan : {A : Type 0} {i : ℕ} {bs : List ℕ} {vs : List Envelope} → plan bs vs ≡ stuck i → A
 stuck_plan q = let z : ◌≡◌ {A = ℕ} 0 1 = cc q in absurd (omega arith)

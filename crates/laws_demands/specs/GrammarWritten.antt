@@ -10,7 +10,7 @@ use Rattle.meaning.specs.Reading.{Row, is_closed, level_most, too_deep}
 use Rattle.meaning.specs.Headers.{Placed, placed_row, meant, envelope_most, start}
 use Rattle.meaning.specs.Writing.{fits, fit_row, close, envelope_size, wrap}
 use Rattle.laws_steps.specs.Lookups.{row_at}
-use Rattle.laws_steps.specs.Fits.{Placing, fit-holds, close-holds, close_once}
+use Rattle.laws_steps.specs.Fits.{Placing, fit_holds, close_holds, close_once}
 use Rattle.laws_steps.specs.WrittenRead.{fit_all, Split, then_inv, then_make}
 use Rattle.laws_tables.specs.Ahead.{all_behind}
 use Rattle.laws_tables.specs.ReadWritten.{fit_own}
@@ -56,13 +56,13 @@ row_own e r st st' m bs i p at =
     )
 
 row_steps : (e : Edition) (r : Row) (st st' : State) (bs : List ℕ) → fit_row e st r ≡ fits st' bs → RowSteps e r st st' bs
-row_steps e r = fit-holds e r (RowSteps e r) (row_own e r) (λ st st' m bs i q p at. let (begin, s) = p (at + 1) in (begin, pass m i q s))
+row_steps e r = fit_holds e r (RowSteps e r) (row_own e r) (λ st st' m bs i q p at. let (begin, s) = p (at + 1) in (begin, pass m i q s))
 
 abbrev ClosingSteps : Edition → State → State → List ℕ → Type 0
 ClosingSteps e st st' bs = (is_closed st'.room ≡ true) × ((at : ℕ) → Steps e st at bs [] st')
 
 closing_steps : (e : Edition) (st st' : State) (bs : List ℕ) → close e st ≡ fits st' bs → ClosingSteps e st st' bs
-closing_steps e = close-holds e (ClosingSteps e) (λ st h. (h, λ at. none)) (λ st st' m bs i q (h, s). (h, λ at. pass m i q (s (at + 1))))
+closing_steps e = close_holds e (ClosingSteps e) (λ st h. (h, λ at. none)) (λ st st' m bs i q (h, s). (h, λ at. pass m i q (s (at + 1))))
 
 pub record Fitting (e : Edition) (st : State) (at : ℕ) (bs : List ℕ) (rows : List Row) (st' : State) : Type 0 where
   pub placed_rows : List Placed

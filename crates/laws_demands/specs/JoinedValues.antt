@@ -22,8 +22,8 @@ use Rattle.laws_tables.specs.Standing.{Opened, opened, table_stands}
 use Rattle.laws_tables.specs.PresentValues.{can_ask_open}
 use Rattle.laws_tables.specs.Moving.{ranks_moved}
 use Rattle.laws_demands.specs.Dateless.{extension_dateless}
-use Rattle.laws_tables.specs.Joined.{Joins, ranks_meant, old-written, joined-written}
-use Rattle.laws_tables.specs.JoinedRead.{joined_rows, new-means, table_is}
+use Rattle.laws_tables.specs.Joined.{Joins, ranks_meant, old_written, joined_written}
+use Rattle.laws_tables.specs.JoinedRead.{joined_rows, new_means, table_is}
 
 -- The first value, among rows and rows behind them
 
@@ -53,6 +53,7 @@ stands_front [] ys t = none_left
 stands_front (x ∷ xs) ys (one_more w t) = one_more w (stands_front xs ys t)
 
 first_of : (code : ℕ) (ranks : List Rank) → can_ask code ≡ true → Standing ranks → Opened ranks → present code ranks ≡ first_from code 0 ranks
+first_of code [] a t h = elim h [ ]
 first_of code (r ∷ rest) a t (opened h) = first_stands code r rest (can_ask_open code a) h t
 
 map_both : (xs ys : List Row) → map standing (xs ++ ys) ≡ map standing xs ++ map standing ys
@@ -72,11 +73,11 @@ module _ {edition : ℕ} {input table pool : List ℕ} {j : Joint} (s : Joins ed
       let n = length j.envelope in
       ap ranks_of (table_is s) ∙ table_ranks 0 (map numbers_of (joined_rows j)) ∙ ranks_append j.new (map (moved n) j.old)
       ∙ ap (λ (x : List Rank). ranks_read j.new ++ x) (ranks_moved n j.old ∙ sym (table_ranks 0 (map numbers_of j.old)))
-      ∙ ap (λ (x : List Rank). x ++ ranks_of (table_of j.old)) (sym (cells_ranks pool table (map meant j.new) (new-means s) ∙ ranks_meant j.new))
+      ∙ ap (λ (x : List Rank). x ++ ranks_of (table_of j.old)) (sym (cells_ranks pool table (map meant j.new) (new_means s) ∙ ranks_meant j.new))
 
   all_stand : Standing (ranks_of table ++ ranks_of (table_of j.old))
   all_stand =
-      let whole = (table_stands s.told_in (joined-written s t)).0 in
+      let whole = (table_stands s.told_in (joined_written s t)).0 in
       subst Standing (ap (λ (x : List Rank). rank 1 0 ∷ x) (map_both s.extension.rows (map meant j.old)) ∙ ap (λ (x : List Rank). x ++ map standing (map meant j.old)) (sym opens_new) ∙ ap (λ (x : List Rank). ranks_of table ++ x) (sym old_ranks)) whole
 
   opened_new : (rest : List Rank) → Opened (ranks_of table ++ rest)
@@ -86,14 +87,14 @@ module _ {edition : ℕ} {input table pool : List ℕ} {j : Joint} (s : Joins ed
     -- the old header's own
     old_first : present code (ranks_of (table_of j.old)) ≡ first_from code 0 (ranks_of (table_of j.old))
     old_first =
-        let (stands, opens) = table_stands s.told_in (old-written s t) in
+        let (stands, opens) = table_stands s.told_in (old_written s t) in
         first_of code (ranks_of (table_of j.old)) a (subst Standing (sym old_ranks) stands) (subst Opened (sym old_ranks) opens)
 
     new_first : present code (ranks_of table) ≡ first_from code 0 (ranks_of table)
     new_first = first_of code (ranks_of table) a (stands_front (ranks_of table) (ranks_of (table_of j.old)) all_stand) (subst Opened (sym opens_new) (opened refl))
 
-    pub joined-present : present code (ranks_of (joined_table j)) ≡ pick (occurs code (ranks_of table)) (present code (ranks_of table)) (length (ranks_of table) + present code (ranks_of (table_of j.old)))
-    joined-present =
+    pub joined_present : present code (ranks_of (joined_table j)) ≡ pick (occurs code (ranks_of table)) (present code (ranks_of table)) (length (ranks_of table) + present code (ranks_of (table_of j.old)))
+    joined_present =
         let new = ranks_of table in
         let old = ranks_of (table_of j.old) in
         ap (present code) joined_ranks ∙ first_of code (new ++ old) a all_stand (opened_new old) ∙ first_joined code 0 new old
@@ -105,7 +106,7 @@ module _ {edition : ℕ} {input table pool : List ℕ} {j : Joint} (s : Joins ed
   unfolding occurs
   no_date_lem = ap (occurs date_code) opens_new ∙ extension_dateless s.told_in s.extension.rows (start false) s.extension.to s.body s.extension.fits_all tt (λ q. let z : ◌≡◌ {A = ℕ} 0 1 = cc q in absurd (omega arith))
 
-  pub joined-date : present date_code (ranks_of (joined_table j)) ≡ length (ranks_of table) + present date_code (ranks_of (table_of j.old))
-  joined-date =
-      joined-present date_code refl
+  pub joined_date : present date_code (ranks_of (joined_table j)) ≡ length (ranks_of table) + present date_code (ranks_of (table_of j.old))
+  joined_date =
+      joined_present date_code refl
       ∙ ap (λ (b : Bool). pick b (present date_code (ranks_of table)) (length (ranks_of table) + present date_code (ranks_of (table_of j.old)))) no_date_lem

@@ -87,8 +87,8 @@ module _ (rows : List Rank) where
   bit_has : (code bit : ℕ) → Takes seen code bit → occurs code rows ≡ true → eqb (word_of rows / bit % 2) 0 ≡ false
   bit_has code bit q o = let z : word_of rows / bit % 2 ≡ 1 = ap (λ (w : ℕ). w / bit % 2) word_sum ∙ q ∙ ap one o in ne_eqb (word_of rows / bit % 2) 0 (λ x. omega (arith, z))
 
-  pub word-has : (code : ℕ) → 2 ≤ code → code ≤ 11 → occurs code rows ≡ true → lacks (word_of rows) code ≡ false
-  word-has =
+  pub word_has : (code : ℕ) → 2 ≤ code → code ≤ 11 → occurs code rows ≡ true → lacks (word_of rows) code ≡ false
+  word_has =
       by_code (λ (code : ℕ). occurs code rows ≡ true → lacks (word_of rows) code ≡ false)
       (bit_has 2 4 (bit_2 seen))
       (bit_has 3 8 (bit_3 seen))

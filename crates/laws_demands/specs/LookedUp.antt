@@ -23,7 +23,7 @@ use Rattle.laws_tables.specs.Ties.{written_right, accepted_known, written_known,
 use Rattle.laws_tables.specs.PresentValues.{passed_written, present_first}
 use Rattle.laws_tables.specs.Ranked.{Ranked, table_ranked}
 use Rattle.laws_demands.specs.PassedOver.{level_zero}
-use Rattle.laws_demands.specs.Looking.{TrueFrom, looked-first}
+use Rattle.laws_demands.specs.Looking.{TrueFrom, looked_first}
 
 -- sixteen words or more, with those of the rows' envelopes at their front
 pub record TrueWords (rows words : List ℕ) : Type 0 where
@@ -54,7 +54,7 @@ unfolding lookup
 looks_up_lem e pool rows words {table = table} code a t s c w =
     let q = ranks_are rows in
     let ranked : Ranked true 0 (ranks_of rows) = subst (Ranked true 0) (sym (cells_ranks pool rows table c)) (table_ranked e w true 0) in
-    let f = looked-first rows words code a (right_means rows s) true (subst (Ranked true 0) q ranked) (subst (λ (x : List Rank). TrueFrom words 0 (words_of x)) q (front_words words (words_of (ranks_of rows)) t.front)) in
+    let f = looked_first rows words code a (right_means rows s) true (subst (Ranked true 0) q ranked) (subst (λ (x : List Rank). TrueFrom words 0 (words_of x)) q (front_words words (words_of (ranks_of rows)) t.front)) in
     let whole : length rows % row_width ≡ 0 = omega (arith, rows_whole pool rows table c) in
     record {
       count = f.count;

@@ -207,6 +207,6 @@ module _ (rows words : List ℕ) (code : ℕ) (a : can_ask code ≡ true) (right
       at false q ih = let m = ltb-false i n q in subst (Finds looked i) (rw (le-leb n i m) refl) (ended looked i m)
 
   -- all rows
-  pub looked-first : (dates : Bool) → Ranked dates 0 (from 0) → TrueFrom words 0 (words_of (from 0)) → Finds 0 0 (looked_up rows words code)
+  pub looked_first : (dates : Bool) → Ranked dates 0 (from 0) → TrueFrom words 0 (words_of (from 0)) → Finds 0 0 (looked_up rows words code)
   unfolding looked_up
-  looked-first dates g t = looks n 0 0 0 (omega arith) (omega arith) dates g t
+  looked_first dates g t = looks n 0 0 0 (omega arith) (omega arith) dates g t

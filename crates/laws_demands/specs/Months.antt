@@ -223,9 +223,9 @@ module _ (ms : List Message) (t : T (are_messages ms)) (m : Message) where
       let room = lt-ltb (messages_in (figures_of ms)) messages_most (omega (arith, w.counted)) in
       (rw (is, room) refl, (rw (is, room) refl) ∙ sym (figures_with ms m))
 
-  pub not-added : messages_most ≤ length ms → (add_answer (figures_of ms) ≡ outcome 19 0) × (add_figures m (figures_of ms) ≡ figures_of ms)
+  pub not_added : messages_most ≤ length ms → (add_answer (figures_of ms) ≡ outcome 19 0) × (add_figures m (figures_of ms) ≡ figures_of ms)
   unfolding add_answer add_figures takes_more
-  not-added many = by (are_figures (figures_of ms)) refl
+  not_added many = by (are_figures (figures_of ms)) refl
     where
       full : ltb (messages_in (figures_of ms)) messages_most ≡ false
       full = let w = figures_whole ms t in le-ltb (messages_in (figures_of ms)) messages_most (omega (arith, w.counted))

@@ -12,7 +12,7 @@ use Rattle.laws_steps.specs.Nesting.{by_beside, value_is, above, Belongs, belong
 use Rattle.meaning.specs.Lookup.{lacks}
 use Rattle.laws_tables.specs.Firsts.{first_from}
 use Rattle.laws_tables.specs.Levels.{bad}
-use Rattle.laws_demands.specs.Lacking.{word-has}
+use Rattle.laws_demands.specs.Lacking.{word_has}
 use Rattle.laws_tables.specs.Ranked.{Fair, Ranked, none, next}
 
 -- "the number of level 0 rows"
@@ -171,7 +171,7 @@ pub lacking : (code : ℕ) (rows : List Rank) → 2 ≤ code → code ≤ 11 →
 lacking code rows l h q = at (occurs code rows) refl
   where
     at : (b : Bool) → occurs code rows ≡ b → occurs code rows ≡ false
-    at true o = bad (sym (word-has rows code l h o) ∙ q)
+    at true o = bad (sym (word_has rows code l h o) ∙ q)
     at false o = o
 
 -- for 20 by being extensions

@@ -33,10 +33,10 @@ module _ (n b : ℕ) (first : Bool) where
   abbrev two : ℕ
   two = 10 * one + (b % 16 - 1)
 
-  abbrev pairOk : Bool
-  pairOk = is_digit (b % 16) && not (first && eqb (b / 16) 1) && leb two number_most
+  abbrev pair_ok : Bool
+  pair_ok = is_digit (b % 16) && not (first && eqb (b / 16) 1) && leb two number_most
 
-  turn_low : (y z : Bool) → eqb (b % 16) 0 ≡ y → pairOk ≡ z → 1 ≤ b / 16 → b / 16 ≤ 10 → one ≤ number_most → TurnIs n first b (pick y stop (pick z (more two) wrong))
+  turn_low : (y z : Bool) → eqb (b % 16) 0 ≡ y → pair_ok ≡ z → 1 ≤ b / 16 → b / 16 ≤ 10 → one ≤ number_most → TurnIs n first b (pick y stop (pick z (more two) wrong))
   turn_low true z q r lo hi m = let p = eqb-true (b % 16) 0 q in inr (b / 16 - 1, omega arith, omega arith, m)
   turn_low false true q r lo hi m =
       let x = is_digit (b % 16) in let y = not (first && eqb (b / 16) 1) in let w = leb two number_most in
@@ -47,15 +47,15 @@ module _ (n b : ℕ) (first : Bool) where
       (b / 16 - 1, b % 16 - 1, omega arith, omega arith, omega arith, refl, no_zero first (b / 16) lo (right_of x y u), leb→le two number_most (right_of (x && y) w t))
   turn_low false false q r lo hi m = tt
 
-  turn_high : (z : Bool) → is_digit (b / 16) && leb one number_most ≡ z → TurnIs n first b (pick z (pick (eqb (b % 16) 0) stop (pick pairOk (more two) wrong)) wrong)
+  turn_high : (z : Bool) → is_digit (b / 16) && leb one number_most ≡ z → TurnIs n first b (pick z (pick (eqb (b % 16) 0) stop (pick pair_ok (more two) wrong)) wrong)
   turn_high true q =
       let x = leb 1 (b / 16) in let y = leb (b / 16) 10 in let w = leb one number_most in
       let s : T (x && y && w) = subst T (sym q) tt in
       let t = left_of (x && y) w s in
-      turn_low (eqb (b % 16) 0) pairOk refl refl (leb→le 1 (b / 16) (left_of x y t)) (leb→le (b / 16) 10 (right_of x y t)) (leb→le one number_most (right_of (x && y) w s))
+      turn_low (eqb (b % 16) 0) pair_ok refl refl (leb→le 1 (b / 16) (left_of x y t)) (leb→le (b / 16) 10 (right_of x y t)) (leb→le one number_most (right_of (x && y) w s))
   turn_high false q = tt
 
-  turn_first : (z : Bool) → eqb b 0 ≡ z → TurnIs n first b (pick z (pick first wrong stop) (pick (is_digit (b / 16) && leb one number_most) (pick (eqb (b % 16) 0) stop (pick pairOk (more two) wrong)) wrong))
+  turn_first : (z : Bool) → eqb b 0 ≡ z → TurnIs n first b (pick z (pick first wrong stop) (pick (is_digit (b / 16) && leb one number_most) (pick (eqb (b % 16) 0) stop (pick pair_ok (more two) wrong)) wrong))
   turn_first true q = turn_zero n b first (eqb-true b 0 q)
   turn_first false q = turn_high (is_digit (b / 16) && leb one number_most) refl
 

@@ -12,7 +12,7 @@ use Rattle.meaning.specs.Writing.{Fit, unfit, fits, fit_row, close, Cell, cell, 
 use Rattle.laws_steps.specs.Fits.{close_once}
 use Rattle.laws_steps.specs.WrittenRead.{fit_all, then_inv, then_make}
 use Rattle.laws_steps.specs.Envelopes.{opening_row, map_append}
-use Rattle.laws_steps.specs.Plans.{OpensIs, opens_is, closed_fits, Planned, plan-row, plan-end, plan_turn}
+use Rattle.laws_steps.specs.Plans.{OpensIs, opens_is, closed_fits, Planned, plan_row, plan_end, plan_turn}
 use Rattle.laws_tables.specs.RowCounts.{length_meant}
 use Rattle.meaning.specs.Grammar.{head_size, Mark, mark, Header, the_base, extension}
 use Rattle.laws_demands.specs.GrammarWritten.{steps_fit, fit_steps}
@@ -151,7 +151,7 @@ module _ (e : Edition) (Q : List Envelope → Type 0) where
   rows_planned (r ∷ rows) table b i h st st' bs q =
       let (st₁, cs, ds, q₁, q₂, q₃) = then_inv (fit_row e st r) (fit_all e rows) st' bs q in
       let later = rows_planned rows table b (suc i) (λ st₂ st₃ xs z. subst (λ (x : ℕ). Planned e Q (map cell table) x b st₂ xs) (omega arith) (h st₂ st₃ xs z)) st₁ st' ds q₂ in
-      subst (Planned e Q (map cell ((r ∷ rows) ++ table)) i b st) (sym q₃) (plan-row e Q r (map cell (rows ++ table)) i b st st₁ cs ds q₁ later)
+      subst (Planned e Q (map cell ((r ∷ rows) ++ table)) i b st) (sym q₃) (plan_row e Q r (map cell (rows ++ table)) i b st st₁ cs ds q₁ later)
 
 -- a plan whose envelopes are these
 abbrev Makes : List ℕ → List Mark → List Envelope → Type 0
@@ -160,7 +160,7 @@ Makes bytes marks vs = (header_of vs ≡ bytes) × (map mark_of vs ≡ marks)
 header_planned : (e : Edition) {i at : ℕ} {bytes : List ℕ} {rows : List Placed} {marks : List Mark} → Header e i at bytes rows marks → (st st' : State) (bs : List ℕ) → close e st ≡ fits st' bs → Planned e (Makes bytes marks) (map cell (map meant rows)) i false st bs
 header_planned e (the_base {i} {at} {bytes} {rows} h) st st' bs q =
     let inner : Planned e (Makes [] []) (map cell (map meant rows ++ [])) (suc i) true (start true) bytes
-    = rows_planned e (Makes [] []) (map meant rows) [] true (suc i) (λ st₁ st₂ xs z. plan-end e (Makes [] []) (refl, refl) (suc i + length (map meant rows)) st₁ st₂ xs z) (start true) h.last bytes (steps_fit e h.steps h.closes) in
+    = rows_planned e (Makes [] []) (map meant rows) [] true (suc i) (λ st₁ st₂ xs z. plan_end e (Makes [] []) (refl, refl) (suc i + length (map meant rows)) st₁ st₂ xs z) (start true) h.last bytes (steps_fit e h.steps h.closes) in
     plan_turn e (Makes [] []) (Makes (wrap true bytes) (mark i (envelope_size (length bytes)) ∷ [])) true (map cell (map meant rows)) i st st' bs bytes q
     (λ vs (a, b). (ap (λ (x : List ℕ). wrap true bytes ++ x) a ∙ append-nil (wrap true bytes), ap (λ (x : List Mark). mark i (envelope_size (length bytes)) ∷ x) b))
     (subst (λ (x : List Row). Planned e (Makes [] []) (map cell x) (suc i) true (start true) bytes) (append-nil (map meant rows)) inner)

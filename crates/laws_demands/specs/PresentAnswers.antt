@@ -26,9 +26,9 @@ module _ (edition : ℕ) (rows pool : List ℕ) (code room : ℕ) where
 
   module _ (a : can_ask code ≡ true) where
     -- "then 15 and 5 as the writer gives them", for the same edition, rows and pool, whatever output it is lent; and 1 before all
-    pub refused-as-written : (refusal place : ℕ) → (refusal ≡ 16 → ⊥) → write edition rows pool room ≡ unwritten refusal place → present_answer edition rows pool code ≡ reply refusal place 0
+    pub refused_as_written : (refusal place : ℕ) → (refusal ≡ 16 → ⊥) → write edition rows pool room ≡ unwritten refusal place → present_answer edition rows pool code ≡ reply refusal place 0
     unfolding write present_answer
-    refused-as-written refusal place n q =
+    refused_as_written refusal place n q =
         under (label_of edition) a (stopped refusal place) (ap check_of q ∙ rw (ne_eqb refusal 16 n) refl) (λ u. one (sym (ap (written_under room (cells_of pool rows) (skips_held rows)) u) ∙ q))
       where
         one : unwritten 1 0 ≡ unwritten refusal place → reply refusal place 0 ≡ reply 1 0 0
@@ -39,11 +39,11 @@ module _ (edition : ℕ) (rows pool : List ℕ) (code room : ℕ) where
     found_where_written w p q = under (label_of edition) a passed (ap check_of q ∙ p) (λ u. absurd_check (sym (ap (λ (l : Label). check_of (written_under room (cells_of pool rows) (skips_held rows) l)) u) ∙ ap check_of q ∙ p))
 
     -- where it writes, or only lacks room: 0, the row, the row count
-    pub found-as-written : (bytes : List ℕ) → write edition rows pool room ≡ written bytes → present_answer edition rows pool code ≡ reply 0 (present code (ranks_of rows)) (room_of rows)
-    found-as-written bytes q = found_where_written (written bytes) refl q
+    pub found_as_written : (bytes : List ℕ) → write edition rows pool room ≡ written bytes → present_answer edition rows pool code ≡ reply 0 (present code (ranks_of rows)) (room_of rows)
+    found_as_written bytes q = found_where_written (written bytes) refl q
 
-    pub found-without-room : (needed : ℕ) → write edition rows pool room ≡ unwritten 16 needed → present_answer edition rows pool code ≡ reply 0 (present code (ranks_of rows)) (room_of rows)
-    found-without-room needed q = found_where_written (unwritten 16 needed) refl q
+    pub found_without_room : (needed : ℕ) → write edition rows pool room ≡ unwritten 16 needed → present_answer edition rows pool code ≡ reply 0 (present code (ranks_of rows)) (room_of rows)
+    found_without_room needed q = found_where_written (unwritten 16 needed) refl q
 
 -- "17 at place 0, code not one of these": after 1, before the writer's
 pub no_such_code : (edition : ℕ) (e : Edition) (rows pool : List ℕ) (code : ℕ) → label_of edition ≡ known e → can_ask code ≡ false → present_answer edition rows pool code ≡ reply 17 0 0

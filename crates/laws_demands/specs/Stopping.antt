@@ -8,7 +8,7 @@ use Rattle.meaning.specs.Reading.{Row}
 use Rattle.meaning.specs.Headers.{start}
 use Rattle.meaning.specs.Writing.{Fit, unfit, fits, fit_row, close, Cell, cell, broken, Opens, envelope_row, inner_row, opens_of, Envelope, Plan, stuck, plan, on_plan, new_plan, plan_of}
 use Rattle.laws_steps.specs.Envelopes.{opening_row}
-use Rattle.laws_steps.specs.Plans.{Planned, plan-rows, plan-end, plan_turn}
+use Rattle.laws_steps.specs.Plans.{Planned, plan_rows, plan_end, plan_turn}
 use Rattle.laws_demands.specs.Completing.{Sound, completes, row_sound, start_sound}
 use Rattle.laws_demands.specs.Fifteen.{stuck_between}
 
@@ -61,21 +61,21 @@ Any vs = Unit {0}
 completed : (e : Edition) (i : ℕ) (b : Bool) (st : State) → Sound st → (more : List Row) × (bs : List ℕ) × Planned e Any (map cell more) i b st bs
 completed e i true st s =
     let (rows, st', bs, q) = completes e st s in
-    (rows, bs, subst (λ (x : List Row). Planned e Any (map cell x) i true st bs) (append-nil rows) (plan-rows e Any rows [] true (plan-end e Any tt) i st st' bs q))
+    (rows, bs, subst (λ (x : List Row). Planned e Any (map cell x) i true st bs) (append-nil rows) (plan_rows e Any rows [] true (plan_end e Any tt) i st st' bs q))
 completed e i false st s =
     let (rows, st', bs, q) = completes e st s in
     let (last, ds, inner) = completed_base in
-    (rows ++ (opening_row true ∷ last), bs, plan-rows e Any rows (opening_row true ∷ last) false (λ j st₁ st₂ cs r. plan_turn e Any Any true (map cell last) j st₁ st₂ cs ds r (λ vs x. tt) (inner (suc j))) i st st' bs q)
+    (rows ++ (opening_row true ∷ last), bs, plan_rows e Any rows (opening_row true ∷ last) false (λ j st₁ st₂ cs r. plan_turn e Any Any true (map cell last) j st₁ st₂ cs ds r (λ vs x. tt) (inner (suc j))) i st st' bs q)
   where
     completed_base : (last : List Row) × (ds : List ℕ) × ((j : ℕ) → Planned e Any (map cell last) j true (start true) ds)
     completed_base =
         let (last, st₂, ds, q) = completes e (start true) (start_sound true) in
-        (last, ds, λ j. subst (λ (x : List Row). Planned e Any (map cell x) j true (start true) ds) (append-nil last) (plan-rows e Any last [] true (plan-end e Any tt) j (start true) st₂ ds q))
+        (last, ds, λ j. subst (λ (x : List Row). Planned e Any (map cell x) j true (start true) ds) (append-nil last) (plan_rows e Any last [] true (plan_end e Any tt) j (start true) st₂ ds q))
 
 module _ (e : Edition) (i : ℕ) (b : Bool) (st : State) (sound : Sound st) where
   -- the rows before begin a plan
-  pub begins-plan : (xs zs : List Cell) → plan_of e (xs ++ zs) i b st ≡ stuck (i + length xs) → (more : List Row) × (bs : List ℕ) × (vs : List Envelope) × (plan_of e (xs ++ map cell more) i b st ≡ plan bs vs)
-  begins-plan xs zs q = by (led e xs i b st sound)
+  pub begins_plan : (xs zs : List Cell) → plan_of e (xs ++ zs) i b st ≡ stuck (i + length xs) → (more : List Row) × (bs : List ℕ) × (vs : List Envelope) × (plan_of e (xs ++ map cell more) i b st ≡ plan bs vs)
+  begins_plan xs zs q = by (led e xs i b st sound)
     where
       by : Led e xs i b st → (more : List Row) × (bs : List ℕ) × (vs : List Envelope) × (plan_of e (xs ++ map cell more) i b st ≡ plan bs vs)
       by (stops j h f) = let same = stuck_same (sym (f zs) ∙ q) in absurd (omega arith)

@@ -243,9 +243,9 @@ module _ (e : Edition) where
   identified_beside k ih at s base = sized_beside k ih true at (suc (length s)) (high_first 2 0 s)
   identified_beside k ih at s neither = inl refl
 
-  pub header-beside : (k at : ℕ) (s : List ℕ) → Beside at (header k strictly at s) (header k tolerantly at s)
+  pub header_beside : (k at : ℕ) (s : List ℕ) → Beside at (header k strictly at s) (header k tolerantly at s)
   unfolding header
-  header-beside zero at [] = inl refl
-  header-beside zero at (b ∷ s) = inl refl
-  header-beside (suc k) at [] = inl refl
-  header-beside (suc k) at (b ∷ s) = identified_beside k (header-beside k) at s (identifier_of b)
+  header_beside zero at [] = inl refl
+  header_beside zero at (b ∷ s) = inl refl
+  header_beside (suc k) at [] = inl refl
+  header_beside (suc k) at (b ∷ s) = identified_beside k (header_beside k) at s (identifier_of b)

@@ -14,7 +14,7 @@ use Rattle.meaning.specs.WidthCases.{sized_base}
 use Rattle.laws_steps.specs.Logic.{are_bytes}
 use Rattle.laws_tables.specs.WrittenBytes.{bytes_append}
 use Rattle.laws_tables.specs.Refusals.{may_refuse, refused_shape}
-use Rattle.laws_demands.specs.Tolerance.{After, Beside, header-beside}
+use Rattle.laws_demands.specs.Tolerance.{After, Beside, header_beside}
 use Rattle.laws_demands.specs.Demands.{rows_written, read_then_written, ReadsSame, written_then_read, written_are_bytes_of}
 
 -- both readings of one input
@@ -24,7 +24,7 @@ beside edition input = at (label_of edition)
   where
     at : (l : Label) → Beside 0 (labelled strict input l) (labelled tolerant input l)
     at unknown = inl refl
-    at (known e) = header-beside e envelopes_most 0 input
+    at (known e) = header_beside e envelopes_most 0 input
 
 -- 1. "On input that the strict reading accepts, or refuses with another number than 11, the two agree."
 

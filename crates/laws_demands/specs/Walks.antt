@@ -17,7 +17,7 @@ use Rattle.meaning.specs.Writing.{fits, cell, written, fit_row}
 use Rattle.meaning.specs.Memory.{row_width, table_of, room_of, cells_of, skips_held, write}
 use Rattle.laws_steps.specs.Logic.{are_bytes}
 use Rattle.laws_steps.specs.Nesting.{deeper_belongs, beside_belongs, belonging_on, belonging_none}
-use Rattle.laws_steps.specs.Hopping.{rank_at, ranks_at, ranks_for, ranks_are, ranks_length, ranks_next, ranks_drop, given_at, skip_at, skip_forward, skip_most, HopsTo, hop-begins, hop-on, hop-ends, hop-stops, step-on, AllRight}
+use Rattle.laws_steps.specs.Hopping.{rank_at, ranks_at, ranks_for, ranks_are, ranks_length, ranks_next, ranks_drop, given_at, skip_at, skip_forward, skip_most, HopsTo, hop_begins, hop_on, hop_ends, hop_stops, step_on, AllRight}
 use Rattle.laws_tables.specs.RightSkips.{standing, cells_ranks, table_right, right_means}
 use Rattle.laws_steps.specs.WrittenRead.{fit_all, then_inv}
 use Rattle.laws_steps.specs.Envelopes.{opening_row, Writes, the_base, before}
@@ -32,23 +32,23 @@ module _ (m : List ℕ) (n i : ℕ) (l : i < n) where
   inside j h k = at (ltb j n) (belongs (rank_at m i) (rank_at m j)) refl refl
     where
       at : (a b : Bool) → ltb j n ≡ a → belongs (rank_at m i) (rank_at m j) ≡ b → (j < n) × (belongs (rank_at m i) (rank_at m j) ≡ true)
-      at false b p q = absurd (omega (arith, hop-ends m n i h (ltb-false j n p)))
-      at true false p q = absurd (omega (arith, hop-stops m n i h (ltb-true j n p) q))
+      at false b p q = absurd (omega (arith, hop_ends m n i h (ltb-false j n p)))
+      at true false p q = absurd (omega (arith, hop_stops m n i h (ltb-true j n p) q))
       at true true p q = (ltb-true j n p, q)
 
   walk : (k : ℕ) → i + 1 + k ≤ skip_at m n i → HopsTo m n i (i + 1 + k)
-  walk zero h = subst (HopsTo m n i) (omega arith) (hop-begins m n i l)
+  walk zero h = subst (HopsTo m n i) (omega arith) (hop_begins m n i l)
   walk (suc k) h =
       let before = walk k (omega arith) in
       let (x, y) = inside (i + 1 + k) before (omega arith) in
-      subst (HopsTo m n i) (omega arith) (step-on m n i before x y)
+      subst (HopsTo m n i) (omega arith) (step_on m n i before x y)
 
   nests : (j : ℕ) → i < j → j < skip_at m n i → skip_at m n j ≤ skip_at m n i
   nests j a b =
       let q : i + 1 + (j - (i + 1)) ≡ j = omega arith in
       let h : HopsTo m n i j = subst (HopsTo m n i) q (walk (j - (i + 1)) (omega arith)) in
       let (x, y) = inside j h b in
-      omega (arith, (hop-on m n i h x y).left)
+      omega (arith, (hop_on m n i h x y).left)
 
 -- Envelopes
 

@@ -13,7 +13,7 @@ use Rattle.meaning.specs.Memory.{room_of, cells_of, skips_held, write}
 use Rattle.laws_tables.specs.Ties.{write_as}
 use Rattle.laws_demands.specs.Completing.{Sound}
 use Rattle.laws_demands.specs.Fifteen.{stuck_between}
-use Rattle.laws_demands.specs.Stopping.{begins-plan, with_none}
+use Rattle.laws_demands.specs.Stopping.{begins_plan, with_none}
 use Rattle.meaning.specs.Grammar.{Mark, Small, PastLimit}
 use Rattle.meaning.specs.WriterFaults.{AreTable, BeginTable, NoneWithNext, StopsAt, GoodRows, WriterFault, no_edition, no_table, wrong_skip_lem, past_limit, no_room, WritesAs}
 use Rattle.laws_demands.specs.Planning.{mark_of, planned_table, table_planned}
@@ -48,7 +48,7 @@ stuck_stops e cs i q =
     let parts : cs ≡ front ++ rest = sym (take-append-drop i cs) in
     let count : length front ≡ i = omega (arith, length-take i cs, within.1) in
     let here : whole_plan e (front ++ rest) ≡ stuck (0 + length front) = ap (whole_plan e) (sym parts) ∙ q ∙ ap stuck (omega (arith, count)) in
-    let (more, bs, vs, p) = begins-plan e 0 false (state closed 0 false) closed_sound front rest here in
+    let (more, bs, vs, p) = begins_plan e 0 false (state closed 0 false) closed_sound front rest here in
     record { front = front; rest = rest; parts = parts; count = count; Begins = record { more = map cell more; table = plan_is_table e (front ++ map cell more) bs vs p }; none = none_with e front rest here }
 
 -- of two fronts of one list the longer begins with the other and one more

@@ -9,7 +9,7 @@ use Rattle.meaning.specs.Writing.{write_value, fits, fit_row, close}
 use Rattle.laws_steps.specs.Logic.{either}
 use Rattle.laws_steps.specs.Tables.{every_in}
 use Rattle.laws_steps.specs.Steps.{rests, moves_on, inside_path}
-use Rattle.laws_steps.specs.Fits.{fit-holds, close-holds}
+use Rattle.laws_steps.specs.Fits.{fit_holds, close_holds}
 use Rattle.laws_steps.specs.WrittenRead.{seen_before, Reads, Closes, reads_end, reads_row, fit_all, then_inv, ReadsAll}
 use Rattle.laws_steps.specs.PlainRows.{Crosses, all_plain, alone, clash_ok, is_lost, is_plain, low_move, other, row_crosses, step_quiet_other}
 use Rattle.laws_steps.specs.Clashes.{Low, LowRoom, Refuses, fault_behind, foreign_refused}
@@ -25,13 +25,13 @@ low_lead m w false q t = ltb→lt m.code 0x20 t
 
 low_row : (e : Edition) (row : Row) (st st' : State) (bs : List ℕ) → fit_row e st row ≡ fits st' bs → T (every low_move (moves e st.room)) → Low bs
 low_row e row =
-    fit-holds e row (λ st st' bs. T (every low_move (moves e st.room)) → Low bs)
+    fit_holds e row (λ st st' bs. T (every low_move (moves e st.room)) → Low bs)
     (λ st st' m bs i p t. subst Low p.out (low_lead m (write_value m.form row.view) (has_code no_code m) refl (every_in low_move i t)))
     (λ st st' m bs i q c t. ltb→lt m.code 0x20 (every_in low_move i t))
 
 low_close : (e : Edition) (st st' : State) (bs : List ℕ) → close e st ≡ fits st' bs → LowRoom e st.room → Low bs
 low_close e =
-    close-holds e (λ st st' bs. LowRoom e st.room → Low bs) (λ st h f. let z : true ≡ false = sym h ∙ f.ajar in let y : ◌≡◌ {A = ℕ} 0 1 = cc z in absurd (omega arith))
+    close_holds e (λ st st' bs. LowRoom e st.room → Low bs) (λ st h f. let z : true ≡ false = sym h ∙ f.ajar in let y : ◌≡◌ {A = ℕ} 0 1 = cc z in absurd (omega arith))
     (λ st st' m bs i q c f. ltb→lt m.code 0x20 (every_in low_move i f.low))
 
 low_append : (bs cs : List ℕ) → Low bs → Low (bs ++ cs)
@@ -49,7 +49,7 @@ low_all e (row ∷ rows) st st' bs q f =
 
 pub closing_crosses : (e e' : Edition) (st st' : State) (bs : List ℕ) → close e st ≡ fits st' bs → Closes (told e') st bs st'
 closing_crosses e e' =
-    close-holds e (λ st st' bs. Closes (told e') st bs st') (λ st h. (h, rests)) (λ st st' m bs i q c. (c.0, moves_on (step_quiet_other e e' st m bs i q) c.1))
+    close_holds e (λ st st' bs. Closes (told e') st bs st') (λ st h. (h, rests)) (λ st st' m bs i q c. (c.0, moves_on (step_quiet_other e e' st m bs i q) c.1))
 
 abbrev pub CrossAll : Edition → List Row → State → List ℕ → Type 0
 CrossAll e rows st bs = ((all_plain rows ≡ true) × ReadsAll (told (other e)) st bs rows) ⊎ ((all_plain rows ≡ false) × Refuses (told (other e)) st bs)

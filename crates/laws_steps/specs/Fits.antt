@@ -60,9 +60,9 @@ module _ (e : Edition) (row : Row) (P : State → State → List ℕ → Type 0)
   fit_within zero st st' bs q = unfit_fits q
   fit_within (suc n) st st' bs q = by_way (fit n e) (fit_within n) st st' bs (way_of (moves e st.room) st.level row) (way_is (moves e st.room) st.level row) q
 
-  pub fit-holds : (st st' : State) (bs : List ℕ) → fit_row e st row ≡ fits st' bs → P st st' bs
+  pub fit_holds : (st st' : State) (bs : List ℕ) → fit_row e st row ≡ fits st' bs → P st st' bs
   unfolding fit_row
-  fit-holds st st' bs q = fit_within (suc (passes_most st)) st st' bs q
+  fit_holds st st' bs q = fit_within (suc (passes_most st)) st st' bs q
 
 -- and over a closing: what holds at the end, and is kept by a closing 01 before it
 
@@ -94,9 +94,9 @@ module _ (e : Edition) (P : State → State → List ℕ → Type 0)
   close_within_lem zero st st' bs q = unfit_fits q
   close_within_lem (suc n) st st' bs q = close_pick (close_within n e) (close_within_lem n) st st' bs (is_closed st.room) refl q
 
-  pub close-holds : (st st' : State) (bs : List ℕ) → close e st ≡ fits st' bs → P st st' bs
+  pub close_holds : (st st' : State) (bs : List ℕ) → close e st ≡ fits st' bs → P st st' bs
   unfolding close
-  close-holds st st' bs q = close_within_lem (suc (passes_most st)) st st' bs q
+  close_holds st st' bs q = close_within_lem (suc (passes_most st)) st st' bs q
 
 -- The weight: how many passes can come one after another from a room at one level
 

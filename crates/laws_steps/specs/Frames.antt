@@ -12,7 +12,7 @@ use Rattle.meaning.specs.Told.{Told}
 use Rattle.meaning.specs.Headers.{Answer, refused, envelope_most, Onward, envelope, short_least, long_least, sized, Identifier, neither, identifier_of, header}
 use Rattle.meaning.specs.Headers as meaning
 use Rattle.laws_steps.specs.From.{from, from_length, from_end, from_cons, from_drop}
-use Rattle.laws_steps.specs.HighFirst.{high_few, high-two, high-four}
+use Rattle.laws_steps.specs.HighFirst.{high_few, high_two, high_four}
 use Rattle.laws_steps.specs.Finishing.{opened}
 
 pub from_all : (s : List ℕ) → from s 0 (length s) ≡ s
@@ -33,9 +33,9 @@ module _ (s : List ℕ) (base : Bool) (least at head n : ℕ) (room : at + head 
   abbrev pub Whole : Told → Onward → Answer
   Whole t more = envelope t base least at head n (from s (at + head) (length s)) more
 
-  pub too-low : n < least → (t : Told) (more : Onward) → Whole t more ≡ refused 4 (at + 1)
+  pub too_low : n < least → (t : Told) (more : Onward) → Whole t more ≡ refused 4 (at + 1)
   unfolding envelope
-  too-low h t more = rw (lt-ltb n least h) refl
+  too_low h t more = rw (lt-ltb n least h) refl
 
   module _ (low : least ≤ n) where
     pub too_long : envelope_most < n → (t : Told) (more : Onward) → Whole t more ≡ refused 5 (at + 1)
@@ -78,21 +78,21 @@ module _ (s : List ℕ) (at : ℕ) (base : Bool) (here : at < length s) where
     short_length : high_first 2 0 (from s (at + 1) (length s)) ≡ counted n (from s (at + 3) (length s))
     short_length =
         let q : at + 1 + 2 ≡ at + 3 = omega arith in
-        high-two s (length s) (at + 1) (omega arith) (omega arith) ∙ rw (← is, q) refl
+        high_two s (length s) (at + 1) (omega arith) (omega arith) ∙ rw (← is, q) refl
 
     pub short_form : (n ≡ 0 → ⊥) → (t : Told) (more : Onward) → Sized t more ≡ envelope t base short_least at 3 n (from s (at + 3) (length s)) more
     short_form h t more = rw (short_length, ne_eqb n 0 h) refl
 
-    pub no-long-length : n ≡ 0 → length s - at < 7 → (t : Told) (more : Onward) → Sized t more ≡ refused 2 (length s)
-    no-long-length z h t more =
+    pub no_long_length : n ≡ 0 → length s - at < 7 → (t : Told) (more : Onward) → Sized t more ≡ refused 2 (length s)
+    no_long_length z h t more =
         rw (short_length, z, high_few 4 0 (from s (at + 3) (length s)) (omega (arith, from_length s (at + 3) (length s) (omega arith) (omega arith))), all_of) refl
 
-    pub long-form : (k : ℕ) → n ≡ 0 → 7 ≤ length s - at
+    pub long_form : (k : ℕ) → n ≡ 0 → 7 ≤ length s - at
         → k ≡ 65536 * (256 * get_or s (at + 3) 0 + get_or s (at + 3 + 1) 0) + (256 * get_or s (at + 3 + 2) 0 + get_or s (at + 3 + 2 + 1) 0)
         → (t : Told) (more : Onward) → Sized t more ≡ envelope t base long_least at 7 k (from s (at + 7) (length s)) more
-    long-form k z h w t more =
+    long_form k z h w t more =
         let q : at + 3 + 4 ≡ at + 7 = omega arith in
-        let l : high_first 4 0 (from s (at + 3) (length s)) ≡ counted k (from s (at + 7) (length s)) = high-four s (length s) (at + 3) (omega arith) (omega arith) ∙ rw (← w, q) refl in
+        let l : high_first 4 0 (from s (at + 3) (length s)) ≡ counted k (from s (at + 7) (length s)) = high_four s (length s) (at + 3) (omega arith) (omega arith) ∙ rw (← w, q) refl in
         rw (short_length, z, l) refl
 
 -- The identifier, and how many envelopes may still come
@@ -145,9 +145,9 @@ module _ (s : List ℕ) (at left : ℕ) (t : Told) where
       unfolding Identified
       one_too_many z = rw (byte_at, z) (header_seventeenth t at (get_or s at 0) base (from s (at + 1) (length s)) known)
 
-      pub may-open : (left ≡ 0 → ⊥) → From ≡ Sized s at base here t (header (left - 1) t)
+      pub may_open : (left ≡ 0 → ⊥) → From ≡ Sized s at base here t (header (left - 1) t)
       unfolding Identified
-      may-open h =
+      may_open h =
           let q : left ≡ suc (left - 1) = omega arith in
           ap (λ (x : List ℕ). header left t at x) byte_at ∙ ap (λ (k : ℕ). header k t at (get_or s at 0 ∷ from s (at + 1) (length s))) q
           ∙ header_more (left - 1) t at (get_or s at 0) base (from s (at + 1) (length s)) known

@@ -19,17 +19,17 @@ module _ (s : List ℕ) (end at : ℕ) (l : end ≤ length s) where
       let q : 256 * 0 + get_or s at 0 ≡ get_or s at 0 = omega arith in
       rw (from_cons s at end (omega arith) l, q) refl
 
-  pub high-two : at + 2 ≤ end → high_first 2 0 (from s at end) ≡ counted (256 * get_or s at 0 + get_or s (at + 1) 0) (from s (at + 2) end)
+  pub high_two : at + 2 ≤ end → high_first 2 0 (from s at end) ≡ counted (256 * get_or s at 0 + get_or s (at + 1) 0) (from s (at + 2) end)
   unfolding high_first
-  high-two h =
+  high_two h =
       let q : 256 * (256 * 0 + get_or s at 0) + get_or s (at + 1) 0 ≡ 256 * get_or s at 0 + get_or s (at + 1) 0 = omega arith in
       let p : at + 1 + 1 ≡ at + 2 = omega arith in
       rw (from_cons s at end (omega arith) l, from_cons s (at + 1) end (omega arith) l, q, p) refl
 
-  pub high-four : at + 4 ≤ end
+  pub high_four : at + 4 ≤ end
       → high_first 4 0 (from s at end) ≡ counted (65536 * (256 * get_or s at 0 + get_or s (at + 1) 0) + (256 * get_or s (at + 2) 0 + get_or s (at + 2 + 1) 0)) (from s (at + 4) end)
   unfolding high_first
-  high-four h =
+  high_four h =
       let p : at + 1 + 1 ≡ at + 2 = omega arith in
       let r : at + 2 + 1 + 1 ≡ at + 4 = omega arith in
       let a = get_or s at 0 in

@@ -65,15 +65,15 @@ pub record HopsTo (m : List ℕ) (n i j : ℕ) : Type 0 where
   pub left : skip_at m n i ≡ j + belonging (rank_at m i) (ranks_at m n j)
 
 module _ (m : List ℕ) (n i : ℕ) where
-  pub hop-begins : i < n → HopsTo m n i (i + 1)
+  pub hop_begins : i < n → HopsTo m n i (i + 1)
   unfolding skip_at
-  hop-begins h =
+  hop_begins h =
       let q : suc i ≡ i + 1 = omega arith in
       record { behind = omega arith; most = omega arith; left = ap (λ (x : ℕ). x + belonging (rank_at m i) (ranks_at m n x)) q }
 
-  pub hop-on : {j : ℕ} → HopsTo m n i j → j < n → belongs (rank_at m i) (rank_at m j) ≡ true → HopsTo m n i (skip_at m n j)
+  pub hop_on : {j : ℕ} → HopsTo m n i j → j < n → belongs (rank_at m i) (rank_at m j) ≡ true → HopsTo m n i (skip_at m n j)
   unfolding skip_at
-  hop-on {j} h l q =
+  hop_on {j} h l q =
       let r = rank_at m i in
       let s = rank_at m j in
       let rest = ranks_at m n (suc j) in
@@ -85,16 +85,16 @@ module _ (m : List ℕ) (n i : ℕ) where
       = ap (belonging r) (ranks_next m n j l) ∙ belonging_on r s rest q ∙ ap suc (run_on r s rest q ∙ ap (λ (x : List Rank). b + belonging r x) cut) in
       record { behind = omega (arith, h.behind); most = omega arith; left = omega (arith, h.left, next) }
 
-  pub hop-ends : {j : ℕ} → HopsTo m n i j → n ≤ j → skip_at m n i ≡ j
-  hop-ends {j} h l = h.left ∙ ap (λ (x : List Rank). j + belonging (rank_at m i) x) (ranks_none m n j l) ∙ ap (λ (x : ℕ). j + x) (belonging_none (rank_at m i)) ∙ omega arith
+  pub hop_ends : {j : ℕ} → HopsTo m n i j → n ≤ j → skip_at m n i ≡ j
+  hop_ends {j} h l = h.left ∙ ap (λ (x : List Rank). j + belonging (rank_at m i) x) (ranks_none m n j l) ∙ ap (λ (x : ℕ). j + x) (belonging_none (rank_at m i)) ∙ omega arith
 
-  pub hop-stops : {j : ℕ} → HopsTo m n i j → j < n → belongs (rank_at m i) (rank_at m j) ≡ false → skip_at m n i ≡ j
-  hop-stops {j} h l q =
+  pub hop_stops : {j : ℕ} → HopsTo m n i j → j < n → belongs (rank_at m i) (rank_at m j) ≡ false → skip_at m n i ≡ j
+  hop_stops {j} h l q =
       h.left ∙ ap (λ (x : List Rank). j + belonging (rank_at m i) x) (ranks_next m n j l) ∙ ap (λ (x : ℕ). j + x) (belonging_ends (rank_at m i) (rank_at m j) (ranks_at m n (suc j)) q) ∙ omega arith
 
   -- the same row by row
-  pub step-on : {j : ℕ} → HopsTo m n i j → j < n → belongs (rank_at m i) (rank_at m j) ≡ true → HopsTo m n i (j + 1)
-  step-on {j} h l q =
+  pub step_on : {j : ℕ} → HopsTo m n i j → j < n → belongs (rank_at m i) (rank_at m j) ≡ true → HopsTo m n i (j + 1)
+  step_on {j} h l q =
       let r = rank_at m i in
       let p : suc j ≡ j + 1 = omega arith in
       let next : belonging r (ranks_at m n j) ≡ suc (belonging r (ranks_at m n (j + 1)))

@@ -13,7 +13,7 @@ use Rattle.laws_steps.specs.Logic.{left_of, right_of, is_false}
 use Rattle.laws_steps.specs.Tables.{every_in, in_moves, in_shared, all_rooms, each_room}
 use Rattle.laws_steps.specs.Lookups.{date_length_lem}
 use Rattle.laws_steps.specs.Steps.{Path, rests, moves_on}
-use Rattle.laws_steps.specs.Fits.{Placing, fit-holds}
+use Rattle.laws_steps.specs.Fits.{Placing, fit_holds}
 use Rattle.laws_steps.specs.WrittenRead.{Reads, reads_own, step_quiet}
 
 abbrev pub other : Edition → Edition
@@ -213,5 +213,5 @@ cross_after e e' row st st₁ st' s s₁ rest q (inr (a, f)) = inr (a, record { 
 
 pub row_crosses : (e e' : Edition) (row : Row) (st st' : State) (bs : List ℕ) → fit_row e st row ≡ fits st' bs → (rest : List ℕ) → Crosses e e' row st (bs ++ rest) st' rest
 row_crosses e e' row =
-    fit-holds e row (λ st st' bs. (rest : List ℕ) → Crosses e e' row st (bs ++ rest) st' rest) (λ st st' m bs i p rest. cross_own e e' row st st' m bs rest (in_moves e st.room m i) p)
+    fit_holds e row (λ st st' bs. (rest : List ℕ) → Crosses e e' row st (bs ++ rest) st' rest) (λ st st' m bs i p rest. cross_own e e' row st st' m bs rest (in_moves e st.room m i) p)
     (λ st st' m bs i q c rest. cross_after e e' row st (go m.next st) st' (m.code ∷ (bs ++ rest)) (bs ++ rest) rest (step_quiet_other e e' st m (bs ++ rest) i q) (c rest))

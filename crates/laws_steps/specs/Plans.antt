@@ -13,7 +13,7 @@ use Rattle.meaning.specs.Headers.{start, envelopes_most, opening}
 use Rattle.meaning.specs.Writing.{Fit, unfit, fits, fit_row, close, Cell, cell, broken, Opens, envelope_row, inner_row, opens_of, Envelope, envelope_at, Plan, stuck, plan, on_plan, new_plan, row_plan, turn_plan, end_plan, next_row, last_row, plan_of, whole_plan, within_limit, wrap, header_of, Limit, fine, exceeds, limits, Written, written, unwritten, limited, planned, write_rows}
 use Rattle.laws_steps.specs.Logic.{left_of, right_of}
 use Rattle.laws_steps.specs.Tables.{every_in, all_rooms, each_room}
-use Rattle.laws_steps.specs.Fits.{fit-holds, close_once}
+use Rattle.laws_steps.specs.Fits.{fit_holds, close_once}
 use Rattle.laws_steps.specs.WrittenRead.{fit_all, then_inv, then_make}
 use Rattle.laws_steps.specs.Envelopes.{opening_row, Writes, the_base, before}
 
@@ -62,7 +62,7 @@ inner_test = tt
 
 pub inner_kind : (e : Edition) (row : Row) (st st' : State) (bs : List ℕ) → fit_row e st row ≡ fits st' bs → 3 ≤ row.kind
 inner_kind e row =
-    fit-holds e row (λ st st' bs. 3 ≤ row.kind)
+    fit_holds e row (λ st st' bs. 3 ≤ row.kind)
     (λ st st' m bs i p.
     let t : T (inner_move m) = every_in inner_move i (each_room inner_moves inner_test e st.room) in
     let h : 3 ≤ m.kind = leb→le 3 m.kind (rw p.loud at t) in
@@ -181,7 +181,7 @@ closed_moves D i = every_in (λ m. false) i tt
 
 pub closed_fits : (e : Edition) (row : Row) (st st' : State) (bs : List ℕ) → fit_row e st row ≡ fits st' bs → st.room ≡ closed → ⊥
 closed_fits e row =
-    fit-holds e row (λ st st' bs. st.room ≡ closed → ⊥) (λ st st' m bs i p q. closed_moves e (subst (λ (r : Room). In m (moves e r)) q i)) (λ st st' m bs i p h q. closed_moves e (subst (λ (r : Room). In m (moves e r)) q i))
+    fit_holds e row (λ st st' bs. st.room ≡ closed → ⊥) (λ st st' m bs i p q. closed_moves e (subst (λ (r : Room). In m (moves e r)) q i)) (λ st st' m bs i p h q. closed_moves e (subst (λ (r : Room). In m (moves e r)) q i))
 
 parsed_whole : (e : Edition) (cs : List Cell) (bs : List ℕ) (vs : List Envelope) → Parsed e false (state closed 0 false) cs bs vs → (table : List Row) × (cs ≡ map cell table) × Chain e table vs
 unfolding fit_all
@@ -244,22 +244,22 @@ module _ (e : Edition) (Q : List Envelope → Type 0) where
   abbrev pub Planned : List Cell → ℕ → Bool → State → List ℕ → Type 0
   Planned cs i b st bs = (vs : List Envelope) × (plan_of e cs i b st ≡ plan bs vs) × Q vs
 
-  pub plan-row : (row : Row) (cs : List Cell) (i : ℕ) (b : Bool) (st st₁ : State) (xs bs : List ℕ) → fit_row e st row ≡ fits st₁ xs → Planned cs (suc i) b st₁ bs → Planned (cell row ∷ cs) i b st (xs ++ bs)
+  pub plan_row : (row : Row) (cs : List Cell) (i : ℕ) (b : Bool) (st st₁ : State) (xs bs : List ℕ) → fit_row e st row ≡ fits st₁ xs → Planned cs (suc i) b st₁ bs → Planned (cell row ∷ cs) i b st (xs ++ bs)
   unfolding plan_of
-  plan-row row cs i b st st₁ xs bs q (vs, p, h) = (vs, rw (fits_inner e row st st₁ xs q) (ap (row_plan i (plan_of e cs (suc i) b)) q ∙ rw p refl), h)
+  plan_row row cs i b st st₁ xs bs q (vs, p, h) = (vs, rw (fits_inner e row st st₁ xs q) (ap (row_plan i (plan_of e cs (suc i) b)) q ∙ rw p refl), h)
 
   -- rows of an envelope, before what its end is planned with
-  pub plan-rows : (rows table : List Row) (b : Bool) → ((i : ℕ) (st st' : State) (bs : List ℕ) → close e st ≡ fits st' bs → Planned (map cell table) i b st bs)
+  pub plan_rows : (rows table : List Row) (b : Bool) → ((i : ℕ) (st st' : State) (bs : List ℕ) → close e st ≡ fits st' bs → Planned (map cell table) i b st bs)
       → (i : ℕ) (st st' : State) (bs : List ℕ) → fit_all e rows st ≡ fits st' bs → Planned (map cell (rows ++ table)) i b st bs
   unfolding fit_all
-  plan-rows [] table b h i st st' bs q = h i st st' bs q
-  plan-rows (row ∷ rows) table b h i st st' bs q =
+  plan_rows [] table b h i st st' bs q = h i st st' bs q
+  plan_rows (row ∷ rows) table b h i st st' bs q =
       let (st₁, cs, ds, q₁, q₂, q₃) = then_inv (fit_row e st row) (fit_all e rows) st' bs q in
-      rw q₃ (plan-row row (map cell (rows ++ table)) i b st st₁ cs ds q₁ (plan-rows rows table b h (suc i) st₁ st' ds q₂))
+      rw q₃ (plan_row row (map cell (rows ++ table)) i b st st₁ cs ds q₁ (plan_rows rows table b h (suc i) st₁ st' ds q₂))
 
-  pub plan-end : Q [] → (i : ℕ) (st st' : State) (bs : List ℕ) → close e st ≡ fits st' bs → Planned [] i true st bs
+  pub plan_end : Q [] → (i : ℕ) (st st' : State) (bs : List ℕ) → close e st ≡ fits st' bs → Planned [] i true st bs
   unfolding plan_of
-  plan-end z i st st' bs q = ([], rw q refl, z)
+  plan_end z i st st' bs q = ([], rw q refl, z)
 
 -- an envelope's own row, before an envelope and what follows it
 pub plan_turn : (e : Edition) (Q Q' : List Envelope → Type 0) (c : Bool) (cs : List Cell) (i : ℕ) (st st₁ : State) (bs ds : List ℕ) → close e st ≡ fits st₁ bs
@@ -279,11 +279,11 @@ writes_planned e (the_base rows st₁ ds f small) zero h i st st' bs q = absurd 
 writes_planned e (the_base rows st₁ ds f small) (suc n) h i st st' bs q =
     subst (λ (x : List ℕ). Planned e (PlanWrites x (suc n)) (cell (opening_row true) ∷ map cell rows) i false st bs) (append-nil (wrap true ds))
     (plan_turn e (PlanWrites [] n) (PlanWrites (wrap true ds ++ []) (suc n)) true (map cell rows) i st st' bs ds q (writes_one_more true ds [] n i small)
-    (subst (λ (x : List Row). Planned e (PlanWrites [] n) (map cell x) (suc i) true (start true) ds) (append-nil rows) (plan-rows e (PlanWrites [] n) rows [] true (plan-end e (PlanWrites [] n) (refl, refl)) (suc i) (start true) st₁ ds f)))
+    (subst (λ (x : List Row). Planned e (PlanWrites [] n) (map cell x) (suc i) true (start true) ds) (append-nil rows) (plan_rows e (PlanWrites [] n) rows [] true (plan_end e (PlanWrites [] n) (refl, refl)) (suc i) (start true) st₁ ds f)))
 writes_planned e (before rows table st₁ ds w k f small more) zero h i st st' bs q = absurd (omega arith)
 writes_planned e (before rows table st₁ ds w k f small more) (suc n) h i st st' bs q =
     plan_turn e (PlanWrites w n) (PlanWrites (wrap false ds ++ w) (suc n)) false (map cell (rows ++ table)) i st st' bs ds q (writes_one_more false ds w n i small)
-    (plan-rows e (PlanWrites w n) rows table false (λ j st₂ st₃ cs r. writes_planned e more n (omega arith) j st₂ st₃ cs r) (suc i) (start false) st₁ ds f)
+    (plan_rows e (PlanWrites w n) rows table false (λ j st₂ st₃ cs r. writes_planned e more n (omega arith) j st₂ st₃ cs r) (suc i) (start false) st₁ ds f)
 
 planned_written : (room : ℕ) (vs : List Envelope) (bs w : List ℕ) → header_of vs ≡ w → limits envelopes_most vs ≡ fine → length w ≤ room → planned room right (plan bs vs) ≡ written w
 planned_written room vs bs w h l k = rw (l, h, le-leb (length w) room k) refl

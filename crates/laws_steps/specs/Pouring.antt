@@ -80,15 +80,15 @@ pub record Peeked (s : List ℕ) (end at b : ℕ) : Type 0 where
 
 module _ {s : List ℕ} {end at n : ℕ} (h : Ready s end at n) where
   -- where a stage went to
-  pub ready-to : {least p k : ℕ} → (least ≤ p) × (p ≤ end) × (k ≤ p) → Ready s end p k
-  ready-to u = record { whole = h.whole; small = h.small; before = u.1; few = u.2 }
+  pub ready_to : {least p k : ℕ} → (least ≤ p) × (p ≤ end) × (k ≤ p) → Ready s end p k
+  ready_to u = record { whole = h.whole; small = h.small; before = u.1; few = u.2 }
 
   -- behind a code, and behind a code that has a row
-  pub ready-next : at < end → Ready s end (at + 1) n
-  ready-next l = record { whole = h.whole; small = h.small; before = omega arith; few = omega (arith, h.few) }
+  pub ready_next : at < end → Ready s end (at + 1) n
+  ready_next l = record { whole = h.whole; small = h.small; before = omega arith; few = omega (arith, h.few) }
 
-  pub ready-opened : at < end → Ready s end (at + 1) (n + 1)
-  ready-opened l = record { whole = h.whole; small = h.small; before = omega arith; few = omega (arith, h.few) }
+  pub ready_opened : at < end → Ready s end (at + 1) (n + 1)
+  ready_opened l = record { whole = h.whole; small = h.small; before = omega arith; few = omega (arith, h.few) }
 
 -- A step poured
 

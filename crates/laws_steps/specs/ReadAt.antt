@@ -27,9 +27,9 @@ module _ (i : Source) (at n : ℕ) (m : List ℕ) where
   uncoded_all q kind rule g [] y d c = rw c refl
 
   -- a text with no code in a room that has nothing else
-  pub only-text : (q : State) (kind : ℕ) (rule : Rule) (g : Next) → ((b : ℕ) → look b (moves i.told.edition q.room) ≡ hit (on no_code ▸ kind ▸ text rule ▸ g)) → too_deep (on no_code ▸ kind ▸ text rule ▸ g) q ≡ false → is_closed q.room ≡ false
+  pub only_text : (q : State) (kind : ℕ) (rule : Rule) (g : Next) → ((b : ℕ) → look b (moves i.told.edition q.room) ≡ hit (on no_code ▸ kind ▸ text rule ▸ g)) → too_deep (on no_code ▸ kind ▸ text rule ▸ g) q ≡ false → is_closed q.room ≡ false
       → run_at i q at n m ≡ text_at i kind rule q.level (go g q) at n m
-  only-text q kind rule g y d c = run_step i q at n m ∙ uncoded_all q kind rule g (from i.bytes at i.end) y d c
+  only_text q kind rule g y d c = run_step i q at n m ∙ uncoded_all q kind rule g (from i.bytes at i.end) y d c
 
   -- a step from a byte that is there
   module _ (b : ℕ) (inside_of : at < i.end) (whole : i.end ≤ length i.bytes) (is : from i.bytes at i.end ≡ b ∷ from i.bytes (at + 1) i.end) where
@@ -45,10 +45,10 @@ module _ (i : Source) (at n : ℕ) (m : List ℕ) where
         (rw (y, d, c, left_is) refl)
         ∙ lands i q v n m z (take_value i.told v.form (i.end - at) v.code (from i.bytes (at + 1) i.end))
 
-    pub coded-text : (q : State) (code kind : ℕ) (rule : Rule) (g : Next) → look b (moves i.told.edition q.room) ≡ hit (on code ▸ kind ▸ text rule ▸ g) → too_deep (on code ▸ kind ▸ text rule ▸ g) q ≡ false → eqb code no_code ≡ false
+    pub coded_text : (q : State) (code kind : ℕ) (rule : Rule) (g : Next) → look b (moves i.told.edition q.room) ≡ hit (on code ▸ kind ▸ text rule ▸ g) → too_deep (on code ▸ kind ▸ text rule ▸ g) q ≡ false → eqb code no_code ≡ false
         → run_at i q at n m ≡ text_at i kind rule q.level (go g q) (at + 1) n m
     unfolding take_value
-    coded-text q code kind rule g y d c = coded q (on code ▸ kind ▸ text rule ▸ g) y d c refl
+    coded_text q code kind rule g y d c = coded q (on code ▸ kind ▸ text rule ▸ g) y d c refl
 
     -- a move without a row
     pub passed : (q : State) (code : ℕ) (g : Next) → look b (moves i.told.edition q.room) ≡ hit (pass code ▸ g) → eqb code no_code ≡ false → run_at i q at n m ≡ run_at i (go g q) (at + 1) n m
@@ -66,9 +66,9 @@ module _ (i : Source) (at n : ℕ) (m : List ℕ) where
         coded q (on code ▸ kind ▸ opens ▸ g) y d c refl ∙ rw (w, u) refl
 
     -- an agent of level 9
-    pub too-deep : (q : State) (v : Move) → look b (moves i.told.edition q.room) ≡ hit v → too_deep v q ≡ true → run_at i q at n m ≡ stopped 12 at
+    pub too_deep_lem : (q : State) (v : Move) → look b (moves i.told.edition q.room) ≡ hit v → too_deep v q ≡ true → run_at i q at n m ≡ stopped 12 at
     unfolding step step_move
-    too-deep q v y d =
+    too_deep_lem q v y d =
         let u : i.end - (i.end - at) ≡ at = omega arith in
         stepped q (b ∷ from i.bytes (at + 1) i.end) (fails 12 (i.end - at)) is (rw (y, d, left_is) refl) ∙ rw u refl
 
@@ -88,11 +88,11 @@ module _ (i : Source) (at n : ℕ) (m : List ℕ) where
 
   -- the same by a look
   module _ (b : ℕ) (a : Peeked i.bytes i.end at b) where
-    pub byte-is : b < 256 → from i.bytes at i.end ≡ b ∷ from i.bytes (at + 1) i.end
-    byte-is l = a.is ∙ rw (lt-ltb b 256 l)
+    pub byte_is : b < 256 → from i.bytes at i.end ≡ b ∷ from i.bytes (at + 1) i.end
+    byte_is l = a.is ∙ rw (lt-ltb b 256 l)
 
     foreign_by : (q : State) → look b (moves i.told.edition q.room) ≡ none → is_closed q.room ≡ false → (z : Bool) → ltb b 256 ≡ z → run_at i q at n m ≡ pick z (stopped (strange q.room) at) (stopped 6 at)
-    foreign_by q y c true z = let l = ltb-true b 256 z in strange_code b (a.inside l) a.whole (byte-is l) q (strange q.room) y c refl
+    foreign_by q y c true z = let l = ltb-true b 256 z in strange_code b (a.inside l) a.whole (byte_is l) q (strange q.room) y c refl
     foreign_by q y c false z =
         let p : from i.bytes at i.end ≡ [] = a.is ∙ rw z refl in
         let l : length (from i.bytes at i.end) ≡ 0 = rw p refl in
@@ -132,19 +132,19 @@ module _ (i : Source) (at n : ℕ) (m : List ℕ) where
 
       pub text_at_lem : (q : State) (kind : ℕ) (rule : Rule) (g : Next) → look k (moves i.told.edition q.room) ≡ hit (on k ▸ kind ▸ text rule ▸ g) → too_deep (on k ▸ kind ▸ text rule ▸ g) q ≡ false
           → run_at i q at n m ≡ text_at i kind rule q.level (go g q) (at + 1) n m
-      text_at_lem q kind rule g y d = coded-text k here a.whole code_is q k kind rule g y d (ne_eqb k no_code (λ z. omega arith))
+      text_at_lem q kind rule g y d = coded_text k here a.whole code_is q k kind rule g y d (ne_eqb k no_code (λ z. omega arith))
 
       pub number_at_lem : (q : State) (kind : ℕ) (g : Next) → look k (moves i.told.edition q.room) ≡ hit (on k ▸ kind ▸ number ▸ g) → too_deep (on k ▸ kind ▸ number ▸ g) q ≡ false
           → run_at i q at n m ≡ number_at i kind q.level (go g q) (at + 1) n m
       unfolding take_value
       number_at_lem q kind g y d = coded k here a.whole code_is q (on k ▸ kind ▸ number ▸ g) y d (ne_eqb k no_code (λ z. omega arith)) refl
 
-      pub passed-at : (q : State) (g : Next) → look k (moves i.told.edition q.room) ≡ hit (pass k ▸ g) → run_at i q at n m ≡ run_at i (go g q) (at + 1) n m
-      passed-at q g y = passed k here a.whole code_is q k g y (ne_eqb k no_code (λ z. omega arith))
+      pub passed_at : (q : State) (g : Next) → look k (moves i.told.edition q.room) ≡ hit (pass k ▸ g) → run_at i q at n m ≡ run_at i (go g q) (at + 1) n m
+      passed_at q g y = passed k here a.whole code_is q k g y (ne_eqb k no_code (λ z. omega arith))
 
-      pub opened-at : (q : State) (kind : ℕ) (g : Next) → look k (moves i.told.edition q.room) ≡ hit (on k ▸ kind ▸ opens ▸ g) → too_deep (on k ▸ kind ▸ opens ▸ g) q ≡ false
+      pub opened_at : (q : State) (kind : ℕ) (g : Next) → look k (moves i.told.edition q.room) ≡ hit (on k ▸ kind ▸ opens ▸ g) → too_deep (on k ▸ kind ▸ opens ▸ g) q ≡ false
           → {f : List ℕ} → f ≡ put m n kind q.level at 0 → run_at i q at n m ≡ run_at i (go g q) (at + 1) (n + 1) f
-      opened-at q kind g y d w = opened k here a.whole code_is q k kind g y d (ne_eqb k no_code (λ z. omega arith)) w
+      opened_at q kind g y d w = opened k here a.whole code_is q k kind g y d (ne_eqb k no_code (λ z. omega arith)) w
 
-      pub too-deep-at : (q : State) (v : Move) → look k (moves i.told.edition q.room) ≡ hit v → too_deep v q ≡ true → run_at i q at n m ≡ stopped 12 at
-      too-deep-at q v y d = too-deep k here a.whole code_is q v y d
+      pub too_deep_at : (q : State) (v : Move) → look k (moves i.told.edition q.room) ≡ hit v → too_deep v q ≡ true → run_at i q at n m ≡ stopped 12 at
+      too_deep_at q v y d = too_deep_lem k here a.whole code_is q v y d

@@ -11,9 +11,12 @@ pub every_in : {A : Type 0} (p : A → Bool) {x : A} {l : List A} → In x l →
 every_in p {x} (here {l = l}) t = left_of (p x) (every p l) t
 every_in p (there {y = y} {l = l} i) t = every_in p i (right_of (p y) (every p l) t)
 
+front : {A : Type 0} (x : A) (l k : List A) → In x l → In x (l ++ k)
+front x l k (here {l = l₁}) = here
+front x l k (there {y = y} {l = l₁} i) = there (front x l₁ k i)
+
 pub in_front : {A : Type 0} (l k : List A) (x : A) → In x l → In x (l ++ k)
-in_front l k x (here {l = l₁}) = here
-in_front l k x (there {y = y} {l = l₁} i) = there (in_front l₁ k x i)
+in_front l k x i = front x l k i
 
 in_there : {A : Type 0} {x y : A} {l k : List A} → In x l ⊎ In x k → In x (y ∷ l) ⊎ In x k
 in_there (inl i) = inl (there i)

@@ -13,7 +13,7 @@ use Rattle.laws_steps.specs.Values.{text_byte_above, value_in}
 use Rattle.laws_steps.specs.Tables.{every_in, all_rooms, each_room}
 use Rattle.laws_steps.specs.Lookups.{is_text_form, look_coded, look_uncoded, uncoded_text, quiet_coded, quiet_flat}
 use Rattle.laws_steps.specs.Steps.{Path, rests, moves_on, inside_path, inside_over, step_is, step_over, loud_seen, quiet_seen}
-use Rattle.laws_steps.specs.Fits.{unfit_fits, led_inv, Placing, fit-holds, close-holds}
+use Rattle.laws_steps.specs.Fits.{unfit_fits, led_inv, Placing, fit_holds, close_holds}
 
 -- how far a row of a kind starts before the end of its view: in both editions a kind's values have one form
 abbrev reach_of : ℕ → ℕ
@@ -96,7 +96,7 @@ step_quiet told st m s i q =
 
 pub row_written_read : (told : Told) (row : Row) (st st' : State) (bs : List ℕ) → fit_row told.edition st row ≡ fits st' bs → (rest : List ℕ) → Reads told st (bs ++ rest) row st' rest
 row_written_read told row =
-    fit-holds told.edition row (λ st st' bs. (rest : List ℕ) → Reads told st (bs ++ rest) row st' rest) (reads_own told row)
+    fit_holds told.edition row (λ st st' bs. (rest : List ℕ) → Reads told st (bs ++ rest) row st' rest) (reads_own told row)
     (λ st st' m bs i q p rest. moves_on (step_quiet told st m (bs ++ rest) i q) (p rest))
 
 -- the closings to the envelope's end
@@ -105,7 +105,7 @@ Closes told st bs st' = (is_closed st'.room ≡ true) × Path told st bs [] st' 
 
 pub closing_read : (told : Told) (st st' : State) (bs : List ℕ) → close told.edition st ≡ fits st' bs → Closes told st bs st'
 closing_read told =
-    close-holds told.edition (λ st st' bs. Closes told st bs st') (λ st h. (h, rests)) (λ st st' m bs i q c. (c.0, moves_on (step_quiet told st m bs i q) c.1))
+    close_holds told.edition (λ st st' bs. Closes told st bs st') (λ st h. (h, rests)) (λ st st' m bs i q c. (c.0, moves_on (step_quiet told st m bs i q) c.1))
 
 -- The inside of an envelope, from its rows
 

@@ -36,18 +36,23 @@ flat_at m first (r ∷ ranks) i q (next f h more) (suc d) l =
     let z : suc i + d ≡ i + suc d = omega arith in
     subst (λ (x : ℕ). Flat (rank_at m x)) z (flat_at m r ranks (suc i) tail more d (omega arith))
 
-follows_at : (m : List ℕ) (first : Rank) (ranks : List Rank) (i : ℕ) → ranks_for m i (length ranks) ≡ ranks → Neighbours first ranks → (d : ℕ) → suc d < length ranks → Follows (rank_at m (i + d)) (rank_at m (suc (i + d)))
-follows_at m first [] i q none d l = absurd (omega arith)
-follows_at m first (r ∷ []) i q (next f h more) d l = absurd (omega arith)
-follows_at m first (r ∷ (s ∷ ranks)) i q (next f h (next g k more)) zero l =
-    let head : rank_at m i ≡ r = cc q in
+follows_front : (m : List ℕ) (r : Rank) (ranks : List Rank) (i : ℕ) → rank_at m i ≡ r → ranks_for m (suc i) (length ranks) ≡ ranks → Neighbours r ranks → 0 < length ranks → Follows (rank_at m i) (rank_at m (suc i))
+follows_front m r [] i p q h l = absurd (omega arith)
+follows_front m r (s ∷ ranks) i p q (next f h more) l =
     let second : rank_at m (suc i) ≡ s = cc q in
+    subst (λ (x : Rank). Follows x (rank_at m (suc i))) (sym p) (subst (Follows r) (sym second) f)
+
+follows_at : (m : List ℕ) (first : Rank) (ranks : List Rank) (i : ℕ) → ranks_for m i (length ranks) ≡ ranks → Neighbours first ranks → (d : ℕ) → suc d < length ranks → Follows (rank_at m (i + d)) (rank_at m (suc (i + d)))
+follows_at m first [] i q h d l = absurd (omega arith)
+follows_at m first (r ∷ ranks) i q (next f h more) zero l =
+    let head : rank_at m i ≡ r = cc q in
+    let tail : ranks_for m (suc i) (length ranks) ≡ ranks = cc q in
     let z : i ≡ i + 0 = omega arith in
-    subst (λ (x : ℕ). Follows (rank_at m x) (rank_at m (suc x))) z (subst (λ (x : Rank). Follows x (rank_at m (suc i))) (sym head) (subst (Follows r) (sym second) g))
-follows_at m first (r ∷ (s ∷ ranks)) i q (next f h more) (suc d) l =
-    let tail : ranks_for m (suc i) (length (s ∷ ranks)) ≡ s ∷ ranks = cc q in
+    subst (λ (x : ℕ). Follows (rank_at m x) (rank_at m (suc x))) z (follows_front m r ranks i head tail more (omega arith))
+follows_at m first (r ∷ ranks) i q (next f h more) (suc d) l =
+    let tail : ranks_for m (suc i) (length ranks) ≡ ranks = cc q in
     let z : suc i + d ≡ i + suc d = omega arith in
-    subst (λ (x : ℕ). Follows (rank_at m x) (rank_at m (suc x))) z (follows_at m r (s ∷ ranks) (suc i) tail more d (omega arith))
+    subst (λ (x : ℕ). Follows (rank_at m x) (rank_at m (suc x))) z (follows_at m r ranks (suc i) tail more d (omega arith))
 
 pub neighbours_at : (m : List ℕ) (n : ℕ) (first : Rank) (ranks : List Rank) → ranks_for m 0 n ≡ ranks → Neighbours first ranks → AllNeighbours m n
 neighbours_at m n first ranks q h =

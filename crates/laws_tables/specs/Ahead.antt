@@ -11,7 +11,7 @@ use Rattle.meaning.specs.Writing.{stands_for, is_pass, way_to, by_pass, at_level
 use Rattle.laws_steps.specs.Logic.{left_of, right_of, either, or_left, or_right, is_false, not_both}
 use Rattle.laws_steps.specs.Tables.{every_in, Hits, find_hits, finds_none, all_rooms, each_room}
 use Rattle.laws_steps.specs.Lookups.{closed_none, stands, pass_facts, pass_found}
-use Rattle.laws_steps.specs.Fits.{unfit_fits, fit-holds, fit_once, close_once}
+use Rattle.laws_steps.specs.Fits.{unfit_fits, fit_holds, fit_once, close_once}
 use Rattle.laws_steps.specs.WrittenRead.{and_then, fit_all, Split, then_inv, then_make}
 
 -- Which kinds can come first from a room: by a move of its own, or at the same level behind passes
@@ -205,7 +205,7 @@ go_later e st row agent_ends ok a =
 fits_ahead : (e : Edition) (row : Row) (st st' : State) (bs : List ℕ) → fit_row e st row ≡ fits st' bs → Ahead e st row
 unfolding reach kinds
 fits_ahead e row =
-    fit-holds e row (λ st st' bs. Ahead e st row)
+    fit_holds e row (λ st st' bs. Ahead e st row)
     (λ st st' m bs i p. inr (p.level_is, subst (λ (k : ℕ). T (among k (kinds e st.room ++ later e st.room))) p.kind_is (among_front m.kind (kinds e st.room) (later e st.room) (loud_in i p.loud))))
     (λ st st' m bs i q a. later_ahead e st row (go_later e st row m.next (pass_of e st.room i q).leads a))
 

@@ -40,11 +40,11 @@ each_standing m (r ∷ ranks) i q h j a b =
     at (suc d) e ih = ih (omega arith) (omega arith)
 
 module _ (rs : List Placed) (m mid : List ℕ) (n : ℕ) (put : put_all rs 0 m ≡ mid) (count : length rs ≡ n) (room : n ≤ room_of m) where
-  pub put-ranks : ranks_for mid 0 n ≡ ranks_read rs
-  put-ranks = ap (λ (x : List ℕ). ranks_for x 0 n) (sym put ∙ put_all_over rs m (omega arith)) ∙ ap (ranks_for (four_of rs m) 0) (sym count) ∙ ranks_over rs 0 [] m refl
+  pub put_ranks : ranks_for mid 0 n ≡ ranks_read rs
+  put_ranks = ap (λ (x : List ℕ). ranks_for x 0 n) (sym put ∙ put_all_over rs m (omega arith)) ∙ ap (ranks_for (four_of rs m) 0) (sym count) ∙ ranks_over rs 0 [] m refl
 
   long : length (ranks_read rs) ≡ n
-  long = sym (ap length put-ranks) ∙ ranks_length mid 0 n
+  long = sym (ap length put_ranks) ∙ ranks_length mid 0 n
 
-  pub put-stands : {k : ℕ} → Split k (ranks_read rs) → (j : ℕ) → j < n → Standing (rank_at mid j)
-  put-stands s j l = each_standing mid (ranks_read rs) 0 (ap (ranks_for mid 0) long ∙ put-ranks) (split_standing s) j (omega arith) (omega (arith, long))
+  pub put_stands : {k : ℕ} → Split k (ranks_read rs) → (j : ℕ) → j < n → Standing (rank_at mid j)
+  put_stands s j l = each_standing mid (ranks_read rs) 0 (ap (ranks_for mid 0) long ∙ put_ranks) (split_standing s) j (omega arith) (omega (arith, long))

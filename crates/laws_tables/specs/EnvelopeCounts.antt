@@ -45,8 +45,8 @@ module _ (t : Told) (more : Onward) (s : List ℕ) (at first end place : ℕ) (r
   abbrev pub Others : Type 0
   Others = (rest : List Placed) × (more end (from s end (length s)) ≡ accepted place rest) × (length (words_read rows) ≡ suc (length (words_read rest)))
 
-  pub others-behind : opened t more s at false first end ≡ accepted place rows → Others
-  others-behind q = by (inside t (start false) (from s first end)) (inside_is t false (from s first end)) q
+  pub others_behind : opened t more s at false first end ≡ accepted place rows → Others
+  others_behind q = by (inside t (start false) (from s first end)) (inside_is t false (from s first end)) q
     where
       goes : (r : Seen) (rs : List Seen) → T (are_inner (r ∷ rs)) → (a : Answer) → more end (from s end (length s)) ≡ a → behind (placed_row (opening false) 0 at [] ∷ []) (behind (map (placed end) (r ∷ rs)) a) ≡ accepted place rows → Others
       goes r rs i (refused refusal there) m q = never q

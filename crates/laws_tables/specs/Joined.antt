@@ -132,23 +132,23 @@ ranks_meant [] = refl
 ranks_meant (r ∷ rs) = ap (λ (x : List Rank). rank r.kind r.level ∷ x) (ranks_meant rs)
 
 module _ {edition : ℕ} {input table pool : List ℕ} {j : Joint} (s : Joins edition input table pool j) (t : T (are_bytes input)) where
-  abbrev e-in : Edition
-  e-in = s.told_in
+  abbrev e_in : Edition
+  e_in = s.told_in
 
-  pub old-whole : Whole envelopes_most (told e-in) 0 input s.place j.old
-  old-whole = whole_of (told e-in) input s.place j.old t (sym (read_as strict edition e-in input s.label) ∙ s.accepts)
+  pub old_whole : Whole envelopes_most (told e_in) 0 input s.place j.old
+  old_whole = whole_of (told e_in) input s.place j.old t (sym (read_as strict edition e_in input s.label) ∙ s.accepts)
 
-  old_bytes : old-whole.bytes ≡ j.header
-  old_bytes = sym (whole_front (told e-in) input s.place j.old old-whole) ∙ sym s.front
+  old_bytes : old_whole.bytes ≡ j.header
+  old_bytes = sym (whole_front (told e_in) input s.place j.old old_whole) ∙ sym s.front
 
   -- the old header is the writer's for its rows
-  pub old-written : Writes e-in old-whole.count (map meant j.old) j.header
-  old-written = subst (Writes e-in old-whole.count (map meant j.old)) old_bytes (whole_written old-whole)
+  pub old_written : Writes e_in old_whole.count (map meant j.old) j.header
+  old_written = subst (Writes e_in old_whole.count (map meant j.old)) old_bytes (whole_written old_whole)
 
-  pub few-old : suc old-whole.count ≤ envelopes_most
-  few-old = let c = written_count e-in old-written in omega (arith, s.few, ap (λ (x : List Rank). length (words_of x)) (ranks_meant j.old))
+  pub few_old : suc old_whole.count ≤ envelopes_most
+  few_old = let c = written_count e_in old_written in omega (arith, s.few, ap (λ (x : List Rank). length (words_of x)) (ranks_meant j.old))
 
   -- so is the joined one, for the new table's rows and the old ones
-  pub joined-written : Writes e-in (suc old-whole.count) (opening_row false ∷ (s.extension.rows ++ map meant j.old)) (bytes_of j)
-  joined-written = subst (λ (x : List ℕ). Writes e-in (suc old-whole.count) (opening_row false ∷ (s.extension.rows ++ map meant j.old)) (x ++ j.header)) (sym s.wraps)
-      (before s.extension.rows (map meant j.old) s.extension.to s.body j.header old-whole.count s.extension.fits_all s.small old-written)
+  pub joined_written : Writes e_in (suc old_whole.count) (opening_row false ∷ (s.extension.rows ++ map meant j.old)) (bytes_of j)
+  joined_written = subst (λ (x : List ℕ). Writes e_in (suc old_whole.count) (opening_row false ∷ (s.extension.rows ++ map meant j.old)) (x ++ j.header)) (sym s.wraps)
+      (before s.extension.rows (map meant j.old) s.extension.to s.body j.header old_whole.count s.extension.fits_all s.small old_written)

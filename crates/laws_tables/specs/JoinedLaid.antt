@@ -7,13 +7,13 @@ use Rattle.meaning.specs.Told.{told}
 use Rattle.meaning.specs.Headers.{Placed, accepted, read}
 use Rattle.meaning.specs.Writing.{Cell}
 use Rattle.meaning.specs.Memory.{Reply, reply, table_of, room_with, words_read, laid_over, read_reply, read_memory, answer_by, rows_by, words_by, read_answer, read_rows, read_words}
-use Rattle.meaning.specs.Relay.{Joint, bytes_of, joined_table, joined_words, joined_count, relayed, relay_reply, relay_memory, relay, relayAnswer, relayRows, relayWords, relayOutput}
+use Rattle.meaning.specs.Relay.{Joint, bytes_of, joined_table, joined_words, joined_count, relayed, relay_reply, relay_memory, relay, relay_answer, relay_rows, relay_words, relay_output}
 use Rattle.laws_steps.specs.Logic.{are_bytes, bytes_front, right_of}
 use Rattle.laws_steps.specs.Envelopes.{opening_row}
 use Rattle.laws_tables.specs.WrittenBytes.{views_bytes, wrap_bytes, all_bytes, cell_bytes, cells_bytes, table_bytes, bytes_append}
 use Rattle.laws_tables.specs.Ties.{whole_front}
-use Rattle.laws_tables.specs.Joined.{Joins, joins, old-whole}
-use Rattle.laws_tables.specs.JoinedRead.{joined_rows, count_joined, table_is, words_are, joined-read}
+use Rattle.laws_tables.specs.Joined.{Joins, joins, old_whole}
+use Rattle.laws_tables.specs.JoinedRead.{joined_rows, count_joined, table_is, words_are, joined_read}
 
 -- the joined header is of bytes
 module _ {edition : ℕ} {input table pool : List ℕ} {j : Joint} (s : Joins edition input table pool j) (t : T (are_bytes input)) (u : T (are_bytes pool)) where
@@ -26,7 +26,7 @@ module _ {edition : ℕ} {input table pool : List ℕ} {j : Joint} (s : Joins ed
 
   old_are_bytes : T (are_bytes j.header)
   old_are_bytes =
-      let w = old-whole s t in
+      let w = old_whole s t in
       let bytes : w.bytes ≡ j.header = sym (whole_front (told s.told_in) input s.place j.old w) ∙ sym s.front in
       subst (λ (x : List ℕ). T (are_bytes x)) bytes (bytes_front w.bytes w.payload (subst (λ (x : List ℕ). T (are_bytes x)) w.parts t))
 
@@ -37,18 +37,18 @@ module _ {edition : ℕ} {input table pool : List ℕ} {j : Joint} (s : Joins ed
 
 -- a relay with room leaves what the reader would lay there from its output, and answers as it
 pub record LaidAsRead (edition : ℕ) (input table pool rows words output : List ℕ) (j : Joint) : Type 0 where
-  pub header_laid : relayOutput edition input table pool rows words output ≡ laid_over output (bytes_of j)
-  pub rows_laid : relayRows edition input table pool rows words output ≡ read_rows edition (laid_over output (bytes_of j)) rows words
-  pub words_laid : relayWords edition input table pool rows words output ≡ read_words edition (laid_over output (bytes_of j)) rows words
-  pub answers : relayAnswer edition input table pool rows words output ≡ read_answer edition (laid_over output (bytes_of j)) rows words
+  pub header_laid : relay_output edition input table pool rows words output ≡ laid_over output (bytes_of j)
+  pub rows_laid : relay_rows edition input table pool rows words output ≡ read_rows edition (laid_over output (bytes_of j)) rows words
+  pub words_laid : relay_words edition input table pool rows words output ≡ read_words edition (laid_over output (bytes_of j)) rows words
+  pub answers : relay_answer edition input table pool rows words output ≡ read_answer edition (laid_over output (bytes_of j)) rows words
 
 module _ (edition : ℕ) (input table pool rows words output : List ℕ) (j : Joint) (q : relay edition input table pool ≡ relayed j) (t : T (are_bytes input)) (room_is_lem : joined_count j ≤ room_with rows words) (space-is : length (bytes_of j) ≤ length output) where
   abbrev good : Joins edition input table pool j
   good = joins edition input table pool j q
 
-  pub read-laid : read edition (laid_over output (bytes_of j)) ≡ accepted (length (bytes_of j)) (joined_rows j)
+  pub read_laid : read edition (laid_over output (bytes_of j)) ≡ accepted (length (bytes_of j)) (joined_rows j)
   unfolding laid_over
-  read-laid = joined-read good t (drop (length (bytes_of j)) output)
+  read_laid = joined_read good t (drop (length (bytes_of j)) output)
 
   fits_room : leb (joined_count j) (room_with rows words) ≡ true
   fits_room = le-leb (joined_count j) (room_with rows words) room_is_lem
@@ -63,7 +63,7 @@ module _ (edition : ℕ) (input table pool rows words output : List ℕ) (j : Jo
   relay_memory_lem front lent = ap (relay_memory (room_with rows words) (length output) front lent) q ∙ rw (fits_room, fits_space) refl
 
   read_memory_lem : (front : List Placed → List ℕ) (lent : List ℕ) → read_memory (room_with rows words) front lent (read edition (laid_over output (bytes_of j))) ≡ laid_over lent (front (joined_rows j))
-  read_memory_lem front lent = ap (read_memory (room_with rows words) front lent) read-laid ∙ rw reads_room refl
+  read_memory_lem front lent = ap (read_memory (room_with rows words) front lent) read_laid ∙ rw reads_room refl
 
   unfoldable all_well : Reply
   all_well = reply 0 (length (bytes_of j)) (length (joined_rows j))
@@ -76,12 +76,12 @@ module _ (edition : ℕ) (input table pool rows words output : List ℕ) (j : Jo
   unfolding all_well
   read_reply_lem = rw reads_room refl
 
-  pub laid-as-read : LaidAsRead edition input table pool rows words output j
-  unfolding relayOutput relayRows relayWords relayAnswer answer_by rows_by words_by
-  laid-as-read =
+  pub laid_as_read : LaidAsRead edition input table pool rows words output j
+  unfolding relay_output relay_rows relay_words relay_answer answer_by rows_by words_by
+  laid_as_read =
       record {
         header_laid = relay_memory_lem bytes_of output;
         rows_laid = relay_memory_lem joined_table rows ∙ ap (laid_over rows) (table_is good) ∙ sym (read_memory_lem table_of rows);
         words_laid = relay_memory_lem joined_words words ∙ ap (laid_over words) (words_are good) ∙ sym (read_memory_lem words_read words);
-        answers = ap (relay_reply (room_with rows words) (length output)) q ∙ relay_reply_lem ∙ sym (ap (read_reply (room_with rows words)) read-laid ∙ read_reply_lem);
+        answers = ap (relay_reply (room_with rows words) (length output)) q ∙ relay_reply_lem ∙ sym (ap (read_reply (room_with rows words)) read_laid ∙ read_reply_lem);
       }

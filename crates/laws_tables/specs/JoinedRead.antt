@@ -17,8 +17,8 @@ use Rattle.laws_steps.specs.Hopping.{ranks_are, ranks_length}
 use Rattle.laws_tables.specs.RightSkips.{standing, cells_ranks, skips_same}
 use Rattle.laws_tables.specs.Ties.{read_as}
 use Rattle.laws_tables.specs.Moving.{ReadsMoved, moved_rows_lem, table_apart}
-use Rattle.laws_tables.specs.Joining.{Apart, words-joined, table_joined}
-use Rattle.laws_tables.specs.Joined.{Joins, joins, old-whole, old-written, few-old}
+use Rattle.laws_tables.specs.Joining.{Apart, words_joined, table_joined}
+use Rattle.laws_tables.specs.Joined.{Joins, joins, old_whole, old_written, few_old}
 
 -- the joined rows: the new ones, and the old ones with their starts moved
 abbrev pub joined_rows : Joint → List Placed
@@ -45,19 +45,19 @@ module _ {edition : ℕ} {input table pool : List ℕ} {j : Joint} (s : Joins ed
       let n : length (wrap false s.body) ≡ 0 + envelope_size (length s.body) = omega (arith, wrap_length false s.body) in
       s.shows ∙ ap (λ (x : Rattle.meaning.specs.Reading.Out). placed_row 1 0 0 [] ∷ rows_inside (length (wrap false s.body)) x) q ∙ ap (λ (x : ℕ). placed_row 1 0 0 [] ∷ map (placed x) rs) n
 
-  pub new-means : cells_of pool table ≡ map cell (map meant j.new)
-  new-means =
+  pub new_means : cells_of pool table ≡ map cell (map meant j.new)
+  new_means =
       let (rs, q, m) = new_read in
       let means : map meant (rows_of false 0 (envelope_size (length s.body)) rs) ≡ opening_row false ∷ s.extension.rows
       = ap (λ (x : List Row). opening_row false ∷ x) (placed_meant (0 + envelope_size (length s.body)) rs ∙ m) in
       s.extension.cells_are ∙ ap (map cell) (sym means ∙ sym (ap (map meant) (new_rows_lem rs q)))
 
-  pub new-skips : skips_of table ≡ skips_of (table_of j.new)
-  new-skips = skips_same pool table j.new s.skips new-means
+  pub new_skips : skips_of table ≡ skips_of (table_of j.new)
+  new_skips = skips_same pool table j.new s.skips new_means
 
   -- as many as the new table has
-  pub new-count : length j.new ≡ room_of table
-  new-count = sym (count_meant j.new) ∙ ap length (sym (cells_ranks pool table (map meant j.new) new-means) ∙ ranks_are table) ∙ ranks_length table 0 (room_of table - 0) ∙ (omega arith)
+  pub new_count : length j.new ≡ room_of table
+  new_count = sym (count_meant j.new) ∙ ap length (sym (cells_ranks pool table (map meant j.new) new_means) ∙ ranks_are table) ∙ ranks_length table 0 (room_of table - 0) ∙ (omega arith)
 
   pub old_apart : Apart (ranks_read j.old)
   old_apart = let (n, few, t) = accepted_tabled strict edition input s.place j.old s.accepts in table_apart t
@@ -67,25 +67,25 @@ module _ {edition : ℕ} {input table pool : List ℕ} {j : Joint} (s : Joins ed
   table_is = table_joined (length j.envelope) j.new j.old old_apart
 
   pub words_are : joined_words j ≡ words_read (joined_rows j)
-  words_are = sym (words-joined (length j.envelope) j.new j.old old_apart)
+  words_are = sym (words_joined (length j.envelope) j.new j.old old_apart)
 
   -- "The old header's bytes are unchanged behind it"
-  pub old-unchanged : drop (length j.envelope) (bytes_of j) ≡ take s.place input
-  old-unchanged = drop-append_seam j.envelope j.header ∙ s.front
+  pub old_unchanged : drop (length j.envelope) (bytes_of j) ≡ take s.place input
+  old_unchanged = drop-append_seam j.envelope j.header ∙ s.front
 
   module _ (t : T (are_bytes input)) where
-    old_moves : ReadsMoved (told s.told_in) (old-whole s t).count j.header j.old
+    old_moves : ReadsMoved (told s.told_in) (old_whole s t).count j.header j.old
     old_moves =
-        let w = old-whole s t in
+        let w = old_whole s t in
         let e = s.told_in in
         let bytes : w.bytes ≡ j.header = sym (Rattle.laws_tables.specs.Ties.whole_front (told e) input s.place j.old w) ∙ sym s.front in
         let parts : input ≡ j.header ++ w.payload = w.parts ∙ ap (λ (x : List ℕ). x ++ w.payload) bytes in
         let u : T (are_bytes j.header) = bytes_front j.header w.payload (subst (λ (x : List ℕ). T (are_bytes x)) parts t) in
-        moved_rows_lem (told e) (old-written s t) u envelopes_most w.few w.payload s.place j.old (ap (header envelopes_most (told e) 0) (sym parts) ∙ sym (read_as strict edition e input s.label) ∙ s.accepts)
+        moved_rows_lem (told e) (old_written s t) u envelopes_most w.few w.payload s.place j.old (ap (header envelopes_most (told e) 0) (sym parts) ∙ sym (read_as strict edition e input s.label) ∙ s.accepts)
 
     -- the joined rows are exactly the reader's for the joined header, whatever stands behind it
-    pub joined-read : (payload : List ℕ) → read edition (bytes_of j ++ payload) ≡ accepted (length (bytes_of j)) (joined_rows j)
-    joined-read payload =
+    pub joined_read : (payload : List ℕ) → read edition (bytes_of j ++ payload) ≡ accepted (length (bytes_of j)) (joined_rows j)
+    joined_read payload =
         let e = s.told_in in
         let (rs, q, m) = new_read in
         let size = envelope_size (length s.body) in
@@ -93,7 +93,7 @@ module _ {edition : ℕ} {input table pool : List ℕ} {j : Joint} (s : Joins ed
         let zero_more : 0 + size ≡ size = omega arith in
         let own = rows_of false 0 size rs in
         let behind-new : header 15 (told e) (0 + size) (j.header ++ payload) ≡ accepted (0 + size + length j.header) (map (moved size) j.old)
-        = old_moves 15 (omega (arith, few-old s t)) (0 + size) payload ∙ ap (λ (x : ℕ). accepted (0 + size + length j.header) (map (moved x) j.old)) zero_more in
+        = old_moves 15 (omega (arith, few_old s t)) (0 + size) payload ∙ ap (λ (x : ℕ). accepted (0 + size + length j.header) (map (moved x) j.old)) zero_more in
         let all : (j.envelope ++ j.header) ++ payload ≡ wrap false s.body ++ (j.header ++ payload)
         = ap (λ (x : List ℕ). (x ++ j.header) ++ payload) s.wraps ∙ append_assoc (wrap false s.body) j.header payload in
         let place : 0 + size + length j.header ≡ length (bytes_of j) = omega (arith, length-append j.envelope j.header) in

@@ -47,8 +47,8 @@ module _ (n : ℕ) (rs ts : List Placed) (h : Apart (ranks_read ts)) where
   joined_ranks : ranks_read (rs ++ map (moved n) ts) ≡ ranks_read rs ++ ranks_read ts
   joined_ranks = ranks_append rs (map (moved n) ts) ∙ ap (λ (x : List Rank). ranks_read rs ++ x) (ranks_moved n ts)
 
-  pub words-joined : words_read (rs ++ map (moved n) ts) ≡ words_read rs ++ words_read ts
-  words-joined = ap words_of joined_ranks ∙ words_append (ranks_read rs) (ranks_read ts) h
+  pub words_joined : words_read (rs ++ map (moved n) ts) ≡ words_read rs ++ words_read ts
+  words_joined = ap words_of joined_ranks ∙ words_append (ranks_read rs) (ranks_read ts) h
 
 -- Skip numbers
 

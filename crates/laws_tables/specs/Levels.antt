@@ -14,7 +14,7 @@ use Rattle.meaning.specs.Headers.{start}
 use Rattle.meaning.specs.Writing.{fits, fit_row}
 use Rattle.laws_steps.specs.Logic.{left_of, right_of, is_true, is_false, either}
 use Rattle.laws_steps.specs.Tables.{every_in, all_rooms, each_room}
-use Rattle.laws_steps.specs.Fits.{Placing, fit-holds}
+use Rattle.laws_steps.specs.Fits.{Placing, fit_holds}
 use Rattle.laws_steps.specs.WrittenRead.{fit_all, then_inv}
 use Rattle.laws_steps.specs.Envelopes.{opening_row, Writes, the_base, before}
 use Rattle.laws_tables.specs.RightSkips.{standing}
@@ -239,7 +239,7 @@ pub bad : {A : Type 0} → false ≡ true → A
 bad q = let z : ◌≡◌ {A = ℕ} 0 1 = cc q in absurd (omega arith)
 
 pub row_kept : (e : Edition) (row : Row) (st st' : State) (bs : List ℕ) → fit_row e st row ≡ fits st' bs → AtLevel st → RowKept st st' row
-row_kept e row = fit-holds e row (λ st st' bs. AtLevel st → RowKept st st' row) own_kept pass_kept
+row_kept e row = fit_holds e row (λ st st' bs. AtLevel st → RowKept st st' row) own_kept pass_kept
   where
     deep : (st : State) → AtLevel st → is_inner st.room ≡ true → 0 < st.level
     deep st l i = ltb-true 0 st.level (sym l ∙ i)

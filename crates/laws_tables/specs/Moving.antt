@@ -45,7 +45,9 @@ rows_moved b at bs rs i =
     let k = envelope_size (length bs) in
     let z : at ≡ at + 0 = omega arith in
     let o : 0 + k ≡ k = omega arith in
-    rw (o, seen_moved at k bs rs (size_least bs) i) (ap (λ (x : ℕ). placed_row (opening b) 0 x [] ∷ map (moved at) (map (placed k) rs)) z)
+    let first : placed_row (opening b) 0 at [] ∷ map (placed (at + k)) rs ≡ placed_row (opening b) 0 (at + 0) [] ∷ map (moved at) (map (placed k) rs)
+    = rw (seen_moved at k bs rs (size_least bs) i) (ap (λ (x : ℕ). placed_row (opening b) 0 x [] ∷ map (moved at) (map (placed k) rs)) z) in
+    first ∙ ap (λ (x : ℕ). map (moved at) (placed_row (opening b) 0 0 [] ∷ map (placed x) rs)) (sym o)
 
 -- these bytes are read as these rows, moved to where they stand; so many envelopes and any payload may follow
 abbrev pub ReadsMoved : Told → ℕ → List ℕ → List Placed → Type 0

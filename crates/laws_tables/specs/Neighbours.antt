@@ -13,7 +13,7 @@ use Rattle.meaning.specs.Headers.{start}
 use Rattle.meaning.specs.Writing.{fits, fit_row}
 use Rattle.laws_steps.specs.Logic.{left_of, right_of, is_true, is_false}
 use Rattle.laws_steps.specs.Tables.{every_in, all_rooms, each_room}
-use Rattle.laws_steps.specs.Fits.{Placing, fit-holds}
+use Rattle.laws_steps.specs.Fits.{Placing, fit_holds}
 use Rattle.laws_steps.specs.WrittenRead.{fit_all, then_inv}
 use Rattle.laws_steps.specs.Envelopes.{opening_row, Writes, the_base, before}
 use Rattle.laws_tables.specs.RightSkips.{standing}
@@ -231,7 +231,7 @@ moved_next st m first k flat b =
     silent h = deep (is_inner st.room) refl k.silent h
 
 row_next : (e : Edition) (row : Row) (st st' : State) (bs : List ℕ) → fit_row e st row ≡ fits st' bs → AtLevel st → (first : Rank) → Behind st first → RowNext first (standing row) st'
-row_next e row = fit-holds e row (λ st st' bs. AtLevel st → (first : Rank) → Behind st first → RowNext first (standing row) st') own_next pass_next
+row_next e row = fit_holds e row (λ st st' bs. AtLevel st → (first : Rank) → Behind st first → RowNext first (standing row) st') own_next pass_next
   where
     own_next : (st st' : State) (m : Move) (bs : List ℕ) → In m (moves e st.room) → Placing st row m st' bs → AtLevel st → (first : Rank) → Behind st first → RowNext first (standing row) st'
     own_next st st' m bs i p l first b =

@@ -88,16 +88,16 @@ module _ (code : ℕ) (m : List ℕ) (n i : ℕ) where
 
     module _ (q : has_value code (rank_at m i) ≡ false) where
       -- into an envelope, or past a row that has no rows: the next row
-      pub first-steps : first_at code m n i ≡ first_at code m n (i + 1)
+      pub first_steps : first_at code m n i ≡ first_at code m n (i + 1)
       unfolding first_at
-      first-steps =
+      first_steps =
           let p : suc i ≡ i + 1 = omega arith in
           ap (first_from code i) (ranks_next m n i h) ∙ first_behind code i (rank_at m i) (ranks_at m n (suc i)) q ∙ ap (λ (x : ℕ). first_from code x (ranks_at m n x)) p
 
       -- over a row and its rows: its skip number
-      pub first-hops : (code ≡ closing → ⊥) → is_envelope (rank_at m i).kind ≡ false → ((rank_at m i).kind ≡ agent_name → 1 ≤ (rank_at m i).level) → first_at code m n i ≡ first_at code m n (skip_at m n i)
+      pub first_hops : (code ≡ closing → ⊥) → is_envelope (rank_at m i).kind ≡ false → ((rank_at m i).kind ≡ agent_name → 1 ≤ (rank_at m i).level) → first_at code m n i ≡ first_at code m n (skip_at m n i)
       unfolding first_at skip_at
-      first-hops c e a =
+      first_hops c e a =
           let r = rank_at m i in
           let rest = ranks_at m n (suc i) in
           let b = belonging r rest in
@@ -124,7 +124,7 @@ first_within code m n (suc k) i l h = inside (ltb i n) refl (λ z. first_within 
     here : i < n → (b : Bool) → has_value code (rank_at m i) ≡ b → FirstIs code m n (i + 1) (first_at code m n (i + 1)) → FirstIs code m n i (first_at code m n i)
     here z true q ih = rw (first_found code m n i z q) (record { from = omega arith; most = l; has = λ y. q; none_before = λ j u v. absurd (omega arith) })
     here z false q ih =
-        rw (first-steps code m n i z q) (record { from = omega (arith, ih.from); most = ih.most; has = ih.has; none_before = λ j u v. by j (eqb j i) refl u v })
+        rw (first_steps code m n i z q) (record { from = omega (arith, ih.from); most = ih.most; has = ih.has; none_before = λ j u v. by j (eqb j i) refl u v })
       where
         by : (j : ℕ) (b : Bool) → eqb j i ≡ b → i ≤ j → j < first_at code m n (i + 1) → has_value code (rank_at m j) ≡ false
         by j true p u v = ap (λ (x : ℕ). has_value code (rank_at m x)) (eqb-true j i p) ∙ q

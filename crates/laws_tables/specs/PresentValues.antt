@@ -1,5 +1,5 @@
 -- Order 1, over the definitions: what the present value of a parameter is, on every table that the writer accepts.
-use Rattle.std.specs.Prelude.{ℕ, zero, suc, ◌+◌, ◌-◌, ◌≤◌, ◌<◌, List, ◌∷◌, map, Bool, true, false, ◌≡◌, refl, eqb, leb, length}
+use Rattle.std.specs.Prelude.{ℕ, zero, suc, ◌+◌, ◌-◌, ◌≤◌, ◌<◌, List, [], ◌∷◌, map, Bool, true, false, ◌≡◌, refl, eqb, leb, length}
 use Rattle.std.proofs.Common.{ap, sym, ◌∙◌, subst, arith, le-leb, eqb-true}
 use Rattle.std.proofs.lemmas.Bool.{eqb-false}
 use Rattle.meaning.specs.Basics.{pick}
@@ -96,6 +96,7 @@ pub present_first : (e : Edition) (rows pool : List ℕ) (code : ℕ) → checke
 present_first e rows pool code q a = let s = passed_walkable e rows pool q in at (ranks_of rows) s.stands s.opens
   where
     at : (rs : List Rank) → Standing rs → Opened rs → present code rs ≡ first_from code 0 rs
+    at [] t h = elim h [ ]
     at (r ∷ rest) t (opened h) = first_stands code r rest (can_ask_open code a) h t
 
 pub present_at : (e : Edition) (rows pool : List ℕ) (code : ℕ) → checked e rows pool ≡ passed → can_ask code ≡ true → present code (ranks_of rows) ≡ first_at code rows (room_of rows) 0

@@ -8,7 +8,7 @@ use Rattle.meaning.specs.Reading.{Row, has_code}
 use Rattle.meaning.specs.Headers.{Placed, meant}
 use Rattle.meaning.specs.Writing.{write_value, fits, fit_row, wrap}
 use Rattle.laws_steps.specs.Lookups.{is_text_form, uncoded_text}
-use Rattle.laws_steps.specs.Fits.{fit-holds}
+use Rattle.laws_steps.specs.Fits.{fit_holds}
 use Rattle.laws_steps.specs.WrittenRead.{fit_all, then_inv}
 use Rattle.laws_steps.specs.Envelopes.{Writes, the_base, before}
 
@@ -30,7 +30,7 @@ lead_some e r v i false q = omega arith
 
 row_some : (e : Edition) (row : Row) (st st' : State) (bs : List ℕ) → fit_row e st row ≡ fits st' bs → 1 ≤ length bs
 row_some e row =
-    fit-holds e row (λ st st' bs. 1 ≤ length bs) (λ st st' m bs i p. subst (λ (x : List ℕ). 1 ≤ length x) p.out (lead_some e st.room row.view i (has_code no_code m) refl)) (λ st st' m bs i q h. omega arith)
+    fit_holds e row (λ st st' bs. 1 ≤ length bs) (λ st st' m bs i p. subst (λ (x : List ℕ). 1 ≤ length x) p.out (lead_some e st.room row.view i (has_code no_code m) refl)) (λ st st' m bs i q h. omega arith)
 
 rows_few : (e : Edition) (rows : List Row) (st st' : State) (bs : List ℕ) → fit_all e rows st ≡ fits st' bs → length rows ≤ length bs
 unfolding fit_all

@@ -30,46 +30,46 @@ module _ (m : List ℕ) (n : ℕ) where
   unfolding skips_laid
   laid_more d i h = let q : n - suc d ≡ i = omega arith in ap (λ (x : ℕ). set (skips_laid m n d) (x * row_width + 4) (skip_at m n x)) q
 
-  pub laid-length : (d : ℕ) → length (skips_laid m n d) ≡ length m
+  pub laid_length : (d : ℕ) → length (skips_laid m n d) ≡ length m
   unfolding skips_laid
-  laid-length zero = refl
-  laid-length (suc d) = length-set (skips_laid m n d) ((n - suc d) * row_width + 4) (skip_at m n (n - suc d)) ∙ laid-length d
+  laid_length zero = refl
+  laid_length (suc d) = length-set (skips_laid m n d) ((n - suc d) * row_width + 4) (skip_at m n (n - suc d)) ∙ laid_length d
 
   -- kinds and levels stay
-  pub laid-kind : (d j : ℕ) → get_or (skips_laid m n d) (j * row_width) 0 ≡ get_or m (j * row_width) 0
+  pub laid_kind : (d j : ℕ) → get_or (skips_laid m n d) (j * row_width) 0 ≡ get_or m (j * row_width) 0
   unfolding skips_laid
-  laid-kind zero j = refl
-  laid-kind (suc d) j = get_or-set_other (skips_laid m n d) ((n - suc d) * row_width + 4) (j * row_width) (skip_at m n (n - suc d)) 0 (λ q. omega arith) ∙ laid-kind d j
+  laid_kind zero j = refl
+  laid_kind (suc d) j = get_or-set_other (skips_laid m n d) ((n - suc d) * row_width + 4) (j * row_width) (skip_at m n (n - suc d)) 0 (λ q. omega arith) ∙ laid_kind d j
 
-  pub laid-level : (d j : ℕ) → get_or (skips_laid m n d) (j * row_width + 1) 0 ≡ get_or m (j * row_width + 1) 0
+  pub laid_level : (d j : ℕ) → get_or (skips_laid m n d) (j * row_width + 1) 0 ≡ get_or m (j * row_width + 1) 0
   unfolding skips_laid
-  laid-level zero j = refl
-  laid-level (suc d) j = get_or-set_other (skips_laid m n d) ((n - suc d) * row_width + 4) (j * row_width + 1) (skip_at m n (n - suc d)) 0 (λ q. omega arith) ∙ laid-level d j
+  laid_level zero j = refl
+  laid_level (suc d) j = get_or-set_other (skips_laid m n d) ((n - suc d) * row_width + 4) (j * row_width + 1) (skip_at m n (n - suc d)) 0 (λ q. omega arith) ∙ laid_level d j
 
   -- the rows that have theirs
-  pub laid-skip : (d j : ℕ) → n * row_width ≤ length m → n ≤ j + d → j < n → given_at (skips_laid m n d) j ≡ skip_at m n j
+  pub laid_skip : (d j : ℕ) → n * row_width ≤ length m → n ≤ j + d → j < n → given_at (skips_laid m n d) j ≡ skip_at m n j
   unfolding skips_laid
-  laid-skip zero j l h k = absurd (omega arith)
-  laid-skip (suc d) j l h k = at (eqb j (n - suc d)) refl (laid-skip d j l)
+  laid_skip zero j l h k = absurd (omega arith)
+  laid_skip (suc d) j l h k = at (eqb j (n - suc d)) refl (laid_skip d j l)
     where
       at : (b : Bool) → eqb j (n - suc d) ≡ b → (n ≤ j + d → j < n → given_at (skips_laid m n d) j ≡ skip_at m n j)
           → given_at (set (skips_laid m n d) ((n - suc d) * row_width + 4) (skip_at m n (n - suc d))) j ≡ skip_at m n j
       at true q ih =
           let e : j ≡ n - suc d = eqb-true j (n - suc d) q in
           ap (λ (x : ℕ). given_at (set (skips_laid m n d) ((n - suc d) * row_width + 4) (skip_at m n (n - suc d))) x) e
-          ∙ get_or-set_same (skips_laid m n d) ((n - suc d) * row_width + 4) (skip_at m n (n - suc d)) 0 (omega (arith, laid-length d)) ∙ ap (skip_at m n) (sym e)
+          ∙ get_or-set_same (skips_laid m n d) ((n - suc d) * row_width + 4) (skip_at m n (n - suc d)) 0 (omega (arith, laid_length d)) ∙ ap (skip_at m n) (sym e)
       at false q ih =
           let e = eqb-false j (n - suc d) q in
           get_or-set_other (skips_laid m n d) ((n - suc d) * row_width + 4) (j * row_width + 4) (skip_at m n (n - suc d)) 0 (λ z. e (omega arith)) ∙ ih (omega arith) k
 
   -- so all rows belong where they did
-  pub laid-ranks : (d i k : ℕ) → ranks_for (skips_laid m n d) i k ≡ ranks_for m i k
-  laid-ranks d i zero = refl
-  laid-ranks d i (suc k) = rw (laid-kind d i, laid-level d i, laid-ranks d (suc i) k) refl
+  pub laid_ranks : (d i k : ℕ) → ranks_for (skips_laid m n d) i k ≡ ranks_for m i k
+  laid_ranks d i zero = refl
+  laid_ranks d i (suc k) = rw (laid_kind d i, laid_level d i, laid_ranks d (suc i) k) refl
 
   pub laid_same : (d i : ℕ) → skip_at (skips_laid m n d) n i ≡ skip_at m n i
   unfolding skip_at
-  laid_same d i = rw (laid-kind d i, laid-level d i, laid-ranks d (suc i) (n - suc i)) refl
+  laid_same d i = rw (laid_kind d i, laid_level d i, laid_ranks d (suc i) (n - suc i)) refl
 
 -- The whole table
 

@@ -12,7 +12,7 @@ use Rattle.meaning.specs.Headers.{start}
 use Rattle.meaning.specs.Writing.{fits, fit_row}
 use Rattle.laws_steps.specs.Logic.{left_of, right_of, either, not_both}
 use Rattle.laws_steps.specs.Tables.{room_number, every_in, all_rooms, each_room}
-use Rattle.laws_steps.specs.Fits.{fit-holds}
+use Rattle.laws_steps.specs.Fits.{fit_holds}
 use Rattle.laws_steps.specs.WrittenRead.{fit_all, then_inv}
 use Rattle.laws_steps.specs.Envelopes.{opening_row, Writes, the_base, before}
 use Rattle.laws_steps.specs.Plans.{inner_kind}
@@ -87,7 +87,7 @@ module _ (e : Edition) (st : State) {m : Move} (i : In m (moves e st.room)) (d :
 -- a row that fits leads from deep rooms to deep ones, and an agent's stands deep
 row_deep : (e : Edition) (row : Row) (st st' : State) (bs : List ℕ) → fit_row e st row ≡ fits st' bs → Deep st → Deep st' × (row.kind ≡ agent_name → 1 ≤ row.level)
 row_deep e row =
-    fit-holds e row (λ st st' bs. Deep st → Deep st' × (row.kind ≡ agent_name → 1 ≤ row.level))
+    fit_holds e row (λ st st' bs. Deep st → Deep st' × (row.kind ≡ agent_name → 1 ≤ row.level))
     (λ st st' m bs i p d. (subst Deep p.to (move_deep e st i d), λ q. let h = name_deep e st i d (p.kind_is ∙ q) in omega (arith, p.level_is)))
     (λ st st' m bs i q h d. h (move_deep e st i d))
 

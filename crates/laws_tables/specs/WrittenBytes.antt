@@ -14,7 +14,7 @@ use Rattle.laws_steps.specs.Logic.{left_of, right_of, both, is_byte, are_bytes}
 use Rattle.laws_steps.specs.Rows.{every_cell}
 use Rattle.laws_steps.specs.Tables.{every_in, all_rooms, each_room}
 use Rattle.laws_steps.specs.Lookups.{quiet_coded}
-use Rattle.laws_steps.specs.Fits.{fit-holds, close-holds}
+use Rattle.laws_steps.specs.Fits.{fit_holds, close_holds}
 use Rattle.laws_steps.specs.WrittenRead.{fit_all, then_inv}
 use Rattle.laws_steps.specs.Envelopes.{Writes, the_base, before, limit_size}
 
@@ -68,12 +68,12 @@ pass_bytes e st m bs i q t = bytes_cons m.code bs (code_byte e st.room i (quiet_
 
 row_bytes : (e : Edition) (row : Row) → T (are_bytes row.view) → (st st' : State) (bs : List ℕ) → fit_row e st row ≡ fits st' bs → T (are_bytes bs)
 row_bytes e row t =
-    fit-holds e row (λ st st' bs. T (are_bytes bs))
+    fit_holds e row (λ st st' bs. T (are_bytes bs))
     (λ st st' m bs i p. subst (λ (x : List ℕ). T (are_bytes x)) p.out (bytes_append (lead m) (write_value m.form row.view) (lead_bytes e st.room i (has_code no_code m) refl) (value_bytes m.form m.code row.view p.ok t)))
     (λ st st' m bs i q u. pass_bytes e st m bs i q u)
 
 close_bytes : (e : Edition) (st st' : State) (bs : List ℕ) → close e st ≡ fits st' bs → T (are_bytes bs)
-close_bytes e = close-holds e (λ st st' bs. T (are_bytes bs)) (λ st h. tt) (λ st st' m bs i q u. pass_bytes e st m bs i q u)
+close_bytes e = close_holds e (λ st st' bs. T (are_bytes bs)) (λ st h. tt) (λ st st' m bs i q u. pass_bytes e st m bs i q u)
 
 -- every row views bytes
 abbrev pub views_bytes : Row → Bool

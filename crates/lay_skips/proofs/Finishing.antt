@@ -15,7 +15,7 @@ use Rattle.laws_tables.specs.Skipping.{skips_laid, laid_none}
 use Rattle.laws_tables.specs.Wording.{top, words_count, no_words}
 use Rattle.table.specs.Rows.{u32_most}
 use Rattle.lay_skips.specs.Laying.{LaidFrom, InsideLaid, Finishable, Finished}
-use Rattle.skips.specs.Ends.{IsTop, envelope-run}
+use Rattle.skips.specs.Ends.{IsTop, envelope_run}
 use Rattle.lay_skips.proofs.Running.{stays_long, lays}
 
 -- Words
@@ -112,14 +112,14 @@ module _ {m words₀ : List ℕ} {n : ℕ} (f : Finishable m n words₀) {rows w
       here : i < n
       here = omega (arith, b.less, w.few)
 
-      pub own-inside : i < room_of mid
-      own-inside = omega (arith, stays_long m mid n (n - suc i) b.is, here, f.stands.room)
+      pub own_inside : i < room_of mid
+      own_inside = omega (arith, stays_long m mid n (n - suc i) b.is, here, f.stands.room)
 
       pub next_small : next ≤ u32_most
       next_small = omega (arith, w.few, f.stands.most)
 
       skip : skip_at m n i ≡ next
-      skip = envelope-run m n i here next b.opened b.less w.few b.inner w.there
+      skip = envelope_run m n i here next b.opened b.less w.few b.inner w.there
 
       -- the words from this envelope on
       one_word : words_of (ranks_at m n i) ≡ word ∷ words_of (ranks_at m n next)
@@ -140,8 +140,8 @@ module _ {m words₀ : List ℕ} {n : ℕ} (f : Finishable m n words₀) {rows w
       pub count_small : k + 1 ≤ u32_most
       count_small = omega (arith, w.count, ap length one_word, few_words (ranks_at m n i), ranks_length m i (n - i), f.stands.most)
 
-      pub one-finished : {after left : List ℕ} → after ≡ set mid (i * row_width + 4) next → ((lent own : List ℕ) → words ≡ laid_over lent own → length own ≡ k → left ≡ laid_over lent (word ∷ own)) → FinishedFrom m words₀ n after left i (k + 1)
-      one-finished s p =
+      pub one_finished : {after left : List ℕ} → after ≡ set mid (i * row_width + 4) next → ((lent own : List ℕ) → words ≡ laid_over lent own → length own ≡ k → left ≡ laid_over lent (word ∷ own)) → FinishedFrom m words₀ n after left i (k + 1)
+      one_finished s p =
           record {
             few = omega (arith, here);
             is = lays m n i here b.is (sym skip) s;

@@ -12,7 +12,7 @@ use Rattle.meaning.specs.Memory.{row_width, room_of}
 use Rattle.laws_steps.specs.Logic.{is_true}
 use Rattle.laws_steps.specs.Nesting.{false_not, beside_belongs}
 use Rattle.laws_steps.specs.Hopping.{rank_at, skip_at, HopsTo}
-use Rattle.laws_tables.specs.Skipping.{skips_laid, laid_more, laid-length, laid-kind, laid-level}
+use Rattle.laws_tables.specs.Skipping.{skips_laid, laid_more, laid_length, laid_kind, laid_level}
 use Rattle.laws_tables.specs.Neighbours.{is_follower, leads, may_stand_before}
 use Rattle.table.specs.Rows.{u32_most}
 use Rattle.skips.specs.Ends.{run_ends, runs_to, alone, top_alone}
@@ -22,10 +22,10 @@ use Rattle.skips.specs.Belonging.{follower_alone, light_belongs, Leader, is_lead
 -- One row laid
 
 pub ranks_stay : (m rows : List ℕ) (n d : ℕ) → rows ≡ skips_laid m n d → (j : ℕ) → rank_at rows j ≡ rank_at m j
-ranks_stay m rows n d q j = ap (λ (x : List ℕ). rank_at x j) q ∙ rw (laid-kind m n d j, laid-level m n d j) refl
+ranks_stay m rows n d q j = ap (λ (x : List ℕ). rank_at x j) q ∙ rw (laid_kind m n d j, laid_level m n d j) refl
 
 pub stays_long : (m rows : List ℕ) (n d : ℕ) → rows ≡ skips_laid m n d → length rows ≡ length m
-stays_long m rows n d q = ap length q ∙ laid-length m n d
+stays_long m rows n d q = ap length q ∙ laid_length m n d
 
 module _ (m : List ℕ) (n i : ℕ) (l : i < n) where
   pub lays : {rows after : List ℕ} {v : ℕ} → rows ≡ skips_laid m n (n - suc i) → v ≡ skip_at m n i → after ≡ set rows (i * row_width + 4) v → after ≡ skips_laid m n (n - i)
@@ -42,11 +42,11 @@ pub record RunBack (m : List ℕ) (n : ℕ) (rows : List ℕ) (last kind next i 
   pub run : (j : ℕ) → i < j → j ≤ last → ((rank_at m j).kind ≡ kind) × ((rank_at m j).level ≡ (rank_at m last).level)
 
 module _ {m : List ℕ} {n : ℕ} {rows₀ : List ℕ} {last kind : ℕ} (b : RunBefore m n rows₀ last kind) where
-  pub run-begins : RunBack m n rows₀ last kind (last + 1) last
-  run-begins = record { next_is = omega arith; most = omega arith; is = b.is; run = λ j x y. absurd (omega arith) }
+  pub run_begins : RunBack m n rows₀ last kind (last + 1) last
+  run_begins = record { next_is = omega arith; most = omega arith; is = b.is; run = λ j x y. absurd (omega arith) }
 
-  pub before-long : length rows₀ ≡ length m
-  before-long = stays_long m rows₀ n (n - suc last) b.is
+  pub before_long : length rows₀ ≡ length m
+  before_long = stays_long m rows₀ n (n - suc last) b.is
 
   module _ {rows : List ℕ} {next i : ℕ} (r : RunBack m n rows last kind next i) where
     here : i < n
@@ -93,8 +93,8 @@ module _ {m : List ℕ} {n : ℕ} {rows₀ : List ℕ} {last kind : ℕ} (b : Ru
                 let top-kind : (rank_at m 0).kind ≡ kind = ap (λ (x : ℕ). (rank_at m x).kind) (sym (eqb-true i 0 z)) ∙ own_kind in
                 top_alone c (ap is_follower (sym (ap (λ (x : Rank). x.kind) q) ∙ top-kind) ∙ b.follower)
 
-        pub run-again : {after : List ℕ} → after ≡ set rows (i * row_width + 4) next → RunBack m n after last kind i (i - 1)
-        run-again s =
+        pub run_again : {after : List ℕ} → after ≡ set rows (i * row_width + 4) next → RunBack m n after last kind i (i - 1)
+        run_again s =
             let one = not_first in
             let before : suc (i - 1) ≡ i = omega arith in
             let skip : next ≡ skip_at m n i = r.next_is ∙ sym (alone m n i here (λ _. follower_alone (rank_at m i) (rank_at m (suc i)) (ap is_follower own_kind ∙ b.follower))) in
@@ -130,11 +130,11 @@ module _ {m : List ℕ} {n : ℕ} {rows₀ : List ℕ} {last kind : ℕ} (b : Ru
             by true z t = absurd (other (kind_here ∙ eqb-true (rank_at m i).kind kind z))
             by false z t = is_true (leads (rank_at m i).kind kind) t
 
-        pub last-small : last + 1 ≤ u32_most
-        last-small = omega (arith, b.inside, b.stands.most)
+        pub last_small : last + 1 ≤ u32_most
+        last_small = omega (arith, b.inside, b.stands.most)
 
-        pub run-ended : {after : List ℕ} → after ≡ set rows (i * row_width + 4) (last + 1) → RunLaid m n after i last kind
-        run-ended s =
+        pub run_ended : {after : List ℕ} → after ≡ set rows (i * row_width + 4) (last + 1) → RunLaid m n after i last kind
+        run_ended s =
             let all : (j : ℕ) → i < j → j ≤ last → belongs (rank_at m i) (rank_at m j) ≡ true
             = λ j x y. beside_belongs (rank_at m i) (rank_at m j) ((r.run j x y).1 ∙ sym (level_same (omega (arith, less)))) (ap (beside (rank_at m i).kind) (r.run j x y).0 ∙ leader.has) in
             let e : i + 1 + (last - i) ≡ suc last = omega (arith, less) in

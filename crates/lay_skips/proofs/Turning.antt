@@ -24,12 +24,12 @@ use Rattle.skips.specs.Classes.{class_of}
 use Rattle.lay_skips.specs.Laying.{LaidFrom, LaidBack, InsideLaid, Turned, RunBefore, RunLaid}
 use Rattle.lay_skips.specs.declared.Turn.{Turn}
 use Rattle.lay_skips.specs.declared.Turn.TheVariants.{Envelope, Row}
-use Rattle.skips.specs.Owning.{of-agent}
+use Rattle.skips.specs.Owning.{of_agent}
 use Rattle.skips.specs.Belonging.{Light, light_belongs}
-use Rattle.skips.specs.Passes.{laid-hoppable}
+use Rattle.skips.specs.Passes.{laid_hoppable}
 use Rattle.skips.specs.Ends.{IsTop, alone, top_alone}
 use Rattle.lay_skips.proofs.Running.{ranks_stay, stays_long, lays}
-use Rattle.skips.specs.Classing.{is_plain, is-deeper, is-agent, is-follower, is-envelope, deeper_owns, one_seen, follower_unseen, envelope_unseen}
+use Rattle.skips.specs.Classing.{is_plain, is_deeper, is_agent, is_follower_lem, is_envelope_lem, deeper_owns, one_seen, follower_unseen, envelope_unseen}
 
 top_opens : (c : Bool) → is_envelope (top c).kind ≡ true
 top_opens true = refl
@@ -54,8 +54,8 @@ module _ {m : List ℕ} {n end : ℕ} {rows : List ℕ} {next word : ℕ} (b : L
   pub back_inside : next - 1 < room_of rows
   back_inside = omega (arith, back_long, here, b.stands.room)
 
-  pub back-small : next ≤ u32_most
-  back-small = omega (arith, b.most, b.few, b.stands.most)
+  pub back_small : next ≤ u32_most
+  back_small = omega (arith, b.most, b.few, b.stands.most)
 
   -- a row that is no envelope's own
   inner_at : (j : ℕ) → j < n → is_envelope (rank_at m j).kind ≡ false → 3 ≤ (rank_at m j).kind
@@ -77,15 +77,15 @@ module _ {m : List ℕ} {n end : ℕ} {rows : List ℕ} {next word : ℕ} (b : L
   right_here : {skip : ℕ} → skip ≡ skip_at rows n (next - 1) → skip ≡ skip_at m n (next - 1)
   right_here e = e ∙ ap (λ (x : List ℕ). skip_at x n (next - 1)) b.is ∙ laid_same m n (n - next) (next - 1)
 
-  pub back-hoppable : Hoppable rows n (next - 1)
-  back-hoppable = laid-hoppable m n next b.some (omega (arith, b.most, b.few)) rows b.is b.stands.room
+  pub back_hoppable : Hoppable rows n (next - 1)
+  back_hoppable = laid_hoppable m n next b.some (omega (arith, b.most, b.few)) rows b.is b.stands.room
 
   module _ {kind : ℕ} (k : kind ≡ get_or rows ((next - 1) * row_width) 0) where
     kind_here : (rank_at m (next - 1)).kind ≡ kind
     kind_here = sym (k ∙ ap (λ (r : Rank). r.kind) (ranks_stay m rows n (n - next) b.is (next - 1)))
 
-    pub kind-known : kind ≤ kind_most
-    kind-known = omega (arith, kind_here, (b.stands.beside.flat (next - 1) here).known)
+    pub kind_known : kind ≤ kind_most
+    kind_known = omega (arith, kind_here, (b.stands.beside.flat (next - 1) here).known)
 
     module _ {class : ℕ} (c : class ≡ class_of kind) where
       class_here : class ≡ class_of (rank_at m (next - 1)).kind
@@ -132,21 +132,21 @@ module _ {m : List ℕ} {n end : ℕ} {rows : List ℕ} {next word : ℕ} (b : L
           skip l = alone m n (next - 1) here (ends (subst Light (sym kind_here) l) (belongs (rank_at m (next - 1)) (rank_at m (suc (next - 1)))) refl)
 
       module _ (g : 0x1000 ≤ class) (h : class < 0x2000) where
-        pub deeper-owned : Owned rows (next - 1) deeper_test
-        deeper-owned s =
-            let (p, q, r, d) = is-deeper kind class c g h in
+        pub deeper_owned : Owned rows (next - 1) deeper_test
+        deeper_owned s =
+            let (p, q, r, d) = is_deeper kind class c g h in
             let level = (rank_at rows (next - 1)).level in
             ap (λ (x : ℕ). belongs (rank x level) s) (sym k) ∙ deeper_owns kind level s p r d
 
-        pub deeper-turn : {skip : ℕ} {after : List ℕ} → skip ≡ skip_at rows n (next - 1) → after ≡ set rows ((next - 1) * row_width + 4) skip → Turned m n end next after (Row (next - 1) (bit_or word class))
-        deeper-turn e s = let (p, q, r, d) = is-deeper kind class c g h in turned p q (right_here e) s
+        pub deeper_turn : {skip : ℕ} {after : List ℕ} → skip ≡ skip_at rows n (next - 1) → after ≡ set rows ((next - 1) * row_width + 4) skip → Turned m n end next after (Row (next - 1) (bit_or word class))
+        deeper_turn e s = let (p, q, r, d) = is_deeper kind class c g h in turned p q (right_here e) s
 
       module _ (g : 0x2000 ≤ class) (h : class < 0x3000) where
-        pub agent-owned : Owned rows (next - 1) (above_test 15)
-        agent-owned s = of-agent (rank_at rows (next - 1)).level s (sym k ∙ is-agent kind class c g h)
+        pub agent_owned : Owned rows (next - 1) (above_test 15)
+        agent_owned s = of_agent (rank_at rows (next - 1)).level s (sym k ∙ is_agent kind class c g h)
 
-        pub agent-turn : {skip : ℕ} {after : List ℕ} → skip ≡ skip_at rows n (next - 1) → after ≡ set rows ((next - 1) * row_width + 4) skip → Turned m n end next after (Row (next - 1) (bit_or word class))
-        agent-turn e s = let q = is-agent kind class c g h in turned (ap is_envelope q) (ap is_follower q) (right_here e) s
+        pub agent_turn : {skip : ℕ} {after : List ℕ} → skip ≡ skip_at rows n (next - 1) → after ≡ set rows ((next - 1) * row_width + 4) skip → Turned m n end next after (Row (next - 1) (bit_or word class))
+        agent_turn e s = let q = is_agent kind class c g h in turned (ap is_envelope q) (ap is_follower q) (right_here e) s
 
       module _ (g : 0x3000 ≤ class) (h : class < 0x4000) where
         pub run_before : RunBefore m n rows (next - 1) kind
@@ -155,7 +155,7 @@ module _ {m : List ℕ} {n end : ℕ} {rows : List ℕ} {next word : ℕ} (b : L
           inside = here;
           is = is_here;
           kind_is = sym kind_here;
-          follower = is-follower kind class c g h;
+          follower = is_follower_lem kind class c g h;
           free = λ u. ap (λ (x : ℕ). is_follower (rank_at m x).kind) next_is ∙ b.free (omega (arith, next_is));
         }
 
@@ -174,19 +174,19 @@ module _ {m : List ℕ} {n end : ℕ} {rows : List ℕ} {next word : ℕ} (b : L
               let q : suc j ≡ next - 1 - d = omega arith in
               let of_run : (rank_at m j).kind ≡ kind = r.run j (omega arith) (omega arith) in
               ap word_of (ranks_more m j end (omega (arith, b.some, b.most)))
-              ∙ follower_unseen (rank_at m j) (ranks_for m (suc j) (end - suc j)) (b.stands.beside.flat j (omega (arith, here))) (ap is_follower of_run ∙ is-follower kind class c g h)
+              ∙ follower_unseen (rank_at m j) (ranks_for m (suc j) (end - suc j)) (b.stands.beside.flat j (omega (arith, here))) (ap is_follower of_run ∙ is_follower_lem kind class c g h)
               ∙ ap (λ (x : ℕ). word_of (ranks_for m x (end - x))) q ∙ unseen d (omega arith)
 
           module _ {opener : ℕ} (o : opener ≡ get_or after (first * row_width) 0) where
             opener_here : (rank_at m first).kind ≡ opener
             opener_here = sym (o ∙ ap (λ (x : Rank). x.kind) (ranks_stay m after n (n - first) r.is first))
 
-            pub opener-known : opener ≤ kind_most
-            opener-known = omega (arith, opener_here, (b.stands.beside.flat first first_here).known)
+            pub opener_known : opener ≤ kind_most
+            opener_known = omega (arith, opener_here, (b.stands.beside.flat first first_here).known)
 
-            pub run-turn : {class₂ : ℕ} → class₂ ≡ class_of opener → Turned m n end next after (Row first (bit_or (bit_or word class) class₂))
+            pub run_turn : {class₂ : ℕ} → class₂ ≡ class_of opener → Turned m n end next after (Row first (bit_or (bit_or word class) class₂))
             unfolding Turned
-            run-turn {class₂} e =
+            run_turn {class₂} e =
                 let whole : next - 1 - (next - 1 - suc first) ≡ suc first = omega (arith, r.less) in
                 let behind : bit_or word class % 4096 ≡ word_of (ranks_for m (suc first) (end - suc first)) = seen_here ∙ sym (unseen (next - 1 - suc first) (omega (arith, r.less))) ∙ ap (λ (x : ℕ). word_of (ranks_for m x (end - x))) whole in (
                   record {
@@ -208,7 +208,7 @@ module _ {m : List ℕ} {n end : ℕ} {rows : List ℕ} {next word : ℕ} (b : L
                   where
                     by : (3 ≤ (rank_at m j).kind) ⊎ IsTop (rank_at m j) → 3 ≤ (rank_at m j).kind
                     by (inl three) = three
-                    by (inr (t, q)) = top_alone t (ap is_follower (sym (ap (λ (s : Rank). s.kind) q) ∙ r.run j x y) ∙ is-follower kind class c g h)
+                    by (inr (t, q)) = top_alone t (ap is_follower (sym (ap (λ (s : Rank). s.kind) q) ∙ r.run j x y) ∙ is_follower_lem kind class c g h)
 
                 later : (j : ℕ) → first < j → j < end → (z : Bool) → eqb (next - j) 0 ≡ z → 3 ≤ (rank_at m j).kind
                 later j x y true z = let e = eqb-true (next - j) 0 z in b.inner j (omega arith) y
@@ -218,10 +218,10 @@ module _ {m : List ℕ} {n end : ℕ} {rows : List ℕ} {next word : ℕ} (b : L
                 at j x y true z = subst (λ (i : ℕ). 3 ≤ (rank_at m i).kind) (sym (eqb-true j first z)) (inner_at first first_here r.inside)
                 at j x y false z = let d = eqb-false j first z in later j (omega arith) y (eqb (next - j) 0) refl
 
-      pub envelope-turn : 0x4000 ≤ class → Turned m n end next rows (Envelope (next - 1) (bit_or word class % 4096))
+      pub envelope_turn : 0x4000 ≤ class → Turned m n end next rows (Envelope (next - 1) (bit_or word class % 4096))
       unfolding Turned
-      envelope-turn g =
-          let e = is-envelope kind class c g in
+      envelope_turn g =
+          let e = is_envelope_lem kind class c g in
           record {
             less = omega (arith, b.some, b.most);
             opened = at (b.stands.each (next - 1) here);
@@ -239,7 +239,7 @@ module _ {m : List ℕ} {n end : ℕ} {rows : List ℕ} {next word : ℕ} (b : L
               by false false p q t = false_not t
 
           at : (3 ≤ (rank_at m (next - 1)).kind) ⊎ IsTop (rank_at m (next - 1)) → IsTop (rank_at m (next - 1))
-          at (inl three) = absurd (low (is_envelope kind) refl (is-envelope kind class c g) (omega (arith, kind_here)))
+          at (inl three) = absurd (low (is_envelope kind) refl (is_envelope_lem kind class c g) (omega (arith, kind_here)))
           at (inr own) = own
 
 -- The turns

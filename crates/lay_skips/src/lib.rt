@@ -1,4 +1,6 @@
 // What is laid over rows once they are all read: their skip numbers, and a word for each envelope. One pass, from the last row to the first.
+#![tactic(auto)]
+
 ghost use Rattle.std.specs.Prelude.{List, ◌∷◌, ◌≡◌, ℕ, ◌<◌, length};
 ghost use Rattle.meaning.specs.Memory.{laid_over};
 ghost use Rattle.skips.specs.Classes.{ClassesAre};

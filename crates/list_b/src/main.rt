@@ -1,6 +1,8 @@
 // The listing program for edition B.
-use libc::STDIN_FILENO;
+#![tactic(auto)]
 
-fn main() {
-    lister::list(1, STDIN_FILENO);
+use std::io;
+
+fn main(rt: HostRuntime) -> io::Result<()> {
+    lister::list(1, &mut rt.reader(), &mut io::writer(&rt))
 }

@@ -1,12 +1,16 @@
 // The body of document 01's listing programs: "reads at most 65,536 bytes from standard input (longer: the one line `too long`), lends 3,072 rows".
 // No contract can speak of what a program reads or writes. Promised are the text of `read_table`, which is the listing, its pieces, which leave
 // no gap (`listing::next`), how much `print` lends, which inputs are too long, and the line of `too_long`. Of `list` it is proved that it is safe
-// and ends; what is handed to standard output is run and compared.
-ghost use Rattle.std.specs.Prelude.{◌≡◌, ltb};
+// and ends; what is handed to the writer is run and compared. A reader's or a writer's error is handed up as it is, and no other is made.
+#![tactic(auto)]
+
+ghost use Rattle.std.specs.Prelude.{◌≡◌, ◌≤◌, ltb, length, IfOk};
 ghost use Rattle.meaning.specs.Listing.{input_most};
 ghost use Rattle.lister.specs.Promise.{TablePromise, PrintPromise, LongPromise, Turned};
 
-use libc::STDOUT_FILENO;
+use std::io;
+use std::io::{ErrorKind, Read, Write};
+
 use listing::Piece;
 use table::limits::WORDS_BORROWED;
 use table::reply::Reply;
@@ -16,16 +20,38 @@ const INPUT_MOST: usize = 65536;
 
 const ROWS_LENT: usize = 3072;
 
-// The listing of what a descriptor reads, in this edition, to standard output. The one byte more tells an input that is too long.
-pub fn list(edition: u32, from: i32) {
+// Memory for a piece of the listing.
+const PIECE_LENT: usize = 4096;
+
+// The listing of what `from` gives, in this edition, to `to`. The one byte more tells an input that is too long.
+pub fn list<R: Read, W: Write>(edition: u32, from: &mut R, to: &mut W) -> io::Result<()> {
     let mut input = [0u8; 65537];
-    let n = io::read_full(from, &mut input);
+    let n = read_full(from, &mut input)?;
     if is_long(n) {
         let line = too_long();
-        io::write_all(STDOUT_FILENO, &line);
-        return;
+        return to.write_all(&line);
     }
-    print(edition, &input[..n]);
+    print(edition, &input[..n], to)?;
+    Ok(())
+}
+
+// Reads until the buffer is full or the input ends, again where a signal interrupts it. Answers how many bytes were read.
+fn read_full<R: Read>(from: &mut R, buffer: &mut [u8]) -> io::Result<usize>
+    ensures { IfOk result (λ n. n ≤ length buffer.new) }
+{
+    let mut n: usize = 0;
+    for _ in 0..u64::MAX {
+        match from.read(&mut buffer[n..]) {
+            Ok(0) => return Ok(n),
+            Ok(more) => n += more,
+            Err(e) => {
+                if e.kind() != ErrorKind::Interrupted {
+                    return Err(e);
+                }
+            }
+        }
+    }
+    Ok(n)
 }
 
 // Takes how many bytes were read. Answers whether they are too long.
@@ -42,15 +68,15 @@ pub fn too_long() -> [u8; 9]
     [b't', b'o', b'o', b' ', b'l', b'o', b'n', b'g', b'\n']
 }
 
-// Lists this input. "lends 3,072 rows"; and the words that the reader borrows. Answers what the reader answered.
-pub fn print(edition: u32, input: &[u8]) -> Reply
-    ensures { PrintPromise edition input.now result }
+// Lists this input. "lends 3,072 rows"; and the words that the reader borrows. Answers what the reader answered, or the writer's error.
+pub fn print<W: Write>(edition: u32, input: &[u8], to: &mut W) -> io::Result<Reply>
+    ensures { IfOk result (λ answer. PrintPromise edition input.now answer) }
 {
     let mut rows = [0u32; ROWS_LENT * ROW_NUMBERS];
     let mut words = [0u32; WORDS_BORROWED];
     let table = read_table(edition, input, &mut rows, &mut words);
-    print_lines(table.answer, table.place, table.rows, &rows, input);
-    table
+    print_lines(table.answer, table.place, table.rows, &rows, input, to)?;
+    Ok(table)
 }
 
 // The reader's answer and rows, whose text is the listing.
@@ -61,17 +87,25 @@ pub fn read_table(edition: u32, input: &[u8], rows: &mut [u32], words: &mut [u32
 }
 
 // Piece by piece until one is empty, which is the text's end.
-fn print_lines(answer: u32, place: usize, count: usize, rows: &[u32], input: &[u8]) {
-    let mut piece = print_piece(answer, place, count, rows, input, 0, 0);
+fn print_lines<W: Write>(
+    answer: u32,
+    place: usize,
+    count: usize,
+    rows: &[u32],
+    input: &[u8],
+    to: &mut W,
+) -> io::Result<()> {
+    let mut piece = print_piece(answer, place, count, rows, input, 0, 0, to)?;
     while 0 < piece.length {
         let line = piece.line;
         let byte = piece.byte;
-        piece = print_piece(answer, place, count, rows, input, line, byte);
+        piece = print_piece(answer, place, count, rows, input, line, byte, to)?;
     }
+    Ok(())
 }
 
 // The next piece, and the cursor behind it.
-fn print_piece(
+fn print_piece<W: Write>(
     answer: u32,
     place: usize,
     count: usize,
@@ -79,12 +113,13 @@ fn print_piece(
     input: &[u8],
     line: usize,
     byte: usize,
-) -> Piece
-    ensures { Turned answer place count rows.now input.now line byte result }
+    to: &mut W,
+) -> io::Result<Piece>
+    ensures { IfOk result (λ next. Turned answer place count rows.now input.now line byte next) }
 {
-    let mut out = io::buffer();
+    let mut out = [0u8; PIECE_LENT];
     let piece = listing::next(answer, place, count, rows, input, line, byte, &mut out);
     let length = piece.length;
-    io::write_all(STDOUT_FILENO, &out[..length]);
-    piece
+    to.write_all(&out[..length])?;
+    Ok(piece)
 }

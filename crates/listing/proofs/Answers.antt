@@ -13,7 +13,7 @@ use Rattle.listing.specs.Pieces.{piece_least, cursor, row_stop, line_stop, stop_
 use Rattle.pen.specs.Wrote.{Wrote}
 use Rattle.listing.specs.Stages.{RowPiece}
 use Rattle.listing.proofs.Written.{piece_of, no_piece, stops_at}
-use Rattle.listing.specs.Cursors.{first_then, first_some, text-over, line-numbers, line-views}
+use Rattle.listing.specs.Cursors.{first_then, first_some, text_over, line_numbers, line_views}
 
 -- where a piece stops, by the tests of the code
 module _ (answer count : ℕ) (rows bytes : List ℕ) (line byte room : ℕ) where
@@ -44,18 +44,18 @@ module _ (answer count : ℕ) (rows bytes : List ℕ) (line byte room : ℕ) whe
         row (suc i) some l = let q : suc i - 1 ≡ i = omega arith in rw (q, lt-ltb i (lines_of answer count rows) (omega arith)) refl
 
 module _ (answer place count : ℕ) (rows bytes : List ℕ) (line byte : ℕ) {before : List ℕ} where
-  pub next-short : length before < piece_least → NextPiece answer place count rows bytes line byte before before (record { length = 0; line = line; byte = byte })
-  next-short h = stops_at (stop_short answer count rows bytes line byte (length before) h) (no_piece (λ room. absurd (omega arith)))
+  pub next_short : length before < piece_least → NextPiece answer place count rows bytes line byte before before (record { length = 0; line = line; byte = byte })
+  next_short h = stops_at (stop_short answer count rows bytes line byte (length before) h) (no_piece (λ room. absurd (omega arith)))
 
-  pub next-first : {after : List ℕ} {end : ℕ} → piece_least ≤ length before → line ≡ 0 → Wrote before after 0 (first_line (reply answer place count)) end → NextPiece answer place count rows bytes line byte before after (record { length = end; line = 1; byte = 0 })
-  next-first {end = end} h l w =
+  pub next_first : {after : List ℕ} {end : ℕ} → piece_least ≤ length before → line ≡ 0 → Wrote before after 0 (first_line (reply answer place count)) end → NextPiece answer place count rows bytes line byte before after (record { length = end; line = 1; byte = 0 })
+  next_first {end = end} h l w =
       let some : 1 ≤ end = omega (arith, w.ends, first_some answer place count) in
       stops_at (stop_first answer count rows bytes line byte (length before) h l) (piece_of w (ap (λ (k : ℕ). text_at answer place count rows bytes k byte) l ∙ first_then answer place count rows bytes byte) some)
 
-  pub next-over : piece_least ≤ length before → lines_of answer count rows < line → NextPiece answer place count rows bytes line byte before before (record { length = 0; line = line; byte = byte })
-  next-over h l = stops_at (stop_over answer count rows bytes line byte (length before) h l) (no_piece (λ room. text-over answer place count rows bytes line byte l))
+  pub next_over : piece_least ≤ length before → lines_of answer count rows < line → NextPiece answer place count rows bytes line byte before before (record { length = 0; line = line; byte = byte })
+  next_over h l = stops_at (stop_over answer count rows bytes line byte (length before) h l) (no_piece (λ room. text_over answer place count rows bytes line byte l))
 
   pub next_row : {after : List ℕ} {r : Piece} → piece_least ≤ length before → 1 ≤ line → line ≤ lines_of answer count rows → RowPiece (row_of rows (line - 1)) bytes line byte before after r → NextPiece answer place count rows bytes line byte before after r
   next_row h some l p =
       stops_at (stop_row answer count rows bytes line byte (length before) h some l)
-      (p.is (text_at answer place count rows bytes) (line-numbers answer place count rows bytes line some l) (line-views answer place count rows bytes line some l))
+      (p.is (text_at answer place count rows bytes) (line_numbers answer place count rows bytes line some l) (line_views answer place count rows bytes line some l))

@@ -21,22 +21,22 @@ use Rattle.listing.proofs.Written.{piece_of, stops_at}
 use Rattle.listing.specs.Cursors.{view_rest, view_chunk, hex_length, fields_some}
 
 module _ (view : List ℕ) (gone line : ℕ) {before after : List ℕ} {end : ℕ} where
-  pub view-ends : length view - gone ≤ (length before - 1) / 2 → Wrote before after 0 (view_from view gone ++ (0x0a ∷ [])) end → 1 ≤ end
+  pub view_ends : length view - gone ≤ (length before - 1) / 2 → Wrote before after 0 (view_from view gone ++ (0x0a ∷ [])) end → 1 ≤ end
       → ViewPiece view gone line before after (record { length = end; line = line + 1; byte = 0 })
-  view-ends room w h =
+  view_ends room w h =
       let q : cursor (line + 1) 0 ≡ view_stop (length before) line (length view) gone = rw (le-leb (length view - gone) ((length before - 1) / 2) room) refl in
       record { is = λ text v. stops_at q (piece_of w (v gone ∙ sym (append_assoc (view_from view gone) (0x0a ∷ []) (text (line + 1) 0))) h) }
 
-  pub view-last : gone < length view → length view - gone ≤ (length before - 1) / 2 → Wrote before after 0 (hex_of (take (length view - gone) (drop gone view)) ++ (0x0a ∷ [])) end
+  pub view_last : gone < length view → length view - gone ≤ (length before - 1) / 2 → Wrote before after 0 (hex_of (take (length view - gone) (drop gone view)) ++ (0x0a ∷ [])) end
       → ViewPiece view gone line before after (record { length = end; line = line + 1; byte = 0 })
-  view-last h room w =
+  view_last h room w =
       let rest = take (length view - gone) (drop gone view) in
       let q = ap hex_of (take_all (length view - gone) (drop gone view) (omega (arith, length-drop gone view))) ∙ sym (view_rest view gone h) in
-      view-ends room (wrote_as (ap (λ (x : List ℕ). x ++ (0x0a ∷ [])) q) w) (omega (arith, w.ends, length-append (hex_of rest) (0x0a ∷ [])))
+      view_ends room (wrote_as (ap (λ (x : List ℕ). x ++ (0x0a ∷ [])) q) w) (omega (arith, w.ends, length-append (hex_of rest) (0x0a ∷ [])))
 
-  pub view-goes : (shown : ℕ) → shown ≡ gone + (length before - 1) / 2 → piece_least ≤ length before → (length before - 1) / 2 < length view - gone → Wrote before after 0 (hex_of (take (shown - gone) (drop gone view))) end
+  pub view_goes : (shown : ℕ) → shown ≡ gone + (length before - 1) / 2 → piece_least ≤ length before → (length before - 1) / 2 < length view - gone → Wrote before after 0 (hex_of (take (shown - gone) (drop gone view))) end
       → ViewPiece view gone line before after (record { length = end; line = line; byte = shown + 1 })
-  view-goes shown is some room w =
+  view_goes shown is some room w =
       let chunk = take (shown - gone) (drop gone view) in
       let q : cursor line (shown + 1) ≡ view_stop (length before) line (length view) gone = rw (is, lt-leb (length view - gone) ((length before - 1) / 2) room) refl in
       let many : 1 ≤ end = omega (arith, w.ends, hex_length chunk, length-take (shown - gone) (drop gone view), length-drop gone view) in
@@ -85,15 +85,15 @@ module _ (rows bytes : List ℕ) (line byte : ℕ) where
   unfolding row_of
   part_is = let q : first + row_width - first ≡ row_width = omega arith in ap (λ (n : ℕ). take n (drop first rows)) q
 
-  pub numbers-piece : {before after : List ℕ} {end : ℕ} → byte ≡ 0 → 1 ≤ line → line ≤ room_of rows → Wrote before after 0 (fields_of part) end
+  pub numbers_piece : {before after : List ℕ} {end : ℕ} → byte ≡ 0 → 1 ≤ line → line ≤ room_of rows → Wrote before after 0 (fields_of part) end
       → RowPiece (row_of rows (line - 1)) bytes line byte before after (record { length = end; line = line; byte = 1 })
-  numbers-piece {before} {after} {end} b some within w =
+  numbers_piece {before} {after} {end} b some within w =
       let long : 1 ≤ length part = omega (arith, length-take (first + row_width - first) (drop first rows), length-drop first rows) in
       let many : 1 ≤ end = omega (arith, w.ends, fields_some part long) in
       record { is = λ text n v. stops_at (rw b refl) (piece_of (wrote_as (ap fields_of part_is) w) (ap (text line) b ∙ n) many) }
 
-  pub view-piece : {before after : List ℕ} {r : Piece} → (byte ≡ 0 → ⊥) → ViewPiece (view_of part bytes) (byte - 1) line before after r → RowPiece (row_of rows (line - 1)) bytes line byte before after r
-  view-piece {before} {after} {r} b p =
+  pub view_piece : {before after : List ℕ} {r : Piece} → (byte ≡ 0 → ⊥) → ViewPiece (view_of part bytes) (byte - 1) line before after r → RowPiece (row_of rows (line - 1)) bytes line byte before after r
+  view_piece {before} {after} {r} b p =
       let q : byte - 1 + 1 ≡ byte = omega arith in
       let o : ViewPiece (view_of (row_of rows (line - 1)) bytes) (byte - 1) line before after r = subst (λ (x : List ℕ). ViewPiece (view_of x bytes) (byte - 1) line before after r) part_is p in
       record { is = λ text n v. stops_at (row_stop_lem (length before) line (length (view_of (row_of rows (line - 1)) bytes)) byte b) (subst (λ (k : ℕ). PieceOf text (view_stop (length before) line (length (view_of (row_of rows (line - 1)) bytes)) (byte - 1)) line k before after r) q (o.is text v)) }

@@ -91,25 +91,25 @@ module _ (answer place count : ℕ) (rows bytes : List ℕ) where
   unfolding text_at
   first_then byte = let n : many ≡ many - 0 = omega arith in ap (λ (x : List ℕ). first_line (reply answer place count) ++ x) (ap (lines_from rows bytes 0) n ∙ sym (lines_at 0))
 
-  pub text-over : (line byte : ℕ) → many < line → text line byte ≡ []
+  pub text_over : (line byte : ℕ) → many < line → text line byte ≡ []
   unfolding text_at
-  text-over zero byte h = absurd (omega arith)
-  text-over (suc i) byte h = rw (le-ltb i many (omega arith)) refl
+  text_over zero byte h = absurd (omega arith)
+  text_over (suc i) byte h = rw (le-ltb i many (omega arith)) refl
 
   row_at : (i byte : ℕ) → i < many → text (suc i) byte ≡ row_from rows bytes i byte ++ lines_from rows bytes (suc i) (many - suc i)
   unfolding text_at
   row_at i byte h = rw (lt-ltb i many h) refl
 
-  pub numbers-at : (i : ℕ) → i < many → text (suc i) 0 ≡ fields_of (row_of rows i) ++ text (suc i) 1
+  pub numbers_at : (i : ℕ) → i < many → text (suc i) 0 ≡ fields_of (row_of rows i) ++ text (suc i) 1
   unfolding row_from row_text view_from
-  numbers-at i h =
+  numbers_at i h =
       let behind = lines_from rows bytes (suc i) (many - suc i) in
       let view = viewed (view_of (row_of rows i) bytes) in
       row_at i 0 h ∙ ap (λ (x : List ℕ). x ++ behind) (line_of_fields (row_of rows i) view) ∙ append_assoc (fields_of (row_of rows i)) (view ++ (0x0a ∷ [])) behind ∙ ap (λ (x : List ℕ). fields_of (row_of rows i) ++ x) (sym (row_at i 1 h))
 
-  pub views-at : (i : ℕ) → i < many → ViewAt text (view_of (row_of rows i) bytes) (suc i)
+  pub views_at : (i : ℕ) → i < many → ViewAt text (view_of (row_of rows i) bytes) (suc i)
   unfolding row_from
-  views-at i h k =
+  views_at i h k =
       let view = view_from (view_of (row_of rows i) bytes) k in
       ap (text (suc i)) (add-one k) ∙ row_at i (suc k) h ∙ append_assoc view (0x0a ∷ []) (lines_from rows bytes (suc i) (many - suc i))
       ∙ ap (λ (x : List ℕ). view ++ (0x0a ∷ x)) (sym (lines_at (suc i)) ∙ ap (λ (l : ℕ). text l 0) (sym (add-one (suc i))))
@@ -118,8 +118,8 @@ module _ (answer place count : ℕ) (rows bytes : List ℕ) where
     before_line : suc (line - 1) ≡ line
     before_line = omega arith
 
-    pub line-numbers : text line 0 ≡ fields_of (row_of rows (line - 1)) ++ text line 1
-    line-numbers = subst (λ (l : ℕ). text l 0 ≡ fields_of (row_of rows (line - 1)) ++ text l 1) before_line (numbers-at (line - 1) (omega arith))
+    pub line_numbers : text line 0 ≡ fields_of (row_of rows (line - 1)) ++ text line 1
+    line_numbers = subst (λ (l : ℕ). text l 0 ≡ fields_of (row_of rows (line - 1)) ++ text l 1) before_line (numbers_at (line - 1) (omega arith))
 
-    pub line-views : ViewAt text (view_of (row_of rows (line - 1)) bytes) line
-    line-views = subst (ViewAt text (view_of (row_of rows (line - 1)) bytes)) before_line (views-at (line - 1) (omega arith))
+    pub line_views : ViewAt text (view_of (row_of rows (line - 1)) bytes) line
+    line_views = subst (ViewAt text (view_of (row_of rows (line - 1)) bytes)) before_line (views_at (line - 1) (omega arith))

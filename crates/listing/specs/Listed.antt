@@ -60,13 +60,13 @@ module _ (edition : ℕ) (input lent words : List ℕ) (t : T (are_bytes input))
   roomy : room_with lent words ≡ room_of lent
   roomy = rw (le-leb words_borrowed (length words) enough) refl
 
-  pub text-listed : text_at answer place count rows input 0 0 ≡ listing_of (room_of lent) (read edition input)
+  pub text_listed : text_at answer place count rows input 0 0 ≡ listing_of (room_of lent) (read edition input)
   unfolding answer_by rows_by
-  text-listed =
+  text_listed =
       ap (λ (r : Reply). text_of r rows input) replies ∙ ap (λ (x : List ℕ). text_of (read_answer edition input lent words) x input) lends
       ∙ ap (λ (n : ℕ). text_of (read_reply n (read edition input)) (read_memory n table_of lent (read edition input)) input) roomy ∙ reply_listed edition input lent t (read edition input) refl
 
   -- "reads at most 65,536 bytes from standard input .., lends 3,072 rows"
-  pub text-whole : length input ≤ input_most → room_of lent ≡ rows_lent → text_at answer place count rows input 0 0 ≡ listing edition input
+  pub text_whole : length input ≤ input_most → room_of lent ≡ rows_lent → text_at answer place count rows input 0 0 ≡ listing edition input
   unfolding listing
-  text-whole few room = text-listed ∙ ap (λ (n : ℕ). listing_of n (read edition input)) room ∙ rw (le-ltb input_most (length input) few) refl
+  text_whole few room = text_listed ∙ ap (λ (n : ℕ). listing_of n (read edition input)) room ∙ rw (le-ltb input_most (length input) few) refl

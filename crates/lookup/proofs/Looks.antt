@@ -37,23 +37,23 @@ module _ (rows words : List ℕ) (code : ℕ) where
       at (suc hops) = rw (le-leb (room_of rows) i h) refl
 
   -- before it, one more hop of the definition
-  abbrev look-once : ℕ → ℕ → ℕ → ℕ → Looked
-  look-once hops looked envelopes i =
+  abbrev look_once : ℕ → ℕ → ℕ → ℕ → Looked
+  look_once hops looked envelopes i =
       let kind = kind_lent rows i in
       let met = is_envelope kind in
       let entered = met && not (left_out words code envelopes kind) in
       let on : Looked = look_on hops rows words code (suc looked) (pick met (suc envelopes) envelopes) (pick entered (suc i) (skip_lent rows i)) in
       pick (hops_on rows i) (pick (eqb (code_of kind) code) (answers_at i (suc looked)) on) (wrong_skip i)
 
-  look_more : (hops looked envelopes i : ℕ) → i < room_of rows → look_on (suc hops) rows words code looked envelopes i ≡ look-once hops looked envelopes i
+  look_more : (hops looked envelopes i : ℕ) → i < room_of rows → look_on (suc hops) rows words code looked envelopes i ≡ look_once hops looked envelopes i
   unfolding look_on
   look_more hops looked envelopes i l = rw (lt-leb (room_of rows) i l) refl
 
-  turn : {looked envelopes i : ℕ} → Standing looked envelopes i → i < room_of rows → (hops : ℕ) × (room_of rows ≤ suc i + hops) × (looked_up rows words code ≡ look-once hops looked envelopes i)
+  turn : {looked envelopes i : ℕ} → Standing looked envelopes i → i < room_of rows → (hops : ℕ) × (room_of rows ≤ suc i + hops) × (looked_up rows words code ≡ look_once hops looked envelopes i)
   turn {looked} {envelopes} {i} s l = at s.hops s.enough s.is
     where
       at : (hops : ℕ) → room_of rows ≤ i + hops → looked_up rows words code ≡ look_on hops rows words code looked envelopes i
-          → (hops : ℕ) × (room_of rows ≤ suc i + hops) × (looked_up rows words code ≡ look-once hops looked envelopes i)
+          → (hops : ℕ) × (room_of rows ≤ suc i + hops) × (looked_up rows words code ≡ look_once hops looked envelopes i)
       at zero e q = absurd (omega arith)
       at (suc hops) e q = (hops, omega arith, q ∙ look_more hops looked envelopes i l)
 
@@ -62,14 +62,14 @@ module _ (rows words : List ℕ) (code : ℕ) where
     wrong : hops_on rows i ≡ false → looked_up rows words code ≡ wrong_skip i
     wrong h = let (hops, e, q) = turn s l in q ∙ stuck hops
       where
-        stuck : (hops : ℕ) → look-once hops looked envelopes i ≡ wrong_skip i
+        stuck : (hops : ℕ) → look_once hops looked envelopes i ≡ wrong_skip i
         stuck hops = rw h refl
 
-    pub not-above : skip_lent rows i ≤ i → looked_up rows words code ≡ wrong_skip i
-    not-above h = wrong (rw (le-ltb i (skip_lent rows i) h) refl)
+    pub not_above : skip_lent rows i ≤ i → looked_up rows words code ≡ wrong_skip i
+    not_above h = wrong (rw (le-ltb i (skip_lent rows i) h) refl)
 
-    pub past-count : i < skip_lent rows i → room_of rows < skip_lent rows i → looked_up rows words code ≡ wrong_skip i
-    past-count a h = wrong (rw (lt-ltb i (skip_lent rows i) a, lt-leb (skip_lent rows i) (room_of rows) h) refl)
+    pub past_count : i < skip_lent rows i → room_of rows < skip_lent rows i → looked_up rows words code ≡ wrong_skip i
+    past_count a h = wrong (rw (lt-ltb i (skip_lent rows i) a, lt-leb (skip_lent rows i) (room_of rows) h) refl)
 
     -- a skip number that does
     module _ (a : i < skip_lent rows i) (m : skip_lent rows i ≤ room_of rows) where
@@ -79,7 +79,7 @@ module _ (rows words : List ℕ) (code : ℕ) where
       pub hit : code_of (kind_lent rows i) ≡ code → looked_up rows words code ≡ answers_at i (looked + 1)
       hit c = let (hops, e, q) = turn s l in q ∙ answered hops ∙ ap (answers_at i) (omega arith)
         where
-          answered : (hops : ℕ) → look-once hops looked envelopes i ≡ answers_at i (suc looked)
+          answered : (hops : ℕ) → look_once hops looked envelopes i ≡ answers_at i (suc looked)
           answered hops = rw (leads, eq-eqb (code_of (kind_lent rows i)) code c) refl
 
       onward : (met left : Bool) → is_envelope (kind_lent rows i) ≡ met → left_out words code envelopes (kind_lent rows i) ≡ left → (code_of (kind_lent rows i) ≡ code → ⊥)
@@ -88,7 +88,7 @@ module _ (rows words : List ℕ) (code : ℕ) where
           let (hops, e, q) = turn s l in
           record { hops = hops; is = q ∙ goes hops; enough = omega (arith, place.0); within = place.1; few = omega (arith, place.0, s.few); met = omega (arith, place.0, count, s.met) }
         where
-          goes : (hops : ℕ) → look-once hops looked envelopes i ≡ look_on hops rows words code (suc looked) (pick met (suc envelopes) envelopes) (pick (met && not left) (suc i) (skip_lent rows i))
+          goes : (hops : ℕ) → look_once hops looked envelopes i ≡ look_on hops rows words code (suc looked) (pick met (suc envelopes) envelopes) (pick (met && not left) (suc i) (skip_lent rows i))
           goes hops = rw (leads, ne_eqb (code_of (kind_lent rows i)) code n, p, r) refl
 
           placed : (b : Bool) → (suc i ≤ pick b (suc i) (skip_lent rows i)) × (pick b (suc i) (skip_lent rows i) ≤ room_of rows)
@@ -113,18 +113,18 @@ standing_as {rows} {words} {code} {looked} {looked₁} {envelopes} {envelopes₁
 
 module _ {rows words : List ℕ} {code looked envelopes i kind skip : ℕ} (s : Standing rows words code looked envelopes i) (l : i < room_of rows) (k : kind ≡ kind_lent rows i) (p : skip ≡ skip_lent rows i) where
   pub skip_below : skip ≤ i → looked_up rows words code ≡ wrong_skip i
-  skip_below h = not-above rows words code s l (omega (arith, p))
+  skip_below h = not_above rows words code s l (omega (arith, p))
 
-  pub skip-past : i < skip → room_of rows < skip → looked_up rows words code ≡ wrong_skip i
-  skip-past n h = past-count rows words code s l (omega (arith, p)) (omega (arith, p))
+  pub skip_past : i < skip → room_of rows < skip → looked_up rows words code ≡ wrong_skip i
+  skip_past n h = past_count rows words code s l (omega (arith, p)) (omega (arith, p))
 
   module _ (a : i < skip) (m : skip ≤ room_of rows) where
     pub answered : code_of kind ≡ code → looked_up rows words code ≡ answers_at i (looked + 1)
     answered c = hit rows words code s l (omega (arith, p)) (omega (arith, p)) (ap code_of (sym k) ∙ c)
 
     -- an envelope, entered or left out
-    pub past-envelope : {to : ℕ} → is_envelope kind ≡ true → (code_of kind ≡ code → ⊥) → to ≡ pick (not (left_out words code envelopes kind)) (suc i) skip → Standing rows words code (looked + 1) (envelopes + 1) to
-    past-envelope {to} v n t =
+    pub past_envelope : {to : ℕ} → is_envelope kind ≡ true → (code_of kind ≡ code → ⊥) → to ≡ pick (not (left_out words code envelopes kind)) (suc i) skip → Standing rows words code (looked + 1) (envelopes + 1) to
+    past_envelope {to} v n t =
         let on = onward rows words code s l (omega (arith, p)) (omega (arith, p)) true (left_out words code envelopes (kind_lent rows i)) (ap is_envelope (sym k) ∙ v) refl (λ c. n (ap code_of k ∙ c)) in
         let q : pick (not (left_out words code envelopes (kind_lent rows i))) (suc i) (skip_lent rows i) ≡ to = rw (sym k, sym p) (sym t) in
         standing_as (omega arith) (omega arith) q on
@@ -166,9 +166,9 @@ entry_forward i skip false q h = omega arith
 -- The whole answer
 
 module _ (rows words : List ℕ) (code : ℕ) where
-  pub not-asked : can_ask code ≡ false → reply 17 0 0 ≡ lookup rows words code
+  pub not_asked : can_ask code ≡ false → reply 17 0 0 ≡ lookup rows words code
   unfolding lookup
-  not-asked a = rw a refl
+  not_asked a = rw a refl
 
   module _ (a : can_ask code ≡ true) where
     pub few_words : length words < 16 → reply 14 0 0 ≡ lookup rows words code
@@ -176,10 +176,10 @@ module _ (rows words : List ℕ) (code : ℕ) where
     few_words h = rw (a, lt-leb 16 (length words) h) refl
 
     module _ (w : 16 ≤ length words) where
-      pub not-whole : eqb (length rows % row_width) 0 ≡ false → reply 15 (room_of rows) 0 ≡ lookup rows words code
+      pub not_whole : eqb (length rows % row_width) 0 ≡ false → reply 15 (room_of rows) 0 ≡ lookup rows words code
       unfolding lookup
-      not-whole h = rw (a, le-leb 16 (length words) w, h) refl
+      not_whole h = rw (a, le-leb 16 (length words) w, h) refl
 
-      pub whole-rows : eqb (length rows % row_width) 0 ≡ true → looked_reply (looked_up rows words code) ≡ lookup rows words code
+      pub whole_rows : eqb (length rows % row_width) 0 ≡ true → looked_reply (looked_up rows words code) ≡ lookup rows words code
       unfolding lookup
-      whole-rows h = rw (a, le-leb 16 (length words) w, h) refl
+      whole_rows h = rw (a, le-leb 16 (length words) w, h) refl

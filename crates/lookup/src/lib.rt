@@ -1,4 +1,6 @@
 // Order 8: a value found by hops over any rows and words lent, with the rows looked at counted.
+#![tactic(auto)]
+
 ghost use Rattle.std.specs.Prelude.{true, ◌&&◌, not, ◌≡◌, suc, ◌<◌, ◌≤◌, eqb, length, get_or};
 ghost use Rattle.meaning.specs.Basics.{pick};
 ghost use Rattle.meaning.specs.Codes.{can_ask};

@@ -28,7 +28,7 @@ use Rattle.meaning.specs.Lookup.{look_on, looked_up, lookup}
 use Rattle.meaning.specs.LookupCases.{lookings}
 use Rattle.meaning.specs.Which.{editions_of, read_either, which_answer, which_rows, which_words}
 use Rattle.meaning.specs.WhichCases.{sortings}
-use Rattle.meaning.specs.Relay.{moved_table, relay, relayAnswer, relayRows, relayWords, relayOutput}
+use Rattle.meaning.specs.Relay.{moved_table, relay, relay_answer, relay_rows, relay_words, relay_output}
 use Rattle.meaning.specs.RelayCases.{relaying}
 use Rattle.meaning.specs.Figures.{entry_of, total, figures_of, adds_of, sums, sum_of, messages_in, are_figures, takes_more, add_answer, add_figures, joinable, join_answer, join_figures, report_line, report, report_answer, report_output}
 use Rattle.meaning.specs.FigureCases.{figures}
@@ -58,5 +58,5 @@ and_then false rest = false
 and_then true rest = rest tt
 
 pub bounds : T (and_then (quick && coding.payload && stages && figures && lookings && sortings && presence && skips && relaying && values) (λ _. and_then (presents && days) (λ _. and_then widths (λ _. and_then readings (λ _. and_then breaks (λ _. writings))))))
-unfolding text_byte take_text text_ok turn take_number number_ok last_day passes take_date date_ok high_first too_wide take_bytes block_of take_block block_ok shared own moves take_value find look step_move step run inside envelope header read_by valid write_value way_of fit fit_row close_within close plan_of write_rows belongs belonging held_against cells_of ranks_of skips_of skips_held laid_over write occurs word_of words_of ones_within ones_of answer_by rows_by words_by write_answer write_output payload_start payload_end payload_bytes number_value digits_within digits_of packed decode_number number_decoded number_plain number_bytes number_encoded number_output decode_date date_decoded date_plain date_in_range date_encoded date_output decimal viewed line_of listing_of listing copy_all look_on all_envelopes looked_up present checked present_answer lookup editions_of read_either which_answer which_rows which_words moved_table relay relayAnswer relayRows relayWords relayOutput entry_of total figures_of adds_of sums sum_of messages_in are_figures takes_more add_answer add_figures joinable join_answer join_figures report_line report report_answer report_output
+unfolding text_byte take_text text_ok turn take_number number_ok last_day passes take_date date_ok high_first too_wide take_bytes block_of take_block block_ok shared own moves take_value find look step_move step run inside envelope header read_by valid write_value way_of fit fit_row close_within close plan_of write_rows belongs belonging held_against cells_of ranks_of skips_of skips_held laid_over write occurs word_of words_of ones_within ones_of answer_by rows_by words_by write_answer write_output payload_start payload_end payload_bytes number_value digits_within digits_of packed decode_number number_decoded number_plain number_bytes number_encoded number_output decode_date date_decoded date_plain date_in_range date_encoded date_output decimal viewed line_of listing_of listing copy_all look_on all_envelopes looked_up present checked present_answer lookup editions_of read_either which_answer which_rows which_words moved_table relay relay_answer relay_rows relay_words relay_output entry_of total figures_of adds_of sums sum_of messages_in are_figures takes_more add_answer add_figures joinable join_answer join_figures report_line report report_answer report_output
 bounds = tt

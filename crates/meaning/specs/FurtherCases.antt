@@ -7,7 +7,7 @@ use Rattle.meaning.specs.Reading.{Row, seen, row_of}
 use Rattle.meaning.specs.Headers.{placed_row, meant, header}
 use Rattle.meaning.specs.Memory.{Numbers, row, read_reply, read_answer, read_rows, read_words, write_answer, write_output}
 use Rattle.meaning.specs.Present.{present_answer}
-use Rattle.meaning.specs.Relay.{relayAnswer, relayOutput}
+use Rattle.meaning.specs.Relay.{relay_answer, relay_output}
 use Rattle.meaning.specs.Listing.{listing}
 use Rattle.meaning.specs.Payload.{payload_start, payload_end, payload_bytes}
 use Rattle.meaning.specs.Plain.{Date, number_encoded, date_decoded, date_encoded}
@@ -135,7 +135,7 @@ abbrev not_known : ℕ → Bool
 not_known e =
     reads (refuses e a_base 1 0) && reads (refuses e [] 1 0) && keeps (refuses e a_base 1 0) && writes (unwriting e (base_rows 5 9 []) a_base 99 1 0) && writes (unwriting e [] [] 0 1 0) &&
     same (write_output e (in_memory (base_rows 5 9 [])) a_base (lent 17)) (lent 17) && reply_is 1 0 0 (present_answer e (in_memory (base_rows 5 9 [])) a_base 0x04) && reply_is 1 0 0 (present_answer e [] [] 0xff) &&
-    reply_is 1 0 0 (relayAnswer e a_base (in_memory (extension_rows 0)) an_extension (lent 30) (lent 16) (lent 32)) && same (relayOutput e a_base (in_memory (extension_rows 0)) an_extension (lent 30) (lent 16) (lent 32)) (lent 32) &&
+    reply_is 1 0 0 (relay_answer e a_base (in_memory (extension_rows 0)) an_extension (lent 30) (lent 16) (lent 32)) && same (relay_output e a_base (in_memory (extension_rows 0)) an_extension (lent 30) (lent 16) (lent 32)) (lent 32) &&
     same (listing e a_base) (hex 0x1_31_09_30_09_30_0a)
 
 abbrev editions : List ℕ

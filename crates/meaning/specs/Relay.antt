@@ -124,14 +124,14 @@ relay_memory room space front lent (relayed j) = pick (rooms_hold room space j) 
 
 -- order 6: fewer than sixteen words count as no room, for the relay as for the reader
 module _ (edition : ℕ) (input table pool rows words output : List ℕ) where
-  unfoldable pub relayAnswer : Reply
-  relayAnswer = relay_reply (room_with rows words) (length output) (relay edition input table pool)
+  unfoldable pub relay_answer : Reply
+  relay_answer = relay_reply (room_with rows words) (length output) (relay edition input table pool)
 
-  unfoldable pub relayRows : List ℕ
-  relayRows = relay_memory (room_with rows words) (length output) joined_table rows (relay edition input table pool)
+  unfoldable pub relay_rows : List ℕ
+  relay_rows = relay_memory (room_with rows words) (length output) joined_table rows (relay edition input table pool)
 
-  unfoldable pub relayWords : List ℕ
-  relayWords = relay_memory (room_with rows words) (length output) joined_words words (relay edition input table pool)
+  unfoldable pub relay_words : List ℕ
+  relay_words = relay_memory (room_with rows words) (length output) joined_words words (relay edition input table pool)
 
-  unfoldable pub relayOutput : List ℕ
-  relayOutput = relay_memory (room_with rows words) (length output) bytes_of output (relay edition input table pool)
+  unfoldable pub relay_output : List ℕ
+  relay_output = relay_memory (room_with rows words) (length output) bytes_of output (relay edition input table pool)

@@ -2,7 +2,7 @@
 use Rattle.std.specs.Prelude.{ℕ, zero, suc, ◌+◌, List, [], ◌∷◌, ◌++◌, map, Bool, ◌&&◌, length, replicate}
 use Rattle.meaning.specs.Basics.{every}
 use Rattle.meaning.specs.Memory.{Numbers, row, table_of}
-use Rattle.meaning.specs.Relay.{Joint, Relayed, relayed, unrelayed, relay, moved, bytes_of, relayAnswer, relayRows, relayWords, relayOutput}
+use Rattle.meaning.specs.Relay.{Joint, Relayed, relayed, unrelayed, relay, moved, bytes_of, relay_answer, relay_rows, relay_words, relay_output}
 use Rattle.meaning.specs.Cases.{same, hex, a_date, base_with, in_memory, reply_is}
 use Rattle.meaning.specs.AcceptedCases.{base_rows_at}
 
@@ -44,9 +44,9 @@ relays c =
     let rows = lent c.rows in
     let words = lent c.words in
     let output = lent c.output in
-    reply_is c.answer c.place c.count (relayAnswer c.edition c.input c.table a_new rows words output) &&
-    same (relayRows c.edition c.input c.table a_new rows words output) c.rows_after && same (relayWords c.edition c.input c.table a_new rows words output) c.words_after &&
-    same (relayOutput c.edition c.input c.table a_new rows words output) c.output_after
+    reply_is c.answer c.place c.count (relay_answer c.edition c.input c.table a_new rows words output) &&
+    same (relay_rows c.edition c.input c.table a_new rows words output) c.rows_after && same (relay_words c.edition c.input c.table a_new rows words output) c.words_after &&
+    same (relay_output c.edition c.input c.table a_new rows words output) c.output_after
 
 -- nothing lent changes
 abbrev refusing : ℕ → List ℕ → List ℕ → ℕ → ℕ → ℕ → ℕ → ℕ → ℕ → Case

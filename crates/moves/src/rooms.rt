@@ -6,7 +6,7 @@ ghost use Rattle.moves.specs.Words.{room_of};
 use values::text::Rule;
 
 // A place in the grammar.
-#[derive(Drop)]
+#[derive(Clone, Copy)]
 pub enum Room {
     ReceivedBegins,
     HeadRepresentation,
@@ -34,7 +34,7 @@ pub enum Room {
 
 // How a move's value stands behind its code: a text by its rule; a date, absolute or relative, with a designator or without; a number; bytes behind a
 // length of one, two or four; the code itself; nothing, with a row or without.
-#[derive(Drop)]
+#[derive(Clone, Copy)]
 pub enum Form {
     Text(Rule),
     Date { absolute: bool, designated: bool },
@@ -49,7 +49,7 @@ pub enum Form {
 
 // Where a move leads: to a room at envelope level; inside a received object or a parameter's list; to the one agent of `from`; to a room at the same
 // level; into resolvers; to where the list or the agent that ends here stood.
-#[derive(Drop)]
+#[derive(Clone, Copy)]
 pub enum Next {
     Outer(Room),
     Inner(Room),

@@ -44,9 +44,9 @@ module _ (input : List ℕ) (bytes : T (are_bytes input)) where
   barred edition refusal place q (end, trees, m) = never_both (sym q ∙ message_read m)
 
   -- "the editions that allow the bytes: 1, 2, or 3 for both"
-  pub editions-are-papers : AllowedAs input (editions_of input)
+  pub editions_are_papers : AllowedAs input (editions_of input)
   unfolding editions_of
-  editions-are-papers = by (read 1 input) (read 2 input) refl refl
+  editions_are_papers = by (read 1 input) (read 2 input) refl refl
     where
       by : (a b : Answer) → read 1 input ≡ a → read 2 input ≡ b → AllowedAs input (allowing a b)
       by (refused refusal place) (refused other there) p q =

@@ -17,11 +17,11 @@ use Rattle.laws_steps.specs.Logic.{left_of, right_of, is_true}
 use Rattle.papers.specs.Notation.{Trees, end, tree, flat, size}
 use Rattle.papers.specs.Papers.{Header}
 use Rattle.papers.specs.TreeSkips.{ranks, NotNext, Nested, belonging_is, size_is}
-use Rattle.papers.specs.Nested.{header-nested}
+use Rattle.papers.specs.Nested.{header_nested}
 use Rattle.papers.specs.Laid.{ranks_flat}
 use Rattle.papers.specs.Holding.{lists_agents, kind_in, level_in, may_hold, Tops, Each}
-use Rattle.papers.specs.Held.{opens_envelope, header-holding}
-use Rattle.papers.specs.Children.{has, NoValues, Children, children-of, children-occur, child_bits, tree_words, first_child, first_value}
+use Rattle.papers.specs.Held.{opens_envelope, header_holding}
+use Rattle.papers.specs.Children.{has, NoValues, Children, children_of, children_occur, child_bits, tree_words, first_child, first_value}
 
 -- No envelope stands inside another row
 
@@ -84,7 +84,7 @@ module _ (k n s : ℕ) (v : List ℕ) (inside beside : Trees) (h : T (opens_enve
 
   their : Tops (may_hold (rank k n)) inside → (code : ℕ) → (code ≡ 1 → ⊥) → Children code inside
   their t code open_code =
-      children-of code open_code k inside (ranks beside ++ []) opens (subst (λ (x : ℕ). Tops (may_hold (rank k x)) inside) level_zero_lem t) q.2
+      children_of code open_code k inside (ranks beside ++ []) opens (subst (λ (x : ℕ). Tops (may_hold (rank k x)) inside) level_zero_lem t) q.2
 
 -- Words
 
@@ -96,7 +96,7 @@ passed_over (r ∷ l) rest h = rw h.0 (passed_over l rest h.1)
 word_is : (ts : Trees) → ((code : ℕ) → (code ≡ 1 → ⊥) → Children code ts) → word_of (ranks ts) ≡ child_bits parameter_codes ts
 unfolding word_of
 word_is ts h =
-    let at : (code : ℕ) (o : code ≡ 1 → ⊥) → occurs code (ranks ts) ≡ has code ts = λ code o. children-occur code o ts (h code o) in
+    let at : (code : ℕ) (o : code ≡ 1 → ⊥) → occurs code (ranks ts) ≡ has code ts = λ code o. children_occur code o ts (h code o) in
     rw (at 0 (λ q. omega arith), at 2 (λ q. omega arith), at 3 (λ q. omega arith), at 4 (λ q. omega arith), at 5 (λ q. omega arith), at 6 (λ q. omega arith), at 7 (λ q. omega arith), at 8 (λ q. omega arith), at 9 (λ q. omega arith), at 10 (λ q. omega arith), at 11 (λ q. omega arith)) refl
 
 words_of_trees : (ts : Trees) → Tops opens_envelope ts → Each ts → Nested ts [] → words_of (ranks ts) ≡ tree_words ts
@@ -171,15 +171,15 @@ module _ (code : ℕ) (open_code : code ≡ 1 → ⊥) where
 
 module _ (t : Told) (at : ℕ) (bytes : List ℕ) (ts : Trees) (x : Header t at bytes ts) where
   -- order 6
-  pub words-by-trees : words_of (ranks ts) ≡ tree_words ts
-  words-by-trees = words_of_trees ts ((header-holding t).tops at bytes ts x) ((header-holding t).each at bytes ts x) (header-nested t at bytes ts x)
+  pub words_by_trees : words_of (ranks ts) ≡ tree_words ts
+  words_by_trees = words_of_trees ts ((header_holding t).tops at bytes ts x) ((header_holding t).each at bytes ts x) (header_nested t at bytes ts x)
 
   -- .. as the reader leaves them
-  pub words-read-by-trees : words_read (flat ts) ≡ tree_words ts
-  words-read-by-trees = ap words_of (ranks_flat ts) ∙ words-by-trees
+  pub words_read_by_trees : words_read (flat ts) ≡ tree_words ts
+  words_read_by_trees = ap words_of (ranks_flat ts) ∙ words_by_trees
 
   -- order 1; no parameter has the code 01
-  pub present-by-trees : (code : ℕ) → (code ≡ 1 → ⊥) → present code (ranks ts) ≡ row_or (size ts) (first_value code 0 ts)
+  pub present_by_trees : (code : ℕ) → (code ≡ 1 → ⊥) → present code (ranks ts) ≡ row_or (size ts) (first_value code 0 ts)
   unfolding present
-  present-by-trees code open_code =
-      ap₂ row_or (size_is ts) (values_of_trees code open_code 0 ts empty_envelope ((header-holding t).tops at bytes ts x) ((header-holding t).each at bytes ts x) (header-nested t at bytes ts x))
+  present_by_trees code open_code =
+      ap₂ row_or (size_is ts) (values_of_trees code open_code 0 ts empty_envelope ((header_holding t).tops at bytes ts x) ((header_holding t).each at bytes ts x) (header_nested t at bytes ts x))

@@ -134,23 +134,23 @@ module _ (t : Told) where
     over : {st : State} {at : ℕ} → is_closed st.room ≡ true → Chain st at [] []
     link : {st : State} {at : ℕ} {b : List ℕ} {rows : List Placed} (a : List ℕ) (ts : Trees) → rest st at a ts → Chain (follow st) (at + length a) b rows → Chain st at (a ++ b) (flat ts ++ rows)
 
-  pub re-place : {st : State} {at at' : ℕ} {a : List ℕ} {rows : List Placed} → at ≡ at' → Chain st at a rows → Chain st at' a rows
-  re-place {st} {a} {rows} q s = subst (λ (x : ℕ). Chain st x a rows) q s
+  pub re_place : {st : State} {at at' : ℕ} {a : List ℕ} {rows : List Placed} → at ≡ at' → Chain st at a rows → Chain st at' a rows
+  re_place {st} {a} {rows} q s = subst (λ (x : ℕ). Chain st x a rows) q s
 
-  pub re-byte : {st : State} {at : ℕ} {a a' : List ℕ} {rows : List Placed} → a ≡ a' → Chain st at a rows → Chain st at a' rows
-  re-byte {st} {at} {rows} q s = subst (λ (x : List ℕ). Chain st at x rows) q s
+  pub re_byte : {st : State} {at : ℕ} {a a' : List ℕ} {rows : List Placed} → a ≡ a' → Chain st at a rows → Chain st at a' rows
+  re_byte {st} {at} {rows} q s = subst (λ (x : List ℕ). Chain st at x rows) q s
 
-  pub re-row : {st : State} {at : ℕ} {a : List ℕ} {rows rows' : List Placed} → rows ≡ rows' → Chain st at a rows → Chain st at a rows'
-  re-row {st} {at} {a} q s = subst (λ (x : List Placed). Chain st at a x) q s
+  pub re_row : {st : State} {at : ℕ} {a : List ℕ} {rows rows' : List Placed} → rows ≡ rows' → Chain st at a rows → Chain st at a rows'
+  re_row {st} {at} {a} q s = subst (λ (x : List Placed). Chain st at a x) q s
 
-  pub re-start : {st st' : State} {at : ℕ} {a : List ℕ} {rows : List Placed} → st ≡ st' → Chain st at a rows → Chain st' at a rows
-  re-start {at} {a} {rows} q s = subst (λ (x : State). Chain x at a rows) q s
+  pub re_start : {st st' : State} {at : ℕ} {a : List ℕ} {rows : List Placed} → st ≡ st' → Chain st at a rows → Chain st' at a rows
+  re_start {at} {a} {rows} q s = subst (λ (x : State). Chain x at a rows) q s
 
   -- A move at the front of a chain: it is all that was left of the rule; or what is left behind it makes the rule; or so do two pieces
 
   module _ (st : State) (at : ℕ) (f : List ℕ) (rs : List Placed) where
-    pub all-that : (ts : Trees) → rest st at f ts → flat ts ≡ rs → {b : List ℕ} {rows : List Placed} → Chain (follow st) (at + length f) b rows → Chain st at (f ++ b) (rs ++ rows)
-    all-that ts x q {b} {rows} c = re-row (ap (λ (l : List Placed). l ++ rows) q) (link f ts x c)
+    pub all_that : (ts : Trees) → rest st at f ts → flat ts ≡ rs → {b : List ℕ} {rows : List Placed} → Chain (follow st) (at + length f) b rows → Chain st at (f ++ b) (rs ++ rows)
+    all_that ts x q {b} {rows} c = re_row (ap (λ (l : List Placed). l ++ rows) q) (link f ts x c)
 
     -- what a front and what follows it make
     abbrev pub Made : List ℕ → List Placed → Type 0
@@ -163,13 +163,13 @@ module _ (t : Told) where
       where
         joined : Made b (flat us) → Chain st at (f ++ (b ++ c)) (rs ++ (flat us ++ rows))
         joined (ts, x, q) =
-            re-byte (append_assoc f b c) (re-row (ap (λ (l : List Placed). l ++ rows) q ∙ append_assoc rs (flat us) rows) (link (f ++ b) ts x (re-place (omega (arith, length-append f b)) (re-start same more))))
+            re_byte (append_assoc f b c) (re_row (ap (λ (l : List Placed). l ++ rows) q ∙ append_assoc rs (flat us) rows) (link (f ++ b) ts x (re_place (omega (arith, length-append f b)) (re_start same more))))
 
-    pub two-more : (st₁ st₂ : State) → is_closed st₁.room ≡ false → is_closed st₂.room ≡ false → follow st₁ ≡ st₂ → follow st₂ ≡ follow st
+    pub two_more : (st₁ st₂ : State) → is_closed st₁.room ≡ false → is_closed st₂.room ≡ false → follow st₁ ≡ st₂ → follow st₂ ≡ follow st
         → ((b c : List ℕ) (us vs : Trees) → rest st₁ (at + length f) b us → rest st₂ (at + length f + length b) c vs → Made (b ++ c) (flat us ++ flat vs))
         → {b : List ℕ} {rows : List Placed} → Chain st₁ (at + length f) b rows → Chain st at (f ++ b) (rs ++ rows)
-    two-more st₁ st₂ ajar ajar₂ leads same made (over q) = absurd (false≢true (sym ajar ∙ q))
-    two-more st₁ st₂ ajar ajar₂ leads same made (link {b = bc} {rows} b us y more) = then_two (re-start leads more)
+    two_more st₁ st₂ ajar ajar₂ leads same made (over q) = absurd (false≢true (sym ajar ∙ q))
+    two_more st₁ st₂ ajar ajar₂ leads same made (link {b = bc} {rows} b us y more) = then_two (re_start leads more)
       where
         then_two : {bc : List ℕ} {rows : List Placed} → Chain st₂ (at + length f + length b) bc rows → Chain st at (f ++ (b ++ bc)) (rs ++ (flat us ++ rows))
         then_two (over q) = absurd (false≢true (sym ajar₂ ∙ q))
@@ -177,9 +177,9 @@ module _ (t : Told) where
           where
             joined : Made (b ++ c) (flat us ++ flat vs) → Chain st at (f ++ (b ++ (c ++ d))) (rs ++ (flat us ++ (flat vs ++ rows)))
             joined (ts, x, q) =
-                re-byte (append_assoc f (b ++ c) d ∙ ap (λ (l : List ℕ). f ++ l) (append_assoc b c d))
-                (re-row (ap (λ (l : List Placed). l ++ rows) q ∙ append_assoc rs (flat us ++ flat vs) rows ∙ ap (λ (l : List Placed). rs ++ l) (append_assoc (flat us) (flat vs) rows))
-                (link (f ++ (b ++ c)) ts x (re-place (omega (arith, length-append f (b ++ c), length-append b c)) (re-start same more))))
+                re_byte (append_assoc f (b ++ c) d ∙ ap (λ (l : List ℕ). f ++ l) (append_assoc b c d))
+                (re_row (ap (λ (l : List Placed). l ++ rows) q ∙ append_assoc rs (flat us ++ flat vs) rows ∙ ap (λ (l : List Placed). rs ++ l) (append_assoc (flat us) (flat vs) rows))
+                (link (f ++ (b ++ c)) ts x (re_place (omega (arith, length-append f (b ++ c), length-append b c)) (re_start same more))))
 
   -- Loud and silent moves at the front
 
@@ -198,12 +198,12 @@ module _ (t : Told) where
 
   module _ {st : State} {m : Move} where
     -- its row is all that was left of the rule
-    pub row-alone : Fine (go m.next st) → is_quiet m.form ≡ false → follow st ≡ go m.next st
+    pub row_alone : Fine (go m.next st) → is_quiet m.form ≡ false → follow st ≡ go m.next st
         → ((at : ℕ) (v : List ℕ) → T (allowed t m.form m.code v) → rest st at (standing m v) (tree m.kind st.level (at + start_in m) v end end)) → Back st m
-    row-alone fine row leads made =
+    row_alone fine row leads made =
         record {
           fine = fine;
-          loud = λ q at v b rows ok deep c. all-that st at (standing m v) (placed_row m.kind st.level (at + start_in m) v ∷ []) (tree m.kind st.level (at + start_in m) v end end) (made at v ok) refl (re-start (sym leads) c);
+          loud = λ q at v b rows ok deep c. all_that st at (standing m v) (placed_row m.kind st.level (at + start_in m) v ∷ []) (tree m.kind st.level (at + start_in m) v end end) (made at v ok) refl (re_start (sym leads) c);
           silent = λ q. no_pass (sym row ∙ q);
         }
 
@@ -218,10 +218,10 @@ module _ (t : Told) where
         }
 
     -- .. or holds it
-    pub row-around : Fine (go m.next st) → is_quiet m.form ≡ false → is_closed (go m.next st).room ≡ false → follow (go m.next st) ≡ follow st
+    pub row_around : Fine (go m.next st) → is_quiet m.form ≡ false → is_closed (go m.next st).room ≡ false → follow (go m.next st) ≡ follow st
         → ((at : ℕ) (v : List ℕ) → T (allowed t m.form m.code v) → (m.kind ≡ agent_name → st.level ≤ level_most) → (b : List ℕ) (us : Trees) → rest (go m.next st) (at + length (standing m v)) b us
         → rest st at (standing m v ++ b) (tree m.kind st.level (at + start_in m) v us end)) → Back st m
-    row-around fine row ajar same made =
+    row_around fine row ajar same made =
         record {
           fine = fine;
           loud = λ q at v b rows ok deep c. one_more st at (standing m v) (placed_row m.kind st.level (at + start_in m) v ∷ []) (go m.next st) ajar same
@@ -230,13 +230,13 @@ module _ (t : Told) where
         }
 
     -- .. or holds a piece, and what is left stands beside it
-    pub row-beside : (st₂ : State) → Fine (go m.next st) → is_quiet m.form ≡ false → is_closed (go m.next st).room ≡ false → is_closed st₂.room ≡ false → follow (go m.next st) ≡ st₂ → follow st₂ ≡ follow st
+    pub row_beside : (st₂ : State) → Fine (go m.next st) → is_quiet m.form ≡ false → is_closed (go m.next st).room ≡ false → is_closed st₂.room ≡ false → follow (go m.next st) ≡ st₂ → follow st₂ ≡ follow st
         → ((at : ℕ) (v : List ℕ) → T (allowed t m.form m.code v) → (m.kind ≡ agent_name → st.level ≤ level_most) → (b c : List ℕ) (us vs : Trees) → rest (go m.next st) (at + length (standing m v)) b us
         → rest st₂ (at + length (standing m v) + length b) c vs → rest st at (standing m v ++ (b ++ c)) (tree m.kind st.level (at + start_in m) v us vs)) → Back st m
-    row-beside st₂ fine row ajar ajar₂ leads same made =
+    row_beside st₂ fine row ajar ajar₂ leads same made =
         record {
           fine = fine;
-          loud = λ q at v b rows ok deep c. two-more st at (standing m v) (placed_row m.kind st.level (at + start_in m) v ∷ []) (go m.next st) st₂ ajar ajar₂ leads same
+          loud = λ q at v b rows ok deep c. two_more st at (standing m v) (placed_row m.kind st.level (at + start_in m) v ∷ []) (go m.next st) st₂ ajar ajar₂ leads same
               (λ b c us vs y z. (tree m.kind st.level (at + start_in m) v us vs, made at v ok deep b c us vs y z, refl)) c;
           silent = λ q. no_pass (sym row ∙ q);
         }
@@ -244,14 +244,14 @@ module _ (t : Told) where
     -- a byte without a row, that ends the rule
     pub pass_alone : Fine (go m.next st) → is_quiet m.form ≡ true → follow st ≡ go m.next st → ((at : ℕ) → rest st at (m.code ∷ []) end) → Back st m
     pass_alone fine quiet leads made =
-        record { fine = fine; loud = λ q. no_pass (sym q ∙ quiet); silent = λ q at b rows c. all-that st at (m.code ∷ []) [] end (made at) refl (re-start (sym leads) c) }
+        record { fine = fine; loud = λ q. no_pass (sym q ∙ quiet); silent = λ q at b rows c. all_that st at (m.code ∷ []) [] end (made at) refl (re_start (sym leads) c) }
 
     -- .. or stands before a piece, and what is left behind that
-    pub pass-before : (st₂ : State) → Fine (go m.next st) → is_quiet m.form ≡ true → is_closed (go m.next st).room ≡ false → is_closed st₂.room ≡ false → follow (go m.next st) ≡ st₂ → follow st₂ ≡ follow st
+    pub pass_before : (st₂ : State) → Fine (go m.next st) → is_quiet m.form ≡ true → is_closed (go m.next st).room ≡ false → is_closed st₂.room ≡ false → follow (go m.next st) ≡ st₂ → follow st₂ ≡ follow st
         → ((at : ℕ) (b c : List ℕ) (us vs : Trees) → rest (go m.next st) (at + 1) b us → rest st₂ (at + 1 + length b) c vs → rest st at (m.code ∷ (b ++ c)) (us ⊕ vs)) → Back st m
-    pass-before st₂ fine quiet ajar ajar₂ leads same made =
+    pass_before st₂ fine quiet ajar ajar₂ leads same made =
         record {
           fine = fine;
           loud = λ q. no_pass (sym q ∙ quiet);
-          silent = λ q at b rows c. two-more st at (m.code ∷ []) [] (go m.next st) st₂ ajar ajar₂ leads same (λ b c us vs y z. (us ⊕ vs, made at b c us vs y z, flat_⊕ us vs)) c;
+          silent = λ q at b rows c. two_more st at (m.code ∷ []) [] (go m.next st) st₂ ajar ajar₂ leads same (λ b c us vs y z. (us ⊕ vs, made at b c us vs y z, flat_⊕ us vs)) c;
         }

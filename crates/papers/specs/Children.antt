@@ -93,20 +93,20 @@ module _ (code : ℕ) (open_code : code ≡ 1 → ⊥) where
   none_occurs [] h = refl
   none_occurs (r ∷ l) h = rw h.0 (none_occurs l h.1)
 
-  pub children-occur : (ts : Trees) → Children code ts → occurs code (ranks ts) ≡ has code ts
+  pub children_occur : (ts : Trees) → Children code ts → occurs code (ranks ts) ≡ has code ts
   unfolding occurs
-  children-occur end h = refl
-  children-occur (tree k n s v inside beside) (h, z, none, more) =
-      rw (z, occurs_append code (ranks inside) (ranks beside), none_occurs (ranks inside) none, children-occur beside more) refl
+  children_occur end h = refl
+  children_occur (tree k n s v inside beside) (h, z, none, more) =
+      rw (z, occurs_append code (ranks inside) (ranks beside), none_occurs (ranks inside) none, children_occur beside more) refl
 
   -- of an envelope in a header
-  pub children-of : (o : ℕ) (ts : Trees) (more : List Rank) → is_envelope o ≡ true → Tops (may_hold (rank o 0)) ts → Nested ts more → Children code ts
-  children-of o end more e h q = tt
-  children-of o (tree k n s v inside beside) more e h q =
+  pub children_of : (o : ℕ) (ts : Trees) (more : List Rank) → is_envelope o ≡ true → Tops (may_hold (rank o 0)) ts → Nested ts more → Children code ts
+  children_of o end more e h q = tt
+  children_of o (tree k n s v inside beside) more e h q =
       let both : T (kind_in o k && eqb n (level_in (rank o 0))) = h.0 in
       let own : T (in_envelope k) = envelope_kind (left_of (kind_in o k) (eqb n (level_in (rank o 0))) both) in
       let z : n ≡ 0 = eqb→eq n (level_in (rank o 0)) (right_of (kind_in o k) (eqb n (level_in (rank o 0))) both) ∙ envelope_level in
-      (own, z, all_none k (ranks inside) own (subst (λ (x : ℕ). AllBelong (rank k x) (ranks inside)) z q.0), children-of o beside more e h.1 q.3)
+      (own, z, all_none k (ranks inside) own (subst (λ (x : ℕ). AllBelong (rank k x) (ranks inside)) z q.0), children_of o beside more e h.1 q.3)
     where
       envelope_kind : T (kind_in o k) → T (in_envelope k)
       envelope_kind u = rw e at u

@@ -104,5 +104,5 @@ module _ (e : Edition) where
   pub table_of_lem : {bytes : List ℕ} {rows : List Placed} → Envelopes (told e) 15 0 bytes rows → TableOf e bytes rows
   table_of_lem h = let t = tabled h 0 in record { marks = t.marks; header = t.header; small = t.small; few = t.few }
 
-  pub of-table : {bytes : List ℕ} {rows : List Placed} → TableOf e bytes rows → Envelopes (told e) 15 0 bytes rows
-  of-table t = untabled t.header t.small 15 t.few
+  pub of_table : {bytes : List ℕ} {rows : List Placed} → TableOf e bytes rows → Envelopes (told e) 15 0 bytes rows
+  of_table t = untabled t.header t.small 15 t.few

@@ -14,14 +14,14 @@ use Rattle.papers.specs.Pieces.{⊕_assoc}
 
 -- "Parentheses are used to group expansions": grouping changes nothing
 module _ {P Q R : Syntax} where
-  pub to-right : (at : ℕ) (a : List ℕ) (ts : Trees) → ((P ⨾ Q) ⨾ R) at a ts → (P ⨾ (Q ⨾ R)) at a ts
-  to-right _ _ _ (◌then◌ {b = c} {us = vs} (◌then◌ {at} {a} {b} {ts} {us} x y) z) =
+  pub to_right : (at : ℕ) (a : List ℕ) (ts : Trees) → ((P ⨾ Q) ⨾ R) at a ts → (P ⨾ (Q ⨾ R)) at a ts
+  to_right _ _ _ (◌then◌ {b = c} {us = vs} (◌then◌ {at} {a} {b} {ts} {us} x y) z) =
       let z' : R (at + length a + length b) c vs = subst (λ (n : ℕ). R n c vs) (omega (arith, length-append a b)) z in
       let w : (P ⨾ (Q ⨾ R)) at (a ++ (b ++ c)) (ts ⊕ (us ⊕ vs)) = x then (y then z') in
       subst (λ (l : List ℕ). (P ⨾ (Q ⨾ R)) at l ((ts ⊕ us) ⊕ vs)) (sym (append_assoc a b c)) (subst (λ (us : Trees). (P ⨾ (Q ⨾ R)) at (a ++ (b ++ c)) us) (sym (⊕_assoc ts us vs)) w)
 
-  pub to-left : (at : ℕ) (a : List ℕ) (ts : Trees) → (P ⨾ (Q ⨾ R)) at a ts → ((P ⨾ Q) ⨾ R) at a ts
-  to-left _ _ _ (◌then◌ {at} {a} {ts} x (◌then◌ {a = b} {b = c} {ts = us} {us = vs} y z)) =
+  pub to_left : (at : ℕ) (a : List ℕ) (ts : Trees) → (P ⨾ (Q ⨾ R)) at a ts → ((P ⨾ Q) ⨾ R) at a ts
+  to_left _ _ _ (◌then◌ {at} {a} {ts} x (◌then◌ {a = b} {b = c} {ts = us} {us = vs} y z)) =
       let z' : R (at + length (a ++ b)) c vs = subst (λ (n : ℕ). R n c vs) (omega (arith, length-append a b)) z in
       let w : ((P ⨾ Q) ⨾ R) at ((a ++ b) ++ c) ((ts ⊕ us) ⊕ vs) = (x then y) then z' in
       subst (λ (l : List ℕ). ((P ⨾ Q) ⨾ R) at l (ts ⊕ (us ⊕ vs))) (append_assoc a b c) (subst (λ (us : Trees). ((P ⨾ Q) ⨾ R) at ((a ++ b) ++ c) us) (⊕_assoc ts us vs) w)

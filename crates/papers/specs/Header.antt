@@ -13,12 +13,12 @@ use Rattle.laws_steps.specs.Envelopes.{wrap_length}
 use Rattle.papers.specs.Notation.{Trees, end, tree, ◌⊕◌, flat, Syntax, ◌⨾◌, ◌then◌, many, up_to, byte}
 use Rattle.papers.specs.Papers.{ACLRepresentation, Date, ReceivedObject, Parameter, BaseEnvelope, ExtEnvelope, Header}
 use Rattle.papers.specs.Walks.{flat_⊕}
-use Rattle.papers.specs.Walked.{base-walks, extension-walks}
+use Rattle.papers.specs.Walked.{base_walks, extension_walks}
 use Rattle.papers.specs.Pieces.{⊕_assoc}
 use Rattle.papers.specs.Chains.{rest, follow, Chain, over, link, Begins, representation}
 use Rattle.papers.specs.Chained.{chained}
 use Rattle.papers.specs.Envelopes.{Inside, Envelopes, the_base, extension}
-use Rattle.papers.specs.Headed.{to-right, to-left, opened}
+use Rattle.papers.specs.Headed.{to_right, to_left, opened}
 use Rattle.papers.specs.Headed
 
 module _ (t : Told) where
@@ -38,27 +38,27 @@ module _ (t : Told) where
   base_in n at a ts x =
       let o = opened base_opens 0xfe (ACLRepresentation t ⨾ Date t 0) Parameters at a ts x in
       let place = at + head_size (length o.body) in
-      let inside : Inside t true place o.body (flat o.held) = record { last = state closed 0 false; steps = base-walks t place o.body o.held (to-right place o.body o.held o.inside); closes = refl } in
+      let inside : Inside t true place o.body (flat o.held) = record { last = state closed 0 false; steps = base_walks t place o.body o.held (to_right place o.body o.held o.inside); closes = refl } in
       subst₂ (λ (l : List ℕ) (us : Trees). Envelopes t n at l (flat us)) (sym o.is) (sym o.trees) (subst (λ (rows : List Placed). Envelopes t n at (wrap true o.body) (placed_row base_opens 0 at [] ∷ rows)) (sym (append-nil (flat o.held))) (the_base o.fits inside))
 
   extension_in : (n at : ℕ) (a c : List ℕ) (ts us : Trees) → ExtEnvelope t at a ts → Envelopes t n (at + length a) c (flat us) → Envelopes t (suc n) at (a ++ c) (flat (ts ⊕ us))
   extension_in n at a c ts us x more =
       let o = opened extension_opens 0xfd (ReceivedObject t) Parameters at a ts x in
       let place = at + head_size (length o.body) in
-      let inside : Inside t false place o.body (flat o.held) = record { last = state closed 0 false; steps = extension-walks t place o.body o.held o.inside; closes = refl } in
+      let inside : Inside t false place o.body (flat o.held) = record { last = state closed 0 false; steps = extension_walks t place o.body o.held o.inside; closes = refl } in
       let long : length a ≡ envelope_size (length o.body) = ap length o.is ∙ wrap_length false o.body in
       let more' : Envelopes t n (at + envelope_size (length o.body)) c (flat us) = subst (λ (k : ℕ). Envelopes t n k c (flat us)) (omega (arith, long)) more in
       subst₂ (λ (l : List ℕ) (vs : Trees). Envelopes t (suc n) at (l ++ c) (flat (vs ⊕ us))) (sym o.is) (sym o.trees) (extension o.fits inside more')
 
-  pub header-in : (n at : ℕ) (a b : List ℕ) (ts us : Trees) → up_to (ExtEnvelope t) n at a ts → BaseEnvelope t (at + length a) b us → Envelopes t n at (a ++ b) (flat (ts ⊕ us))
-  header-in _ _ _ b _ us (up_to.none {n} {at}) z = base_in n at b us (subst (λ (x : ℕ). BaseEnvelope t x b us) (omega arith) z)
-  header-in _ _ _ c _ vs (up_to.more {n} {at} {a} {b} {ts} {us} x y) z =
+  pub header_in : (n at : ℕ) (a b : List ℕ) (ts us : Trees) → up_to (ExtEnvelope t) n at a ts → BaseEnvelope t (at + length a) b us → Envelopes t n at (a ++ b) (flat (ts ⊕ us))
+  header_in _ _ _ b _ us (up_to.none {n} {at}) z = base_in n at b us (subst (λ (x : ℕ). BaseEnvelope t x b us) (omega arith) z)
+  header_in _ _ _ c _ vs (up_to.more {n} {at} {a} {b} {ts} {us} x y) z =
       let z' : BaseEnvelope t (at + length a + length b) c vs = subst (λ (w : ℕ). BaseEnvelope t w c vs) (omega (arith, length-append a b)) z in
-      let h = extension_in n at a (b ++ c) ts (us ⊕ vs) x (header-in n (at + length a) b c us vs y z') in
+      let h = extension_in n at a (b ++ c) ts (us ⊕ vs) x (header_in n (at + length a) b c us vs y z') in
       subst₂ (λ (l : List ℕ) (us : Trees). Envelopes t (suc n) at l (flat us)) (sym (append_assoc a b c)) (sym (⊕_assoc ts us vs)) h
 
-  pub papers-in : (at : ℕ) (a : List ℕ) (ts : Trees) → Header t at a ts → Envelopes t 15 at a (flat ts)
-  papers-in _ _ _ (◌then◌ {at} {a} {b} {ts} {us} x y) = header-in 15 at a b ts us x y
+  pub papers_in : (at : ℕ) (a : List ℕ) (ts : Trees) → Header t at a ts → Envelopes t 15 at a (flat ts)
+  papers_in _ _ _ (◌then◌ {at} {a} {b} {ts} {us} x y) = header_in 15 at a b ts us x y
 
   -- (2) and back: bytes and rows that have a tree of the rule
 
@@ -97,7 +97,7 @@ module _ (t : Told) where
   base_closed at bytes rows fits i =
       let place = at + head_size (length bytes) in
       let (ts, x, same) = base_out place bytes rows i in
-      (tree base_opens 0 at [] ts end, Headed.closed base_opens 0xfe (ACLRepresentation t ⨾ Date t 0) Parameters at bytes ts fits (to-left place bytes ts x), ap (λ (l : List Placed). placed_row base_opens 0 at [] ∷ l) (append-nil (flat ts) ∙ same))
+      (tree base_opens 0 at [] ts end, Headed.closed base_opens 0xfe (ACLRepresentation t ⨾ Date t 0) Parameters at bytes ts fits (to_left place bytes ts x), ap (λ (l : List Placed). placed_row base_opens 0 at [] ∷ l) (append-nil (flat ts) ∙ same))
 
   extension_closed : (at : ℕ) (bytes : List ℕ) (rows : List Placed) → envelope_size (length bytes) ≤ envelope_most → Inside t false (at + head_size (length bytes)) bytes rows → Treed (ExtEnvelope t) at (wrap false bytes) (placed_row extension_opens 0 at [] ∷ rows)
   extension_closed at bytes rows fits i =
@@ -116,12 +116,12 @@ module _ (t : Told) where
       let w : Headers (suc n) at ((a ++ c) ++ d) ((ts ⊕ us) ⊕ vs) = up_to.more x ys' then z' in
       subst₂ (λ (l : List ℕ) (ws : Trees). Headers (suc n) at l ws) (append_assoc a c d) (⊕_assoc ts us vs) w
 
-  pub header-out : {n at : ℕ} {a : List ℕ} {rows : List Placed} → Envelopes t n at a rows → Treed (Headers n) at a rows
-  header-out (the_base {n} {at} {bytes} {rows} fits i) =
+  pub header_out : {n at : ℕ} {a : List ℕ} {rows : List Placed} → Envelopes t n at a rows → Treed (Headers n) at a rows
+  header_out (the_base {n} {at} {bytes} {rows} fits i) =
       let (ts, x, same) = base_closed at bytes rows fits i in
       let x' : BaseEnvelope t (at + 0) (wrap true bytes) ts = subst (λ (k : ℕ). BaseEnvelope t k (wrap true bytes) ts) (omega arith) x in
       (ts, up_to.none then x', same)
-  header-out (extension {n} {at} {bytes} {more} {rows} {table} fits i h) =
+  header_out (extension {n} {at} {bytes} {more} {rows} {table} fits i h) =
       let (ts, x, same) = extension_closed at bytes rows fits i in
-      let (us, y, same₂) = header-out h in
+      let (us, y, same₂) = header_out h in
       (ts ⊕ us, one_up n (at + envelope_size (length bytes)) (wrap false bytes) more ts us x (omega (arith, wrap_length false bytes)) y, flat_⊕ ts us ∙ ap₂ (λ (l r : List Placed). l ++ r) same same₂)

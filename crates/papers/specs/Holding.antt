@@ -66,8 +66,8 @@ pub record Holding (P : Syntax) (p : Rank → Bool) : Type 0 where
   pub each : (at : ℕ) (a : List ℕ) (ts : Trees) → P at a ts → Each ts
 
 module _ {p : Rank → Bool} where
-  pub holding-then : {P Q : Syntax} → Holding P p → Holding Q p → Holding (P ⨾ Q) p
-  holding-then {P} {Q} x y = record { tops = tops; each = each }
+  pub holding_then : {P Q : Syntax} → Holding P p → Holding Q p → Holding (P ⨾ Q) p
+  holding_then {P} {Q} x y = record { tops = tops; each = each }
     where
       tops : (at : ℕ) (a : List ℕ) (ts : Trees) → (P ⨾ Q) at a ts → Tops p ts
       tops _ _ _ (◌then◌ {at} {a} {b} {ts} {us} u w) = tops_⊕ p ts us (x.tops at a ts u) (y.tops (at + length a) b us w)
@@ -75,8 +75,8 @@ module _ {p : Rank → Bool} where
       each : (at : ℕ) (a : List ℕ) (ts : Trees) → (P ⨾ Q) at a ts → Each ts
       each _ _ _ (◌then◌ {at} {a} {b} {ts} {us} u w) = each_⊕ ts us (x.each at a ts u) (y.each (at + length a) b us w)
 
-  pub holding-either : {P Q : Syntax} → Holding P p → Holding Q p → Holding (P ∣ Q) p
-  holding-either {P} {Q} x y = record { tops = tops; each = each }
+  pub holding_either : {P Q : Syntax} → Holding P p → Holding Q p → Holding (P ∣ Q) p
+  holding_either {P} {Q} x y = record { tops = tops; each = each }
     where
       tops : (at : ℕ) (a : List ℕ) (ts : Trees) → (P ∣ Q) at a ts → Tops p ts
       tops at a ts (first u) = x.tops at a ts u
@@ -86,8 +86,8 @@ module _ {p : Rank → Bool} where
       each at a ts (first u) = x.each at a ts u
       each at a ts (other w) = y.each at a ts w
 
-  pub holding-byte : {c : ℕ} → Holding (byte c) p
-  holding-byte {c} = record { tops = tops; each = each }
+  pub holding_byte : {c : ℕ} → Holding (byte c) p
+  holding_byte {c} = record { tops = tops; each = each }
     where
       tops : (at : ℕ) (a : List ℕ) (ts : Trees) → byte c at a ts → Tops p ts
       tops _ _ _ byte.it = tt
@@ -95,8 +95,8 @@ module _ {p : Rank → Bool} where
       each : (at : ℕ) (a : List ℕ) (ts : Trees) → byte c at a ts → Each ts
       each _ _ _ byte.it = tt
 
-  pub holding-unseen : {R : List ℕ → Type 0} → Holding (unseen R) p
-  holding-unseen {R} = record { tops = tops; each = each }
+  pub holding_unseen : {R : List ℕ → Type 0} → Holding (unseen R) p
+  holding_unseen {R} = record { tops = tops; each = each }
     where
       tops : (at : ℕ) (a : List ℕ) (ts : Trees) → unseen R at a ts → Tops p ts
       tops _ _ _ (these x) = tt
@@ -104,8 +104,8 @@ module _ {p : Rank → Bool} where
       each : (at : ℕ) (a : List ℕ) (ts : Trees) → unseen R at a ts → Each ts
       each _ _ _ (these x) = tt
 
-  pub holding-when : {P : Syntax} {C : Type 0} → Holding P p → Holding (when C P) p
-  holding-when {P} {C} x = record { tops = tops; each = each }
+  pub holding_when : {P : Syntax} {C : Type 0} → Holding P p → Holding (when C P) p
+  holding_when {P} {C} x = record { tops = tops; each = each }
     where
       tops : (at : ℕ) (a : List ℕ) (ts : Trees) → when C P at a ts → Tops p ts
       tops at a ts (met c u) = x.tops at a ts u
@@ -114,8 +114,8 @@ module _ {p : Rank → Bool} where
       each at a ts (met c u) = x.each at a ts u
 
   module _ {P : Syntax} (x : Holding P p) where
-    pub holding-optional : Holding (optional P) p
-    holding-optional = record { tops = tops; each = each }
+    pub holding_optional : Holding (optional P) p
+    holding_optional = record { tops = tops; each = each }
       where
         tops : (at : ℕ) (a : List ℕ) (ts : Trees) → optional P at a ts → Tops p ts
         tops _ _ _ absent = tt
@@ -125,8 +125,8 @@ module _ {p : Rank → Bool} where
         each _ _ _ absent = tt
         each at a ts (present u) = x.each at a ts u
 
-    pub holding-many : Holding (many P) p
-    holding-many = record { tops = tops; each = each }
+    pub holding_many : Holding (many P) p
+    holding_many = record { tops = tops; each = each }
       where
         tops : (at : ℕ) (a : List ℕ) (ts : Trees) → many P at a ts → Tops p ts
         tops _ _ _ many.none = tt
@@ -136,8 +136,8 @@ module _ {p : Rank → Bool} where
         each _ _ _ many.none = tt
         each _ _ _ (many.more {at} {a} {b} {ts} {us} u w) = each_⊕ ts us (x.each at a ts u) (each (at + length a) b us w)
 
-    pub holding-upTo : (n : ℕ) → Holding (up_to P n) p
-    holding-upTo n = record { tops = tops n; each = each n }
+    pub holding_up_to : (n : ℕ) → Holding (up_to P n) p
+    holding_up_to n = record { tops = tops n; each = each n }
       where
         tops : (n at : ℕ) (a : List ℕ) (ts : Trees) → up_to P n at a ts → Tops p ts
         tops _ _ _ _ up_to.none = tt
@@ -148,8 +148,8 @@ module _ {p : Rank → Bool} where
         each _ _ _ _ (up_to.more {n} {at} {a} {b} {ts} {us} u w) = each_⊕ ts us (x.each at a ts u) (each n (at + length a) b us w)
 
   -- a row with nothing inside it
-  pub holding-leaf : (k n : ℕ) {X : Value} → T (p (rank k n)) → holds_one k ≡ false → Holding (leaf k n X) p
-  holding-leaf k n {X} here none = record { tops = tops; each = each }
+  pub holding_leaf : (k n : ℕ) {X : Value} → T (p (rank k n)) → holds_one k ≡ false → Holding (leaf k n X) p
+  holding_leaf k n {X} here none = record { tops = tops; each = each }
     where
       tops : (at : ℕ) (a : List ℕ) (ts : Trees) → leaf k n X at a ts → Tops p ts
       tops _ _ _ (shows u) = (here, tt)
@@ -158,8 +158,8 @@ module _ {p : Rank → Bool} where
       each _ _ _ (shows u) = (tt, (λ q. absurd (false≢true (sym none ∙ q))), tt, tt)
 
   -- a row and what is inside it
-  pub holding-node : (k n : ℕ) {X : Value} {P : Syntax} → T (p (rank k n)) → ((at : ℕ) (a : List ℕ) (ts : Trees) → P at a ts → holds_one k ≡ true → size ts ≡ 1) → Holding P (may_hold (rank k n)) → Holding (node k n X P) p
-  holding-node k n {X} {P} here one x = record { tops = tops; each = each }
+  pub holding_node : (k n : ℕ) {X : Value} {P : Syntax} → T (p (rank k n)) → ((at : ℕ) (a : List ℕ) (ts : Trees) → P at a ts → holds_one k ≡ true → size ts ≡ 1) → Holding P (may_hold (rank k n)) → Holding (node k n X P) p
+  holding_node k n {X} {P} here one x = record { tops = tops; each = each }
     where
       tops : (at : ℕ) (a : List ℕ) (ts : Trees) → node k n X P at a ts → Tops p ts
       tops _ _ _ (holds u w) = (here, tt)
@@ -167,8 +167,8 @@ module _ {p : Rank → Bool} where
       each : (at : ℕ) (a : List ℕ) (ts : Trees) → node k n X P at a ts → Each ts
       each _ _ _ (holds {at} {a} {b} {ts} u w) = (x.tops (at + length a) b ts w, one (at + length a) b ts w, x.each (at + length a) b ts w, tt)
 
-  pub holding-envelope : (k : ℕ) {P : ℕ → Syntax} → T (p (rank k 0)) → holds_one k ≡ false → ((n : ℕ) → Holding (P n) (may_hold (rank k 0))) → Holding (envelope k P) p
-  holding-envelope k {P} here none x = record { tops = tops; each = each }
+  pub holding_envelope : (k : ℕ) {P : ℕ → Syntax} → T (p (rank k 0)) → holds_one k ≡ false → ((n : ℕ) → Holding (P n) (may_hold (rank k 0))) → Holding (envelope k P) p
+  holding_envelope k {P} here none x = record { tops = tops; each = each }
     where
       tops : (at : ℕ) (a : List ℕ) (ts : Trees) → envelope k P at a ts → Tops p ts
       tops _ _ _ (of fits w) = (here, tt)

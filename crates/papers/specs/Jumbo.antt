@@ -53,8 +53,8 @@ module _ (t : Told) (n : ℕ) where
   body_long = omega (arith, length-append comment (0x01 ∷ []), length-append (letters n) (0x00 ∷ []), letters_long n)
 
   -- "The long form is used exactly if the envelope in the short form would pass 65,535 bytes": from 65,519 letters on, to the envelope's limit
-  pub jumbo-is : 65519 ≤ n → n ≤ 1048555 → Header t 0 (0xfe ∷ (0x00 ∷ (0x00 ∷ (length_bytes four_bytes (21 + n) ++ body)))) (tree base_opens 0 0 [] (rows 7) end)
-  jumbo-is lo hi =
+  pub jumbo_is : 65519 ≤ n → n ≤ 1048555 → Header t 0 (0xfe ∷ (0x00 ∷ (0x00 ∷ (length_bytes four_bytes (21 + n) ++ body)))) (tree base_opens 0 0 [] (rows 7) end)
+  jumbo_is lo hi =
       let k = length body in
       let long : is_short k ≡ false = lt-leb (3 + k) 65535 (omega (arith, body_long)) in
       let fits : envelope_size k ≤ envelope_most = rw long (omega (arith, body_long)) in

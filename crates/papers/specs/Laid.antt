@@ -8,7 +8,7 @@ use Rattle.meaning.specs.Memory.{skips_of, Numbers, row, rank_of, numbers_in, ro
 use Rattle.papers.specs.Notation.{Trees, end, tree, flat, size, skip_numbers, laid}
 use Rattle.papers.specs.Papers.{Header}
 use Rattle.papers.specs.TreeSkips.{ranks, Nested, belonging_is, size_is}
-use Rattle.papers.specs.Nested.{header-nested}
+use Rattle.papers.specs.Nested.{header_nested}
 
 -- the rows of trees, as numbers
 abbrev numbers : Trees → List Numbers
@@ -54,7 +54,7 @@ laid_before i (tree k n s v inside beside) more h =
 -- the table that is read of a header is its tree, laid flat
 pub laid_flat : (t : Told) (at : ℕ) (bytes : List ℕ) (ts : Trees) → Header t at bytes ts → table_of (flat ts) ≡ laid 0 ts
 laid_flat t at bytes ts h =
-    ap (rows_from 0) (numbers_flat ts ∙ sym (append-nil (numbers ts))) ∙ laid_before 0 ts [] (header-nested t at bytes ts h) ∙ append-nil (laid 0 ts)
+    ap (rows_from 0) (numbers_flat ts ∙ sym (append-nil (numbers ts))) ∙ laid_before 0 ts [] (header_nested t at bytes ts h) ∙ append-nil (laid 0 ts)
 
 -- where its rows stand
 pub ranks_flat : (ts : Trees) → map rank_of (map numbers_of (flat ts)) ≡ ranks ts

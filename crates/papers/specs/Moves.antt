@@ -31,30 +31,30 @@ same_go list_ends st r = refl
 same_go agent_ends st r = refl
 
 module _ {t : Told} where
-  pub re-place : {st st' : State} {at at' : ℕ} {a : List ℕ} {rows : List Placed} → at ≡ at' → Steps t st at a rows st' → Steps t st at' a rows st'
-  re-place {st} {st'} {a} {rows} q s = subst (λ (x : ℕ). Steps t st x a rows st') q s
+  pub re_place : {st st' : State} {at at' : ℕ} {a : List ℕ} {rows : List Placed} → at ≡ at' → Steps t st at a rows st' → Steps t st at' a rows st'
+  re_place {st} {st'} {a} {rows} q s = subst (λ (x : ℕ). Steps t st x a rows st') q s
 
-  pub re-byte : {st st' : State} {at : ℕ} {a a' : List ℕ} {rows : List Placed} → a ≡ a' → Steps t st at a rows st' → Steps t st at a' rows st'
-  re-byte {st} {st'} {at} {rows} q s = subst (λ (x : List ℕ). Steps t st at x rows st') q s
+  pub re_byte : {st st' : State} {at : ℕ} {a a' : List ℕ} {rows : List Placed} → a ≡ a' → Steps t st at a rows st' → Steps t st at a' rows st'
+  re_byte {st} {st'} {at} {rows} q s = subst (λ (x : List ℕ). Steps t st at x rows st') q s
 
-  pub re-row : {st st' : State} {at : ℕ} {a : List ℕ} {rows rows' : List Placed} → rows ≡ rows' → Steps t st at a rows st' → Steps t st at a rows' st'
-  re-row {st} {st'} {at} {a} q s = subst (λ (x : List Placed). Steps t st at a x st') q s
+  pub re_row : {st st' : State} {at : ℕ} {a : List ℕ} {rows rows' : List Placed} → rows ≡ rows' → Steps t st at a rows st' → Steps t st at a rows' st'
+  re_row {st} {st'} {at} {a} q s = subst (λ (x : List Placed). Steps t st at a x st') q s
 
-  pub re-end : {st st' st'' : State} {at : ℕ} {a : List ℕ} {rows : List Placed} → st' ≡ st'' → Steps t st at a rows st' → Steps t st at a rows st''
-  re-end {st} {at} {a} {rows} q s = subst (λ (x : State). Steps t st at a rows x) q s
+  pub re_end : {st st' st'' : State} {at : ℕ} {a : List ℕ} {rows : List Placed} → st' ≡ st'' → Steps t st at a rows st' → Steps t st at a rows st''
+  re_end {st} {at} {a} {rows} q s = subst (λ (x : State). Steps t st at a rows x) q s
 
-  pub re-start : {st st' st'' : State} {at : ℕ} {a : List ℕ} {rows : List Placed} → st ≡ st'' → Steps t st at a rows st' → Steps t st'' at a rows st'
-  re-start {st'} {at} {a} {rows} q s = subst (λ (x : State). Steps t x at a rows st') q s
+  pub re_start : {st st' st'' : State} {at : ℕ} {a : List ℕ} {rows : List Placed} → st ≡ st'' → Steps t st at a rows st' → Steps t st'' at a rows st'
+  re_start {st'} {at} {a} {rows} q s = subst (λ (x : State). Steps t x at a rows st') q s
 
   pub join : {st st₁ st₂ : State} {at : ℕ} {a b : List ℕ} {rows more : List Placed} → Steps t st at a rows st₁ → Steps t st₁ (at + length a) b more st₂ → Steps t st at (a ++ b) (rows ++ more) st₂
-  join (still {at}) after = re-place (omega arith) after
+  join (still {at}) after = re_place (omega arith) after
   join {b} (row {at} {bytes} m v i q ok deep s) after =
-      re-byte (sym (append_assoc (standing m v) bytes b)) (row m v i q ok deep (join s (re-place (omega (arith, length-append (standing m v) bytes)) after)))
-  join (silent {at} {bytes} m i q s) after = silent m i q (join s (re-place (omega arith) after))
+      re_byte (sym (append_assoc (standing m v) bytes b)) (row m v i q ok deep (join s (re_place (omega (arith, length-append (standing m v) bytes)) after)))
+  join (silent {at} {bytes} m i q s) after = silent m i q (join s (re_place (omega arith) after))
 
   -- a run may begin in any room that has the moves of its own, once it moves
-  pub from-wider : {st st' : State} {at : ℕ} {a : List ℕ} {rows : List Placed} (r : Room) → ((m : Move) → In m (moves t.edition st.room) → In m (moves t.edition r)) → T (not (is_empty a)) → Steps t st at a rows st'
+  pub from_wider : {st st' : State} {at : ℕ} {a : List ℕ} {rows : List Placed} (r : Room) → ((m : Move) → In m (moves t.edition st.room) → In m (moves t.edition r)) → T (not (is_empty a)) → Steps t st at a rows st'
       → Steps t (state r st.level st.single) at a rows st'
-  from-wider r wider moving still = absurd moving
-  from-wider r wider moving (row {st} m v i q ok deep s) = row m v (wider m i) q ok deep (re-start (same_go m.next st r) s)
-  from-wider r wider moving (silent {st} m i q s) = silent m (wider m i) q (re-start (same_go m.next st r) s)
+  from_wider r wider moving still = absurd moving
+  from_wider r wider moving (row {st} m v i q ok deep s) = row m v (wider m i) q ok deep (re_start (same_go m.next st r) s)
+  from_wider r wider moving (silent {st} m i q s) = silent m (wider m i) q (re_start (same_go m.next st r) s)

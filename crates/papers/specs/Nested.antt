@@ -9,7 +9,7 @@ use Rattle.laws_steps.specs.Nesting.{false_not, value_is, Belongs, deeper_belong
 use Rattle.papers.specs.Notation.{Trees, flat, skip_numbers, Syntax, Value, ◌⨾◌, ◌then◌, many, leaf, node, itself}
 use Rattle.papers.specs.Papers.{EnvLen, EndOfCollection, Any, ACLRepresentation, Date, UserDefinedParameter, Addresses, Resolvers, AgentIdentifier, AgentIdentifierSequence, agent, ReceivedObject, PredefinedParameter, UserDefinedSlot, Parameter, BaseEnvelope, ExtEnvelope, Header}
 use Rattle.papers.specs.TreeSkips.{ranks, Nested, skips_are}
-use Rattle.papers.specs.Nesting.{Class, Every, Own, Up, Good, good-then, good-either, good-byte, good-unseen, good-optional, good-many, good-upTo, good-when, good-node, good-leaf, good_envelope}
+use Rattle.papers.specs.Nesting.{Class, Every, Own, Up, Good, good_then, good_either, good_byte, good_unseen, good_optional, good_many, good_up_to, good_when, good_node, good_leaf, good_envelope}
 
 -- What follows
 
@@ -76,113 +76,113 @@ envelope_not j t b = let l = ltb-true base_opens j b in envelope_is j t (λ e. o
 module _ (t : Told) where
   good_any : (owner : Rank) (n : ℕ) → belongs owner (rank any_text n) ≡ true → belongs owner (rank any_bytes n) ≡ true → Good (Any t n) (Own owner) Every Every
   good_any owner n b c =
-      good-either (good-leaf owner any_text n b tt refl (λ j. refl)) (good-either (good-leaf owner any_bytes n c tt refl (λ j. refl)) (good-either (good-leaf owner any_bytes n c tt refl (λ j. refl)) (good-leaf owner any_bytes n c tt refl (λ j. refl))))
+      good_either (good_leaf owner any_text n b tt refl (λ j. refl)) (good_either (good_leaf owner any_bytes n c tt refl (λ j. refl)) (good_either (good_leaf owner any_bytes n c tt refl (λ j. refl)) (good_leaf owner any_bytes n c tt refl (λ j. refl))))
 
   module _ (owner : Rank) (n : ℕ) where
     good_extra : belongs owner (rank extra_key n) ≡ true → Good (UserDefinedParameter t n) (Own owner) (Plain n) (Plain n)
     good_extra b =
         let inside : Good (Any t n) (Own (rank extra_key n)) Every Every = good_any (rank extra_key n) n (beside_belongs (rank extra_key n) (rank any_text n) refl refl) (beside_belongs (rank extra_key n) (rank any_bytes n) refl refl) in
         let out : (x : Rank) → Plain n x → belongs (rank extra_key n) x ≡ false = follows extra_key n plain value_not in
-        good-either (good-when (good-node owner extra_key n Every Every b (inr (refl, tt)) (λ x h. tt) out inside)) (good-when (good-node owner extra_key n Every Every b (inr (refl, tt)) (λ x h. tt) out inside))
+        good_either (good_when (good_node owner extra_key n Every Every b (inr (refl, tt)) (λ x h. tt) out inside)) (good_when (good_node owner extra_key n Every Every b (inr (refl, tt)) (λ x h. tt) out inside))
 
     good_addresses : belongs owner (rank addresses_open n) ≡ true → Good (Addresses t n) (Own owner) (Plain n) (Plain n)
     good_addresses b =
-        good-node owner addresses_open n Every Every b (inr (refl, tt)) (λ x h. tt) (follows addresses_open n plain (λ j u h. is_plain j address (eqb-true j address h) u))
-        (good-then (good-many (good-leaf (rank addresses_open n) address n (beside_belongs (rank addresses_open n) (rank address n) refl refl) tt refl (λ j. refl))) good-byte)
+        good_node owner addresses_open n Every Every b (inr (refl, tt)) (λ x h. tt) (follows addresses_open n plain (λ j u h. is_plain j address (eqb-true j address h) u))
+        (good_then (good_many (good_leaf (rank addresses_open n) address n (beside_belongs (rank addresses_open n) (rank address n) refl refl) tt refl (λ j. refl))) good_byte)
 
     good_date : ((j : ℕ) → ltb base_opens j ≡ true → belongs owner (rank j n) ≡ true) → Good (Date t n) (Own owner) (Plain n) (Plain n)
     good_date own =
-        good-either (good-leaf owner date_absolute n (own date_absolute refl) (inr (refl, tt)) refl (λ j. refl))
-        (good-either (good-when (good-leaf owner date_absolute n (own date_absolute refl) (inr (refl, tt)) refl (λ j. refl)))
-        (good-either (good-when (good-leaf owner date_forward n (own date_forward refl) (inr (refl, tt)) refl (λ j. refl)))
-        (good-either (good-when (good-leaf owner date_backward n (own date_backward refl) (inr (refl, tt)) refl (λ j. refl)))
-        (good-either (good-when (good-leaf owner date_absolute n (own date_absolute refl) (inr (refl, tt)) refl (λ j. refl)))
-        (good-either (good-when (good-leaf owner date_forward n (own date_forward refl) (inr (refl, tt)) refl (λ j. refl)))
-        (good-when (good-leaf owner date_backward n (own date_backward refl) (inr (refl, tt)) refl (λ j. refl))))))))
+        good_either (good_leaf owner date_absolute n (own date_absolute refl) (inr (refl, tt)) refl (λ j. refl))
+        (good_either (good_when (good_leaf owner date_absolute n (own date_absolute refl) (inr (refl, tt)) refl (λ j. refl)))
+        (good_either (good_when (good_leaf owner date_forward n (own date_forward refl) (inr (refl, tt)) refl (λ j. refl)))
+        (good_either (good_when (good_leaf owner date_backward n (own date_backward refl) (inr (refl, tt)) refl (λ j. refl)))
+        (good_either (good_when (good_leaf owner date_absolute n (own date_absolute refl) (inr (refl, tt)) refl (λ j. refl)))
+        (good_either (good_when (good_leaf owner date_forward n (own date_forward refl) (inr (refl, tt)) refl (λ j. refl)))
+        (good_when (good_leaf owner date_backward n (own date_backward refl) (inr (refl, tt)) refl (λ j. refl))))))))
 
   good_agent : (owner : Rank) (left n : ℕ) → belongs owner (rank agent_name n) ≡ true → Good (AgentIdentifier t left n) (Own owner) (Agents n) (Agents n)
   good_agent owner zero n b = record { rows = λ at a ts x. absurd x; nests = λ at a ts x. absurd x }
   good_agent owner (suc left) n b =
       let resolvers : Good (Resolvers t n (AgentIdentifier t left (suc n))) (Own (rank agent_name n)) (Plain n) (Plain n)
-      = good-node (rank agent_name n) resolvers_open n (Agents (suc n)) (Agents (suc n)) (beside_belongs (rank agent_name n) (rank resolvers_open n) refl refl) (inr (refl, tt)) (deeper_plain n is_agent) (follows resolvers_open n plain (λ j u h. false_not h))
-      (good-then (good-many (good_agent (rank resolvers_open n) left (suc n) (deeper_belongs (rank resolvers_open n) (rank agent_name (suc n)) refl (omega arith)))) good-byte) in
-      good-node owner agent_name n (Plain n) (Plain n) b (inr (refl, tt)) (agents_plain n) (follows agent_name n is_agent agent_not)
-      (good-then (good-optional (good_addresses (rank agent_name n) n (beside_belongs (rank agent_name n) (rank addresses_open n) refl refl)))
-      (good-then (good-optional resolvers)
-      (good-then (good-many (good_extra (rank agent_name n) n (beside_belongs (rank agent_name n) (rank extra_key n) refl refl))) good-byte)))
+      = good_node (rank agent_name n) resolvers_open n (Agents (suc n)) (Agents (suc n)) (beside_belongs (rank agent_name n) (rank resolvers_open n) refl refl) (inr (refl, tt)) (deeper_plain n is_agent) (follows resolvers_open n plain (λ j u h. false_not h))
+      (good_then (good_many (good_agent (rank resolvers_open n) left (suc n) (deeper_belongs (rank resolvers_open n) (rank agent_name (suc n)) refl (omega arith)))) good_byte) in
+      good_node owner agent_name n (Plain n) (Plain n) b (inr (refl, tt)) (agents_plain n) (follows agent_name n is_agent agent_not)
+      (good_then (good_optional (good_addresses (rank agent_name n) n (beside_belongs (rank agent_name n) (rank addresses_open n) refl refl)))
+      (good_then (good_optional resolvers)
+      (good_then (good_many (good_extra (rank agent_name n) n (beside_belongs (rank agent_name n) (rank extra_key n) refl refl))) good_byte)))
 
   good_agents : (k : ℕ) → holds_deeper k ≡ true → Good (AgentIdentifierSequence t (agent t)) (Own (rank k 0)) (Agents 1) (Agents 1)
-  good_agents k h = good-then (good-many (good_agent (rank k 0) 8 1 (deeper_belongs (rank k 0) (rank agent_name 1) h (omega arith)))) good-byte
+  good_agents k h = good_then (good_many (good_agent (rank k 0) 8 1 (deeper_belongs (rank k 0) (rank agent_name 1) h (omega arith)))) good_byte
 
   -- in an envelope
   module _ (owner : Rank) (own : (j : ℕ) → ltb base_opens j ≡ true → belongs owner (rank j 0) ≡ true) where
     good_representation : Good (ACLRepresentation t) (Own owner) (Plain 0) (Plain 0)
     good_representation =
-        let standard : (c : ℕ) → Good (leaf standard_representation 0 (itself c)) (Own owner) (Plain 0) (Plain 0) = λ c. good-leaf owner standard_representation 0 (own standard_representation refl) (inr (refl, tt)) refl (λ j. refl) in
-        good-either (good-leaf owner own_representation 0 (own own_representation refl) (inr (refl, tt)) refl (λ j. refl)) (good-either (standard 0x10) (good-either (standard 0x11) (standard 0x12)))
+        let standard : (c : ℕ) → Good (leaf standard_representation 0 (itself c)) (Own owner) (Plain 0) (Plain 0) = λ c. good_leaf owner standard_representation 0 (own standard_representation refl) (inr (refl, tt)) refl (λ j. refl) in
+        good_either (good_leaf owner own_representation 0 (own own_representation refl) (inr (refl, tt)) refl (λ j. refl)) (good_either (standard 0x10) (good_either (standard 0x11) (standard 0x12)))
 
     good_received : Good (ReceivedObject t) (Own owner) (Plain 0) (Plain 0)
     good_received =
         let r = rank received_by 0 in
         let in-r : (j : ℕ) → belongs r (rank j 1) ≡ true = λ j. deeper_belongs r (rank j 1) refl (omega arith) in
-        good-node owner received_by 0 (Plain 1) (Plain 1) (own received_by refl) (inr (refl, tt)) (deeper_plain 0 plain) (follows received_by 0 plain (λ j u h. false_not h))
-        (good-then (good_date r 1 (λ j h. in-r j))
-        (good-then (good-optional (good-leaf r received_from 1 (in-r received_from) (inr (refl, tt)) refl (λ j. refl)))
-        (good-then (good-optional (good-leaf r received_id 1 (in-r received_id) (inr (refl, tt)) refl (λ j. refl)))
-        (good-then (good-optional (good-leaf r received_via 1 (in-r received_via) (inr (refl, tt)) refl (λ j. refl)))
-        (good-then (good-many (good-when (good_extra r 1 (in-r extra_key)))) good-byte)))))
+        good_node owner received_by 0 (Plain 1) (Plain 1) (own received_by refl) (inr (refl, tt)) (deeper_plain 0 plain) (follows received_by 0 plain (λ j u h. false_not h))
+        (good_then (good_date r 1 (λ j h. in-r j))
+        (good_then (good_optional (good_leaf r received_from 1 (in-r received_from) (inr (refl, tt)) refl (λ j. refl)))
+        (good_then (good_optional (good_leaf r received_id 1 (in-r received_id) (inr (refl, tt)) refl (λ j. refl)))
+        (good_then (good_optional (good_leaf r received_via 1 (in-r received_via) (inr (refl, tt)) refl (λ j. refl)))
+        (good_then (good_many (good_when (good_extra r 1 (in-r extra_key)))) good_byte)))))
 
     -- a row directly in an envelope, with its rows
     module _ {X : Value} {P : Syntax} where
       opening : (k : ℕ) (F S : Class) → ltb base_opens k ≡ true → T (plain k) → ((x : Rank) → Plain 0 x → F x) → ((j : ℕ) → T (plain j) → beside k j ≡ true → ⊥) → Good P (Own (rank k 0)) F S → Good (node k 0 X P) (Own owner) (Plain 0) (Plain 0)
-      opening k F S h p wider out inside = good-node owner k 0 F S (own k h) (inr (refl, p)) wider (follows k 0 plain out) inside
+      opening k F S h p wider out inside = good_node owner k 0 F S (own k h) (inr (refl, p)) wider (follows k 0 plain out) inside
 
     single : (k : ℕ) {X : Value} → ltb base_opens k ≡ true → T (plain k) → holds_deeper k ≡ false → ((j : ℕ) → beside k j ≡ false) → Good (leaf k 0 X) (Own owner) (Plain 0) (Plain 0)
-    single k h p flat bare = good-leaf owner k 0 (own k h) (inr (refl, p)) flat bare
+    single k h p flat bare = good_leaf owner k 0 (own k h) (inr (refl, p)) flat bare
 
     good_predefined : Good (PredefinedParameter t) (Own owner) (Plain 0) (Plain 0)
     good_predefined =
-        good-either (opening to_opens (Agents 1) (Agents 1) refl tt (deeper_plain 0 is_agent) (λ j u h. false_not h) (good_agents to_opens refl))
-        (good-either (opening from_opens (Agents 1) (Agents 1) refl tt (deeper_plain 0 is_agent) (λ j u h. false_not h) (good_agent (rank from_opens 0) 8 1 (deeper_belongs (rank from_opens 0) (rank agent_name 1) refl (omega arith))))
-        (good-either (good-then good-byte good_representation)
-        (good-either (single comments refl tt refl (λ j. refl))
-        (good-either (single payload_length refl tt refl (λ j. refl))
-        (good-either (single payload_encoding refl tt refl (λ j. refl))
-        (good-either (good-when (opening encrypted_opens Every Every refl tt (λ x h. tt) (λ j u h. is_plain j encrypted_item (eqb-true j encrypted_item h) u) (good-then (good-many (good-leaf (rank encrypted_opens 0) encrypted_item 0 (beside_belongs (rank encrypted_opens 0) (rank encrypted_item 0) refl refl) tt refl (λ j. refl))) good-byte)))
-        (good-either (opening receiver_opens (Agents 1) (Agents 1) refl tt (deeper_plain 0 is_agent) (λ j u h. false_not h) (good_agents receiver_opens refl))
-        (good-either (good-then good-byte good_received)
+        good_either (opening to_opens (Agents 1) (Agents 1) refl tt (deeper_plain 0 is_agent) (λ j u h. false_not h) (good_agents to_opens refl))
+        (good_either (opening from_opens (Agents 1) (Agents 1) refl tt (deeper_plain 0 is_agent) (λ j u h. false_not h) (good_agent (rank from_opens 0) 8 1 (deeper_belongs (rank from_opens 0) (rank agent_name 1) refl (omega arith))))
+        (good_either (good_then good_byte good_representation)
+        (good_either (single comments refl tt refl (λ j. refl))
+        (good_either (single payload_length refl tt refl (λ j. refl))
+        (good_either (single payload_encoding refl tt refl (λ j. refl))
+        (good_either (good_when (opening encrypted_opens Every Every refl tt (λ x h. tt) (λ j u h. is_plain j encrypted_item (eqb-true j encrypted_item h) u) (good_then (good_many (good_leaf (rank encrypted_opens 0) encrypted_item 0 (beside_belongs (rank encrypted_opens 0) (rank encrypted_item 0) refl refl) tt refl (λ j. refl))) good_byte)))
+        (good_either (opening receiver_opens (Agents 1) (Agents 1) refl tt (deeper_plain 0 is_agent) (λ j u h. false_not h) (good_agents receiver_opens refl))
+        (good_either (good_then good_byte good_received)
         (opening behaviour_opens Every Every refl tt (λ x h. tt) value_not (good_any (rank behaviour_opens 0) 0 (beside_belongs (rank behaviour_opens 0) (rank any_text 0) refl refl) (beside_belongs (rank behaviour_opens 0) (rank any_bytes 0) refl refl)))))))))))
 
     good_slot : Good (UserDefinedSlot t) (Own owner) (Plain 0) (Plain 0)
-    good_slot = opening own_key Every Every refl tt (λ x h. tt) (λ j u h. is_plain j own_value (eqb-true j own_value h) u) (good-leaf (rank own_key 0) own_value 0 (beside_belongs (rank own_key 0) (rank own_value 0) refl refl) tt refl (λ j. refl))
+    good_slot = opening own_key Every Every refl tt (λ x h. tt) (λ j u h. is_plain j own_value (eqb-true j own_value h) u) (good_leaf (rank own_key 0) own_value 0 (beside_belongs (rank own_key 0) (rank own_value 0) refl refl) tt refl (λ j. refl))
 
     good_parameters : Good (many (Parameter t) ⨾ EndOfCollection) (Own owner) (Plain 0) (Plain 0)
-    good_parameters = good-then (good-many (good-either good_predefined good_slot)) good-byte
+    good_parameters = good_then (good_many (good_either good_predefined good_slot)) good_byte
 
   good_length : {n : ℕ} {A F : Class} → Good (EnvLen n) A F F
-  good_length = good-either good-unseen (good-when (good-then (good-then good-byte good-byte) good-unseen))
+  good_length = good_either good_unseen (good_when (good_then (good_then good_byte good_byte) good_unseen))
 
   good_base : Good (BaseEnvelope t) Every Envelopes Envelopes
   good_base =
       let r = rank base_opens 0 in
       let own : (j : ℕ) → ltb base_opens j ≡ true → belongs r (rank j 0) ≡ true = λ j h. beside_belongs r (rank j 0) refl h in
       good_envelope base_opens (Plain 0) (Plain 0) (inr (refl, tt)) envelopes_plain (follows base_opens 0 is_envelope envelope_not)
-      (λ n. good-then (good-then good-byte (good-then good_length (good-then (good_representation r own) (good_date r 0 own)))) (good_parameters r own))
+      (λ n. good_then (good_then good_byte (good_then good_length (good_then (good_representation r own) (good_date r 0 own)))) (good_parameters r own))
 
   good_extension : Good (ExtEnvelope t) Every Envelopes Envelopes
   good_extension =
       let r = rank extension_opens 0 in
       let own : (j : ℕ) → ltb base_opens j ≡ true → belongs r (rank j 0) ≡ true = λ j h. beside_belongs r (rank j 0) refl h in
       good_envelope extension_opens (Plain 0) (Plain 0) (inr (refl, tt)) envelopes_plain (follows extension_opens 0 is_envelope envelope_not)
-      (λ n. good-then (good-then good-byte (good-then good_length (good_received r own))) (good_parameters r own))
+      (λ n. good_then (good_then good_byte (good_then good_length (good_received r own))) (good_parameters r own))
 
   good_header : Good (Header t) Every Envelopes Envelopes
-  good_header = good-then (good-upTo good_extension) good_base
+  good_header = good_then (good_up_to good_extension) good_base
 
   -- whatever a reading is told
-  pub header-nested : (at : ℕ) (bytes : List ℕ) (ts : Trees) → Header t at bytes ts → Nested ts []
-  header-nested at bytes ts h = (good_header.nests at bytes ts h [] tt).1
+  pub header_nested : (at : ℕ) (bytes : List ℕ) (ts : Trees) → Header t at bytes ts → Nested ts []
+  header_nested at bytes ts h = (good_header.nests at bytes ts h [] tt).1
 
-  pub header-skips : (at i : ℕ) (bytes : List ℕ) (ts : Trees) → Header t at bytes ts → skips_from i (ranks ts) ≡ skip_numbers i ts
-  header-skips at i bytes ts h =
-      ap (skips_from i) (sym (append-nil (ranks ts))) ∙ skips_are i ts [] (header-nested at bytes ts h) ∙ append-nil (skip_numbers i ts)
+  pub header_skips : (at i : ℕ) (bytes : List ℕ) (ts : Trees) → Header t at bytes ts → skips_from i (ranks ts) ≡ skip_numbers i ts
+  header_skips at i bytes ts h =
+      ap (skips_from i) (sym (append-nil (ranks ts))) ∙ skips_are i ts [] (header_nested at bytes ts h) ∙ append-nil (skip_numbers i ts)

@@ -76,8 +76,8 @@ pub record Good (P : Syntax) (A F S : Class) : Type 0 where
 
 module _ {A : Class} where
   module _ {P Q : Syntax} {F S : Class} where
-    pub good-then : {M : Class} → Good P A M S → Good Q A F M → Good (P ⨾ Q) A F S
-    good-then {M} p q = record { rows = all; nests = nest }
+    pub good_then : {M : Class} → Good P A M S → Good Q A F M → Good (P ⨾ Q) A F S
+    good_then {M} p q = record { rows = all; nests = nest }
       where
         all : (at : ℕ) (a : List ℕ) (ts : Trees) → (P ⨾ Q) at a ts → All A (ranks ts)
         all _ _ _ (◌then◌ {at} {a} {b} {ts} {us} x y) =
@@ -89,8 +89,8 @@ module _ {A : Class} where
             let u = p.nests at a ts x (ranks us ++ more) v.0 in
             (subst (λ (l : List Rank). Next S l) (behind_⊕ ts us more) u.0, nested_⊕ ts us more u.1 v.1)
 
-    pub good-either : Good P A F S → Good Q A F S → Good (P ∣ Q) A F S
-    good-either p q = record { rows = all; nests = nest }
+    pub good_either : Good P A F S → Good Q A F S → Good (P ∣ Q) A F S
+    good_either p q = record { rows = all; nests = nest }
       where
         all : (at : ℕ) (a : List ℕ) (ts : Trees) → (P ∣ Q) at a ts → All A (ranks ts)
         all at a ts (first x) = p.rows at a ts x
@@ -100,8 +100,8 @@ module _ {A : Class} where
         nest at a ts (first x) = p.nests at a ts x
         nest at a ts (other y) = q.nests at a ts y
 
-  pub good-byte : {c : ℕ} {F : Class} → Good (byte c) A F F
-  good-byte {c} {F} = record { rows = all; nests = nest }
+  pub good_byte : {c : ℕ} {F : Class} → Good (byte c) A F F
+  good_byte {c} {F} = record { rows = all; nests = nest }
     where
       all : (at : ℕ) (a : List ℕ) (ts : Trees) → byte c at a ts → All A (ranks ts)
       all _ _ _ byte.it = tt
@@ -109,8 +109,8 @@ module _ {A : Class} where
       nest : (at : ℕ) (a : List ℕ) (ts : Trees) → byte c at a ts → (more : List Rank) → Next F more → Next F (ranks ts ++ more) × Nested ts more
       nest _ _ _ byte.it more h = (h, tt)
 
-  pub good-unseen : {R : List ℕ → Type 0} {F : Class} → Good (unseen R) A F F
-  good-unseen {R} {F} = record { rows = all; nests = nest }
+  pub good_unseen : {R : List ℕ → Type 0} {F : Class} → Good (unseen R) A F F
+  good_unseen {R} {F} = record { rows = all; nests = nest }
     where
       all : (at : ℕ) (a : List ℕ) (ts : Trees) → unseen R at a ts → All A (ranks ts)
       all _ _ _ (these x) = tt
@@ -119,8 +119,8 @@ module _ {A : Class} where
       nest _ _ _ (these x) more h = (h, tt)
 
   module _ {P : Syntax} {S : Class} where
-    pub good-optional : Good P A S S → Good (optional P) A S S
-    good-optional p = record { rows = all; nests = nest }
+    pub good_optional : Good P A S S → Good (optional P) A S S
+    good_optional p = record { rows = all; nests = nest }
       where
         all : (at : ℕ) (a : List ℕ) (ts : Trees) → optional P at a ts → All A (ranks ts)
         all _ _ _ absent = tt
@@ -130,8 +130,8 @@ module _ {A : Class} where
         nest _ _ _ absent more h = (h, tt)
         nest at a ts (present x) more h = p.nests at a ts x more h
 
-    pub good-many : Good P A S S → Good (many P) A S S
-    good-many p = record { rows = all; nests = nest }
+    pub good_many : Good P A S S → Good (many P) A S S
+    good_many p = record { rows = all; nests = nest }
       where
         all : (at : ℕ) (a : List ℕ) (ts : Trees) → many P at a ts → All A (ranks ts)
         all _ _ _ many.none = tt
@@ -145,8 +145,8 @@ module _ {A : Class} where
             let u = p.nests at a ts x (ranks us ++ more) v.0 in
             (subst (λ (l : List Rank). Next S l) (behind_⊕ ts us more) u.0, nested_⊕ ts us more u.1 v.1)
 
-    pub good-upTo : {n : ℕ} → Good P A S S → Good (up_to P n) A S S
-    good-upTo {n} p = record { rows = all n; nests = nest n }
+    pub good_up_to : {n : ℕ} → Good P A S S → Good (up_to P n) A S S
+    good_up_to {n} p = record { rows = all n; nests = nest n }
       where
         all : (n at : ℕ) (a : List ℕ) (ts : Trees) → up_to P n at a ts → All A (ranks ts)
         all _ _ _ _ up_to.none = tt
@@ -160,8 +160,8 @@ module _ {A : Class} where
             let u = p.nests at a ts x (ranks us ++ more) v.0 in
             (subst (λ (l : List Rank). Next S l) (behind_⊕ ts us more) u.0, nested_⊕ ts us more u.1 v.1)
 
-  pub good-when : {P : Syntax} {C : Type 0} {F S : Class} → Good P A F S → Good (when C P) A F S
-  good-when {P} {C} {F} {S} p = record { rows = all; nests = nest }
+  pub good_when : {P : Syntax} {C : Type 0} {F S : Class} → Good P A F S → Good (when C P) A F S
+  good_when {P} {C} {F} {S} p = record { rows = all; nests = nest }
     where
       all : (at : ℕ) (a : List ℕ) (ts : Trees) → when C P at a ts → All A (ranks ts)
       all at a ts (met q x) = p.rows at a ts x
@@ -179,9 +179,9 @@ module _ (owner : Rank) where
   row_all : (r : Rank) (l : List Rank) → belongs owner r ≡ true → All (Own r) l → All (Own owner) (r ∷ (l ++ []))
   row_all r l b p = (b, all_both (Own owner) l [] (all_wider {A = Own r} {A' = Own owner} (λ x h. belonging_nests owner r x b h) l p) tt)
 
-  pub good-node : (k n : ℕ) {X : Value} {P : Syntax} {F S : Class} (F' S' : Class) → belongs owner (rank k n) ≡ true → S (rank k n) → ((x : Rank) → F x → F' x) → ((x : Rank) → F x → belongs (rank k n) x ≡ false)
+  pub good_node : (k n : ℕ) {X : Value} {P : Syntax} {F S : Class} (F' S' : Class) → belongs owner (rank k n) ≡ true → S (rank k n) → ((x : Rank) → F x → F' x) → ((x : Rank) → F x → belongs (rank k n) x ≡ false)
       → Good P (Own (rank k n)) F' S' → Good (node k n X P) (Own owner) F S
-  good-node k n {X} {P} {F} {S} F' S' b Begins wider out p = record { rows = all; nests = nest }
+  good_node k n {X} {P} {F} {S} F' S' b Begins wider out p = record { rows = all; nests = nest }
     where
       all : (at : ℕ) (a : List ℕ) (ts : Trees) → node k n X P at a ts → All (Own owner) (ranks ts)
       all _ _ _ (holds {at} {a} {b = c} {ts} x y) = row_all (rank k n) (ranks ts) b (p.rows (at + length a) c ts y)
@@ -190,8 +190,8 @@ module _ (owner : Rank) where
       nest _ _ _ (holds {at} {before} {a} {b = c} {view} {ts} x y) =
           row_nests (rank k n) S wider out Begins (at + before) view ts (p.rows (at + length a) c ts y) (λ more h. (p.nests (at + length a) c ts y more h).1)
 
-  pub good-leaf : (k n : ℕ) {X : Value} {F S : Class} → belongs owner (rank k n) ≡ true → S (rank k n) → holds_deeper k ≡ false → ((j : ℕ) → beside k j ≡ false) → Good (leaf k n X) (Own owner) F S
-  good-leaf k n {X} {F} {S} b Begins flat bare = record { rows = all; nests = nest }
+  pub good_leaf : (k n : ℕ) {X : Value} {F S : Class} → belongs owner (rank k n) ≡ true → S (rank k n) → holds_deeper k ≡ false → ((j : ℕ) → beside k j ≡ false) → Good (leaf k n X) (Own owner) F S
+  good_leaf k n {X} {F} {S} b Begins flat bare = record { rows = all; nests = nest }
     where
       out : (x : Rank) → belongs (rank k n) x ≡ false
       out x = belongs_not (rank k n) x at

@@ -7,9 +7,9 @@ use Rattle.meaning.specs.Headers.{Placed, placed_row, accepted, header}
 use Rattle.papers.specs.Notation.{Trees, end, tree, flat, size, skip_numbers}
 use Rattle.papers.specs.Papers.{Header}
 use Rattle.papers.specs.TreeSkips.{ranks}
-use Rattle.papers.specs.Header.{papers-in}
+use Rattle.papers.specs.Header.{papers_in}
 use Rattle.papers.specs.Reads.{envelopes_read}
-use Rattle.papers.specs.Nested.{header-skips}
+use Rattle.papers.specs.Nested.{header_skips}
 
 pub flat_size : (ts : Trees) → length (flat ts) ≡ size ts
 flat_size end = refl
@@ -85,7 +85,7 @@ ranks_of_rows ts us q = sym (are ts) ∙ ap ranked q ∙ are us
 -- rows of a header of the papers stand in one tree, whatever bytes they come from
 pub one_nesting : (t t' : Told) (at at' : ℕ) (a b : List ℕ) (ts us : Trees) → Header t at a ts → Header t' at' b us → flat ts ≡ flat us → ts ≡ us
 one_nesting t t' at at' a b ts us x y q =
-    told_by_skips 0 ts us q (sym (header-skips t at 0 a ts x) ∙ ap (skips_from 0) (ranks_of_rows ts us q) ∙ header-skips t' at' 0 b us y)
+    told_by_skips 0 ts us q (sym (header_skips t at 0 a ts x) ∙ ap (skips_from 0) (ranks_of_rows ts us q) ∙ header_skips t' at' 0 b us y)
 
 same_end : {p q : ℕ} {rs ts : List Placed} → accepted p rs ≡ accepted q ts → p ≡ q
 same_end q = cc q
@@ -96,7 +96,7 @@ same_rows q = cc q
 -- an input has one header, and the header one tree
 pub one_tree : (t : Told) (at : ℕ) (a b p q : List ℕ) (ts us : Trees) → Header t at a ts → Header t at b us → a ++ p ≡ b ++ q → (a ≡ b) × (ts ≡ us)
 one_tree t at a b p q ts us x y same =
-    let read_a = envelopes_read t (papers-in t at a ts x) p in
-    let read-b = envelopes_read t (papers-in t at b us y) q in
+    let read_a = envelopes_read t (papers_in t at a ts x) p in
+    let read-b = envelopes_read t (papers_in t at b us y) q in
     let both = sym read_a ∙ ap (header 16 t at) same ∙ read-b in
     (fronts a b p q (let l = same_end both in omega arith) same, one_nesting t t at at a b ts us x y (same_rows both))

@@ -9,7 +9,7 @@ use Rattle.laws_steps.specs.Logic.{left_of}
 use Rattle.papers.specs.Notation.{Trees, end, tree, size}
 use Rattle.papers.specs.Papers.{Header}
 use Rattle.papers.specs.Holding.{kind_in, level_in, may_hold, holds_one, Tops, Each}
-use Rattle.papers.specs.Held.{opens_envelope, header-holding}
+use Rattle.papers.specs.Held.{opens_envelope, header_holding}
 
 -- "For an envelope that is the next envelope's row, or the row count": from row i on, each row here opens an envelope, its skip number is the next one's row, and the last one's the count
 abbrev pub EnvelopesSkip : ℕ → ℕ → Trees → Type 0
@@ -59,11 +59,11 @@ all_clauses i (tree k n s v inside beside) e = (
 )
 
 module _ (t : Told) (at : ℕ) (bytes : List ℕ) (ts : Trees) (x : Header t at bytes ts) where
-  pub order-seven-envelopes : EnvelopesSkip (size ts) 0 ts
-  order-seven-envelopes = envelopes_skip (size ts) 0 ts (omega arith) ((header-holding t).tops at bytes ts x)
+  pub order_seven_envelopes : EnvelopesSkip (size ts) 0 ts
+  order_seven_envelopes = envelopes_skip (size ts) 0 ts (omega arith) ((header_holding t).tops at bytes ts x)
 
-  pub order-seven-clauses : AllClauses 0 ts
-  order-seven-clauses = all_clauses 0 ts ((header-holding t).each at bytes ts x)
+  pub order_seven_clauses : AllClauses 0 ts
+  order_seven_clauses = all_clauses 0 ts ((header_holding t).each at bytes ts x)
 
 -- an agent's contents are its addresses, its resolvers and its extras, at its own level
 pub agent_contents : (n j m : ℕ) → T (may_hold (rank agent_name n) (rank j m)) → T (eqb j addresses_open || eqb j resolvers_open || eqb j extra_key)

@@ -78,14 +78,14 @@ module _ (C : Move → Type 0) where
   received_extras_lem B c = no_more C
   received_extras_lem D c = first_of C (extra_move D received_extra) [] (c refl) (no_more C)
 
-  pub own-parameters : (e : Edition) → (e ≡ B → C (on 0x08 ▸ encrypted_opens ▸ Form.opens ▸ outer encrypted_texts)) → (m : Move) → In m (own_parameters e) → C m
-  own-parameters B c = first_of C (on 0x08 ▸ encrypted_opens ▸ Form.opens ▸ outer encrypted_texts) [] (c refl) (no_more C)
-  own-parameters D c = no_more C
+  pub own_parameters_lem : (e : Edition) → (e ≡ B → C (on 0x08 ▸ encrypted_opens ▸ Form.opens ▸ outer encrypted_texts)) → (m : Move) → In m (own_parameters e) → C m
+  own_parameters_lem B c = first_of C (on 0x08 ▸ encrypted_opens ▸ Form.opens ▸ outer encrypted_texts) [] (c refl) (no_more C)
+  own_parameters_lem D c = no_more C
 
-  pub own-dates : (e : Edition) (n : Next) → (e ≡ B → C (on 0x21 ▸ date_absolute ▸ date absolute true ▸ n)) → (e ≡ D → C (on 0x21 ▸ date_forward ▸ date relative false ▸ n)) → (e ≡ D → C (on 0x22 ▸ date_backward ▸ date relative false ▸ n))
+  pub own_dates_lem : (e : Edition) (n : Next) → (e ≡ B → C (on 0x21 ▸ date_absolute ▸ date absolute true ▸ n)) → (e ≡ D → C (on 0x21 ▸ date_forward ▸ date relative false ▸ n)) → (e ≡ D → C (on 0x22 ▸ date_backward ▸ date relative false ▸ n))
       → (e ≡ D → C (on 0x24 ▸ date_absolute ▸ date absolute true ▸ n)) → (e ≡ D → C (on 0x25 ▸ date_forward ▸ date relative true ▸ n)) → (e ≡ D → C (on 0x26 ▸ date_backward ▸ date relative true ▸ n)) → (m : Move) → In m (own_dates e n) → C m
-  own-dates B n a b c d f g = first_of C (on 0x21 ▸ date_absolute ▸ date absolute true ▸ n) [] (a refl) (no_more C)
-  own-dates D n a b c d f g =
+  own_dates_lem B n a b c d f g = first_of C (on 0x21 ▸ date_absolute ▸ date absolute true ▸ n) [] (a refl) (no_more C)
+  own_dates_lem D n a b c d f g =
       first_of C (on 0x21 ▸ date_forward ▸ date relative false ▸ n) _ (b refl) (first_of C (on 0x22 ▸ date_backward ▸ date relative false ▸ n) _ (c refl) (first_of C (on 0x24 ▸ date_absolute ▸ date absolute true ▸ n) _ (d refl)
       (first_of C (on 0x25 ▸ date_forward ▸ date relative true ▸ n) _ (f refl) (first_of C (on 0x26 ▸ date_backward ▸ date relative true ▸ n) _ (g refl) (no_more C)))))
 

@@ -11,7 +11,7 @@ use Rattle.laws_tables.specs.PresentValues.{passed_written, can_ask_open}
 use Rattle.papers.specs.Notation.{size}
 use Rattle.papers.specs.WritesTrees.{WritesTrees, writes_trees, written_ranks}
 use Rattle.papers.specs.Children.{first_value}
-use Rattle.papers.specs.ByTrees.{present-by-trees}
+use Rattle.papers.specs.ByTrees.{present_by_trees}
 
 -- the rows as a header's trees, with the bytes that the writer gives for them, and the answer
 pub record PresentIn (edition : ℕ) (rows pool : List ℕ) (code place : ℕ) : Type 0 where
@@ -24,4 +24,4 @@ present_in_trees edition rows pool code w =
     let (bytes, q) = passed_written w.told rows pool w.check in
     let is : write edition rows pool (length bytes) ≡ written bytes = write_as edition w.told rows pool (length bytes) w.label ∙ q in
     let t : WritesTrees edition rows pool (length bytes) bytes = (writes_trees edition rows pool (length bytes) bytes).0 is in
-    record { bytes = bytes; tree = t; first = ap (present code) (written_ranks t) ∙ present-by-trees (told t.e) 0 bytes t.trees t.is code (can_ask_open code w.asked) }
+    record { bytes = bytes; tree = t; first = ap (present code) (written_ranks t) ∙ present_by_trees (told t.e) 0 bytes t.trees t.is code (can_ask_open code w.asked) }

@@ -10,8 +10,8 @@ use Rattle.laws_steps.specs.Logic.{are_bytes}
 use Rattle.laws_tables.specs.Ties.{accepted_known, read_as, from_zero}
 use Rattle.papers.specs.Notation.{Trees, end, tree, ◌⊕◌, flat, laid, ◌then◌}
 use Rattle.papers.specs.Papers.{Header, MessageEnvelope, any}
-use Rattle.papers.specs.Envelopes.{table_of_lem, of-table}
-use Rattle.papers.specs.Header.{papers-in, header-out}
+use Rattle.papers.specs.Envelopes.{table_of_lem, of_table}
+use Rattle.papers.specs.Header.{papers_in, header_out}
 use Rattle.papers.specs.Reads.{envelopes_read}
 use Rattle.papers.specs.HeaderBack.{header_found}
 use Rattle.papers.specs.HeaderBack
@@ -22,8 +22,8 @@ use Rattle.papers.specs.OneTree.{one_tree}
 
 pub same : (e : Edition) (bytes : List ℕ) (rows : List Placed) → TableOf e bytes rows ↔ ((ts : Trees) × Header (told e) 0 bytes ts × (flat ts ≡ rows))
 same e bytes rows = (
-  (λ t. header-out (told e) (of-table e t)),
-  λ w. subst (λ (l : List Placed). TableOf e bytes l) w.2 (table_of_lem e (papers-in (told e) 0 bytes w.0 w.1)),
+  (λ t. header_out (told e) (of_table e t)),
+  λ w. subst (λ (l : List Placed). TableOf e bytes l) w.2 (table_of_lem e (papers_in (told e) 0 bytes w.0 w.1)),
 )
 
 -- An input under an edition's number, read strictly or not: a header of that paper, and any payload behind it
@@ -56,7 +56,7 @@ envelope_message strictness edition e _ _ label (◌then◌ {a = a} {b = b} {ts 
 pub message_read : {strictness : Strictness} {edition : ℕ} {input : List ℕ} {place : ℕ} {trees : Trees} → Message strictness edition input place trees → read_by strictness edition input ≡ accepted place (flat trees)
 message_read {strictness} {edition} {input} {place} {trees} m =
     let t = told_by strictness m.e in
-    read_as strictness edition m.e input m.label ∙ ap (header envelopes_most t 0) m.parts ∙ envelopes_read t (papers-in t 0 m.bytes trees m.is) m.payload
+    read_as strictness edition m.e input m.label ∙ ap (header envelopes_most t 0) m.parts ∙ envelopes_read t (papers_in t 0 m.bytes trees m.is) m.payload
     ∙ ap (λ (x : ℕ). accepted x (flat trees)) (from_zero (length m.bytes) ∙ sym m.ends)
 
 -- THE tie: the reader accepts exactly these, with the rows of their trees
@@ -71,7 +71,7 @@ accepts_messages strictness edition input place rows u = (
     found (e, label, q) =
         let t = told_by strictness e in
         let f : HeaderBack.Found 16 t 0 input place rows = subst (HeaderBack.Again 16 t 0 input) q (header_found 16 t 0 input u) in
-        let (ts, x, same) = header-out t f.envelopes in
+        let (ts, x, same) = header_out t f.envelopes in
         (ts, record { e = e; label = label; bytes = f.bytes; payload = f.payload; parts = f.parts; ends = f.place ∙ from_zero (length f.bytes); is = x }, same)
 
 -- for the strict reading it is what `Grammar` calls a header of the input, bytes or not; so what Faults and WriterFaults say over that is said over the papers

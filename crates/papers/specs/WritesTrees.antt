@@ -15,7 +15,7 @@ use Rattle.laws_demands.specs.Demands.{writes_exactly}
 use Rattle.papers.specs.Notation.{Trees, end, tree, flat, skip_numbers}
 use Rattle.papers.specs.Papers.{Header}
 use Rattle.papers.specs.TreeSkips.{ranks}
-use Rattle.papers.specs.Nested.{header-skips}
+use Rattle.papers.specs.Nested.{header_skips}
 use Rattle.papers.specs.Same.{same}
 
 -- when rows are written, and as which bytes
@@ -47,7 +47,7 @@ held_same i (x ∷ xs) = rw (eq-eqb x x refl) (held_same (suc i) xs)
 -- right skip numbers are the trees'
 module _ (e : Edition) (rows pool bytes : List ℕ) (ts : Trees) (is : Header (told e) 0 bytes ts) (say : cells_of pool rows ≡ map cell (map meant (flat ts))) where
   right_are : skips_from 0 (ranks_of rows) ≡ skip_numbers 0 ts
-  right_are = ap (skips_from 0) (cells_ranks pool rows (map meant (flat ts)) say ∙ ranks_meant ts) ∙ header-skips (told e) 0 0 bytes ts is
+  right_are = ap (skips_from 0) (cells_ranks pool rows (map meant (flat ts)) say ∙ ranks_meant ts) ∙ header_skips (told e) 0 0 bytes ts is
 
   skips_of_right : skips_held rows ≡ right → skips_of rows ≡ skip_numbers 0 ts
   skips_of_right q = right_skips rows q ∙ right_are

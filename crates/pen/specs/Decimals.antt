@@ -1,6 +1,6 @@
 -- A number's decimal text: one digit, or a tenth's text and the last digit; and how long it is.
 use Rattle.std.specs.Prelude.{ℕ, zero, suc, ◌+◌, ◌*◌, ◌/◌, ◌%◌, ◌≤◌, ◌<◌, List, [], ◌∷◌, ◌++◌, map, Bool, true, false, ◌≡◌, refl, ltb, length}
-use Rattle.std.proofs.lemmas.List.{map_append}
+use Rattle.std.proofs.lemmas.List.{map-append}
 use Rattle.std.proofs.Common.{ap, sym, ◌∙◌, arith, lt-ltb, le-ltb, ltb-true, ltb-false, length-append}
 use Rattle.meaning.specs.Plain.{digits_within, digits_of}
 use Rattle.meaning.specs.Listing.{digit_character, decimal}
@@ -31,7 +31,7 @@ digits_more v h = first v h ∙ ap (λ (x : List ℕ). x ++ (v % 10 ∷ [])) (wi
 
 pub decimal_more : (v : ℕ) → 10 ≤ v → decimal v ≡ decimal (v / 10) ++ (digit_character (v % 10) ∷ [])
 unfolding decimal
-decimal_more v h = ap (map digit_character) (digits_more v h) ∙ map_append digit_character (digits_of (v / 10)) (v % 10 ∷ [])
+decimal_more v h = ap (map digit_character) (digits_more v h) ∙ map-append digit_character (digits_of (v / 10)) (v % 10 ∷ [])
 
 pub decimal_longer : (v : ℕ) → 10 ≤ v → length (decimal v) ≡ length (decimal (v / 10)) + 1
 decimal_longer v h = ap length (decimal_more v h) ∙ length-append (decimal (v / 10)) (digit_character (v % 10) ∷ [])

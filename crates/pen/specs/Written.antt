@@ -47,18 +47,18 @@ pub record Printing (text : List ℕ → List ℕ) (s : List ℕ) (k : ℕ) (bef
   pub left : text s ≡ done ++ text (drop k s)
 
 module _ {text : List ℕ → List ℕ} where
-  pub printing-begins : (s before : List ℕ) (at : ℕ) → Printing text s 0 before before at at
-  printing-begins s before at = record { done = []; wrote = wrote_none before at; left = refl }
+  pub printing_begins : (s before : List ℕ) (at : ℕ) → Printing text s 0 before before at at
+  printing_begins s before at = record { done = []; wrote = wrote_none before at; left = refl }
 
-  pub printing-goes : {s : List ℕ} {k : ℕ} {before after later : List ℕ} {at end far : ℕ} (part : ℕ → List ℕ) → ((x : ℕ) (xs : List ℕ) → text (x ∷ xs) ≡ part x ++ text xs)
+  pub printing_goes : {s : List ℕ} {k : ℕ} {before after later : List ℕ} {at end far : ℕ} (part : ℕ → List ℕ) → ((x : ℕ) (xs : List ℕ) → text (x ∷ xs) ≡ part x ++ text xs)
       → Printing text s k before after at end → k < length s → Wrote after later end (part (get_or s k 0)) far → Printing text s (k + 1) before later at far
-  printing-goes {s} {k} part each p h w =
+  printing_goes {s} {k} part each p h w =
       record {
         done = p.done ++ part (get_or s k 0);
         wrote = wrote_then p.wrote w;
         left = p.left ∙ ap (λ (x : List ℕ). p.done ++ text x) (drop-cons s k 0 h) ∙ ap (λ (x : List ℕ). p.done ++ x) (each (get_or s k 0) (drop (suc k) s)) ∙ sym (append_assoc p.done (part (get_or s k 0)) (text (drop (suc k) s))) ∙ rw (add-one k) refl;
       }
 
-  pub printing-ends : {s : List ℕ} {k : ℕ} {before after : List ℕ} {at end : ℕ} → text [] ≡ [] → Printing text s k before after at end → length s ≤ k → Wrote before after at (text s) end
-  printing-ends {s} {k} none p h =
+  pub printing_ends : {s : List ℕ} {k : ℕ} {before after : List ℕ} {at end : ℕ} → text [] ≡ [] → Printing text s k before after at end → length s ≤ k → Wrote before after at (text s) end
+  printing_ends {s} {k} none p h =
       wrote_as (sym (p.left ∙ ap (λ (x : List ℕ). p.done ++ text x) (drop_of_length-le s h) ∙ ap (λ (x : List ℕ). p.done ++ x) none ∙ append-nil p.done)) p.wrote

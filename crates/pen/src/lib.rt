@@ -1,4 +1,6 @@
 // The pen: each function writes at a place of `out` and answers the place behind what it wrote.
+#![tactic(auto)]
+
 ghost use Rattle.std.specs.Prelude.{◌≡◌, [], ◌∷◌, ◌++◌, ◌+◌, ◌*◌, ◌≤◌, ◌<◌, ◌/◌, ◌%◌, length};
 ghost use Rattle.meaning.specs.Listing.{decimal, digit_character, hex_character, hex_of};
 ghost use Rattle.pen.specs.Wrote.{Wrote};

@@ -18,11 +18,11 @@ use Rattle.meaning.specs.Reading.{take_value, reach_back, Found, or_else, look, 
 use Rattle.laws_steps.specs.From.{from, from_length, from_cons}
 use Rattle.laws_steps.specs.Rows.{put}
 use Rattle.laws_steps.specs.Pouring.{filled, stopped, Source, source, pour, run_at, landed, Peeked, pour_none, run_step}
-use Rattle.laws_steps.specs.ReadAt.{stepped, coded, opened, too-deep, strange_code, uncoded}
+use Rattle.laws_steps.specs.ReadAt.{stepped, coded, opened, too_deep_lem, strange_code, uncoded}
 use Rattle.values.specs.Stages.{Span, spans, misses, span, rule_of}
 use Rattle.values.specs.declared.text.Rule.{Rule}
 use Rattle.date.specs.Dates.{reaching, date_length}
-use Rattle.date.specs.DateSteps.{dateFrom, date-begins, nine_at_least}
+use Rattle.date.specs.DateSteps.{date_from, date_begins, nine_at_least}
 use Rattle.moves.specs.declared.rooms.Room as declared
 use Rattle.moves.specs.declared.rooms.Room.TheVariants as rooms
 use Rattle.moves.specs.declared.rooms.Found as declaredFound
@@ -106,23 +106,23 @@ module _ (t : Told) (s : List ℕ) (at : ℕ) (kind : ℕ) (g : declaredNext.Nex
   none_yet : at + 1 - (at + 1) ≡ 0
   none_yet = omega arith
 
-  pub text-begins : (rule : Rule) → span 0 (take_value t (meaning.text (rule_of rule)) (end - at) (get_or s at 0) (from s (at + 1) end)) ≡ span_from (source t s end) (Text rule pending) (at + 1)
+  pub text_begins : (rule : Rule) → span 0 (take_value t (meaning.text (rule_of rule)) (end - at) (get_or s at 0) (from s (at + 1) end)) ≡ span_from (source t s end) (Text rule pending) (at + 1)
   unfolding take_value span_from
-  text-begins rule = rw none_yet refl
+  text_begins rule = rw none_yet refl
 
-  pub date-begun : (isAbsolute designated : Bool)
+  pub date_begun : (isAbsolute designated : Bool)
       → span 0 (take_value t (meaning.date (reach_of isAbsolute) designated) (end - at) (get_or s at 0) (from s (at + 1) end)) ≡ span_from (source t s end) (Date isAbsolute designated pending) (at + 1)
   unfolding take_value span_from
-  date-begun isAbsolute designated = rw (reach_same isAbsolute, none_yet) (date-begins s end (at + 1) isAbsolute (date_length designated) designated refl)
+  date_begun isAbsolute designated = rw (reach_same isAbsolute, none_yet) (date_begins s end (at + 1) isAbsolute (date_length designated) designated refl)
 
-  pub number-begins : span 0 (take_value t meaning.number (end - at) (get_or s at 0) (from s (at + 1) end)) ≡ span_from (source t s end) (Number 0 pending) (at + 1)
+  pub number_begins : span 0 (take_value t meaning.number (end - at) (get_or s at 0) (from s (at + 1) end)) ≡ span_from (source t s end) (Number 0 pending) (at + 1)
   unfolding take_value span_from
-  number-begins = rw (eq-eqb (at + 1) (at + 1) refl, none_yet) refl
+  number_begins = rw (eq-eqb (at + 1) (at + 1) refl, none_yet) refl
 
-  pub block-begins : (w : Width) (width : ℕ) → width_of width ≡ w → bytes_of w ≡ width
+  pub block_begins : (w : Width) (width : ℕ) → width_of width ≡ w → bytes_of w ≡ width
       → span 0 (take_value t (meaning.block w) (end - at) (get_or s at 0) (from s (at + 1) end)) ≡ span_from (source t s end) (Length width 0 pending) (at + 1)
   unfolding take_value take_block span_from
-  block-begins w width p r =
+  block_begins w width p r =
       let u : at + 1 + width - (at + 1) ≡ width = omega arith in
       let v : at + 1 - 1 ≡ at = omega arith in
       rw (u, v, p, r) refl
@@ -151,39 +151,39 @@ module _ (t : Told) (s : List ℕ) (at : ℕ) (room : declared.Room) (l : Lists)
 
     -- .. and a value behind it
     module _ (leads : Leads g l) where
-      pub taken-up : (taking : Taking) → pending_of taking ≡ of → is_quiet (form_of f) ≡ false → reach_back (form_of f) ≡ back_of taking → Valid taking (at + 1)
+      pub taken_up : (taking : Taking) → pending_of taking ≡ of → is_quiet (form_of f) ≡ false → reach_back (form_of f) ≡ back_of taking → Valid taking (at + 1)
           → ((end : ℕ) → at < end → end ≤ length s → span 0 (take_value t (form_of f) (end - at) b (from s (at + 1) end)) ≡ span_from (source t s end) taking (at + 1))
           → CodeSteps room l t s at (fed.Goes taking)
       unfolding value_at fed_at FedLeads FedValid
-      taken-up taking p z y v w = record { is = λ end h k n m. coded_span z end h k n m ∙ rw (p, ← y, w end h k) refl; valid = v; leads = rw p leads }
+      taken_up taking p z y v w = record { is = λ end h k n m. coded_span z end h k n m ∙ rw (p, ← y, w end h k) refl; valid = v; leads = rw p leads }
 
-      pub takes-text : (rule : Rule) → f ≡ form.Text rule → CodeSteps room l t s at (fed.Goes (Text rule of))
+      pub takes_text : (rule : Rule) → f ≡ form.Text rule → CodeSteps room l t s at (fed.Goes (Text rule of))
       unfolding Valid
-      takes-text rule x = taken-up (Text rule of) refl (rw x refl) (rw x refl) (omega arith) (λ end h k. rw x (text-begins t s at kind g end h k rule))
+      takes_text rule x = taken_up (Text rule of) refl (rw x refl) (rw x refl) (omega arith) (λ end h k. rw x (text_begins t s at kind g end h k rule))
 
-      pub takes-date : (isAbsolute designated : Bool) → f ≡ form.Date isAbsolute designated → CodeSteps room l t s at (fed.Goes (Date isAbsolute designated of))
+      pub takes_date : (isAbsolute designated : Bool) → f ≡ form.Date isAbsolute designated → CodeSteps room l t s at (fed.Goes (Date isAbsolute designated of))
       unfolding Valid
-      takes-date isAbsolute designated x =
-          taken-up (Date isAbsolute designated of) refl (rw x refl) (rw x refl) (omega arith, omega (arith, nine_at_least designated)) (λ end h k. rw x (date-begun t s at kind g end h k isAbsolute designated))
+      takes_date isAbsolute designated x =
+          taken_up (Date isAbsolute designated of) refl (rw x refl) (rw x refl) (omega arith, omega (arith, nine_at_least designated)) (λ end h k. rw x (date_begun t s at kind g end h k isAbsolute designated))
 
-      pub takes-number : f ≡ form.Number → CodeSteps room l t s at (fed.Goes (Number 0 of))
+      pub takes_number : f ≡ form.Number → CodeSteps room l t s at (fed.Goes (Number 0 of))
       unfolding Valid
-      takes-number x = taken-up (Number 0 of) refl (rw x refl) (rw x refl) (omega arith, omega arith) (λ end h k. rw x (number-begins t s at kind g end h k))
+      takes_number x = taken_up (Number 0 of) refl (rw x refl) (rw x refl) (omega arith, omega arith) (λ end h k. rw x (number_begins t s at kind g end h k))
 
-      pub takes-block : (w : Width) (width : ℕ) → width_of width ≡ w → bytes_of w ≡ width → 0 < width → form_of f ≡ meaning.block w → CodeSteps room l t s at (fed.Goes (Length width 0 of))
+      pub takes_block : (w : Width) (width : ℕ) → width_of width ≡ w → bytes_of w ≡ width → 0 < width → form_of f ≡ meaning.block w → CodeSteps room l t s at (fed.Goes (Length width 0 of))
       unfolding Valid
-      takes-block w width p c d x =
+      takes_block w width p c d x =
           let u : at + 1 - (at + 1) ≡ 0 = omega arith in
-          taken-up (Length width 0 of) refl (rw x refl) (rw x refl) (omega arith, omega arith, omega arith, ap bytes_of p ∙ c, rw u (omega arith))
-          (λ end h k. rw x (block-begins t s at kind g end h k w width p c))
+          taken_up (Length width 0 of) refl (rw x refl) (rw x refl) (omega arith, omega arith, omega arith, ap bytes_of p ∙ c, rw u (omega arith))
+          (λ end h k. rw x (block_begins t s at kind g end h k w width p c))
 
       -- a row at the code
-      abbrev here-row : Pending
-      here-row = record { kind = kind; next = g; start = at }
+      abbrev here_row : Pending
+      here_row = record { kind = kind; next = g; start = at }
 
-      pub coded-itself : f ≡ form.Itself → {x : Fed} → x ≡ fed.Ends here-row 1 → CodeSteps room l t s at x
+      pub coded_itself : f ≡ form.Itself → {x : Fed} → x ≡ fed.Ends here_row 1 → CodeSteps room l t s at x
       unfolding take_value fed_at FedLeads FedValid
-      coded-itself x q = rw q (record {
+      coded_itself x q = rw q (record {
         is = λ end h k n m.
             let u : end - (length (from s (at + 1) end) + 1 + 0) ≡ at = omega (arith, from_length s (at + 1) end (omega arith) k) in
             coded_span (rw x refl) end h k n m ∙ rw (x, u) refl;
@@ -191,9 +191,9 @@ module _ (t : Told) (s : List ℕ) (at : ℕ) (room : declared.Room) (l : Lists)
         leads = leads;
       })
 
-      pub coded-opens : f ≡ form.Opens → {x : Fed} → x ≡ fed.Ends here-row 0 → CodeSteps room l t s at x
+      pub coded_opens : f ≡ form.Opens → {x : Fed} → x ≡ fed.Ends here_row 0 → CodeSteps room l t s at x
       unfolding take_value fed_at FedLeads FedValid
-      coded-opens x q = rw q (record {
+      coded_opens x q = rw q (record {
         is = λ end h k n m.
             let u : end - (length (from s (at + 1) end) + 0 + 1) ≡ at = omega (arith, from_length s (at + 1) end (omega arith) k) in
             coded_span (rw x refl) end h k n m ∙ rw (x, u) refl;
@@ -201,9 +201,9 @@ module _ (t : Told) (s : List ℕ) (at : ℕ) (room : declared.Room) (l : Lists)
         leads = leads;
       })
 
-      pub coded-quiet : f ≡ form.Quiet → CodeSteps room l t s at (fed.Moves g)
+      pub coded_quiet : f ≡ form.Quiet → CodeSteps room l t s at (fed.Moves g)
       unfolding take_value step step_move fed_at FedLeads FedValid
-      coded-quiet x = record {
+      coded_quiet x = record {
         is = λ end h k n m.
             let y : look b (moves t.edition (room_of room)) ≡ hit (on b ▸ kind ▸ meaning.quiet ▸ next_of g) = here.is ∙ rw x refl in
             stepped (source t s end) at n m q (b ∷ from s (at + 1) end) (next (go (next_of g) q) [] (from s (at + 1) end)) (from_cons s at end h k) (rw (y, flat, code_not) refl)
@@ -213,24 +213,24 @@ module _ (t : Told) (s : List ℕ) (at : ℕ) (room : declared.Room) (l : Lists)
       }
 
   -- an agent of level 9
-  pub coded-deep : (v : meaning.Move) → look b (moves t.edition (room_of room)) ≡ hit v → too_deep v q ≡ true → CodeSteps room l t s at (fed.Wrong 12 at)
+  pub coded_deep : (v : meaning.Move) → look b (moves t.edition (room_of room)) ≡ hit v → too_deep v q ≡ true → CodeSteps room l t s at (fed.Wrong 12 at)
   unfolding fed_at FedLeads FedValid
-  coded-deep v y d = record { is = λ end h k n m. too-deep (source t s end) at n m b h k (from_cons s at end h k) q v y d; valid = tt; leads = tt }
+  coded_deep v y d = record { is = λ end h k n m. too_deep_lem (source t s end) at n m b h k (from_cons s at end h k) q v y d; valid = tt; leads = tt }
 
   -- no move
-  pub none-closed : is_closed (room_of room) ≡ true → CodeSteps room l t s at fed.Over
+  pub none_closed : is_closed (room_of room) ≡ true → CodeSteps room l t s at fed.Over
   unfolding fed_at FedLeads FedValid
-  none-closed c = record { is = λ end h k n m. closed_same (source t s end) at n m (omega arith) k (room_of room) l.depth _ c; valid = tt; leads = tt }
+  none_closed c = record { is = λ end h k n m. closed_same (source t s end) at n m (omega arith) k (room_of room) l.depth _ c; valid = tt; leads = tt }
 
-  pub none-strange : NoneHere t s at room → is_closed (room_of room) ≡ false → {refusal : ℕ} → refusal ≡ strange (room_of room) → CodeSteps room l t s at (fed.Wrong refusal at)
+  pub none_strange : NoneHere t s at room → is_closed (room_of room) ≡ false → {refusal : ℕ} → refusal ≡ strange (room_of room) → CodeSteps room l t s at (fed.Wrong refusal at)
   unfolding fed_at FedLeads FedValid
-  none-strange here c o = record { is = λ end h k n m. strange_code (source t s end) at n m b h k (from_cons s at end h k) q _ here.is c (sym o); valid = tt; leads = tt }
+  none_strange here c o = record { is = λ end h k n m. strange_code (source t s end) at n m b h k (from_cons s at end h k) q _ here.is c (sym o); valid = tt; leads = tt }
 
   -- a text that begins at the byte
-  pub uncoded-span : (kind : ℕ) (rule : Rule) (g : declaredNext.Next) → UncodedHere t s at room kind rule g → eqb kind agent_name && ltb level_most l.depth ≡ false → (end : ℕ) → at < end → end ≤ length s → (n : ℕ) (m : List ℕ)
+  pub uncoded_span : (kind : ℕ) (rule : Rule) (g : declaredNext.Next) → UncodedHere t s at room kind rule g → eqb kind agent_name && ltb level_most l.depth ≡ false → (end : ℕ) → at < end → end ≤ length s → (n : ℕ) (m : List ℕ)
       → run_at (source t s end) q at n m ≡ value_at (source t s end) q (Text rule (record { kind = kind; next = g; start = at })) at n m
   unfolding value_at span_from
-  uncoded-span kind rule g here flat end h k n m =
+  uncoded_span kind rule g here flat end h k n m =
       let u : at - at ≡ 0 = omega arith in
       let p : Peeked s end at b = record { is = from_cons s at end h k ∙ rw (lt-ltb b 256 here.byte) refl; inside = λ z. h; before = omega arith; whole = k; top = omega (arith, here.byte) } in
       uncoded (source t s end) at n m b p q kind (rule_of rule) (next_of g) here.is flat (hit_open t.edition (room_of room) b here.is)
@@ -289,8 +289,8 @@ module _ (t : Told) (s : List ℕ) (at : ℕ) (room : declared.Room) {b : ℕ} (
   pub none_here : x ≡ found.Nothing → NoneHere t s at room
   none_here q = record { byte = omega arith; is = found_is ∙ rw q refl }
 
-  pub coded-here : {kind : ℕ} {f : declaredForm.Form} {g : declaredNext.Next} → x ≡ found.Coded kind f g → CodedHere t s at room kind f g
-  coded-here q = record { byte = omega arith; is = found_is ∙ rw q refl }
+  pub coded_here : {kind : ℕ} {f : declaredForm.Form} {g : declaredNext.Next} → x ≡ found.Coded kind f g → CodedHere t s at room kind f g
+  coded_here q = record { byte = omega arith; is = found_is ∙ rw q refl }
 
-  pub uncoded-here : {kind : ℕ} {rule : Rule} {g : declaredNext.Next} → x ≡ found.Uncoded kind rule g → UncodedHere t s at room kind rule g
-  uncoded-here q = record { byte = omega arith; is = found_is ∙ rw q refl }
+  pub uncoded_here : {kind : ℕ} {rule : Rule} {g : declaredNext.Next} → x ≡ found.Uncoded kind rule g → UncodedHere t s at room kind rule g
+  uncoded_here q = record { byte = omega arith; is = found_is ∙ rw q refl }

@@ -13,13 +13,13 @@ use Rattle.meaning.specs.Bytes.{Taken, text_byte, passes, number_most, Turn, sto
 use Rattle.laws_steps.specs.From.{from, from_length, from_cons}
 use Rattle.values.specs.Stages.{Span, spans, misses, span, rule_of}
 use Rattle.values.specs.Answers.{span_prefixed}
-use Rattle.values.proofs.Texts.{text-stops, text_wrong, text-goes}
+use Rattle.values.proofs.Texts.{text_stops, text_wrong, text_goes}
 use Rattle.values.specs.declared.text.Rule.{Rule}
 use Rattle.values.specs.Numbers.{turned, Worth, Turned}
 use Rattle.values.specs.declared.number.Turning.{Turning}
 use Rattle.values.specs.declared.number.Turning.TheVariants as turning
 use Rattle.date.specs.Dates.{date_length, check_at, earlier}
-use Rattle.date.specs.DateSteps.{dateFrom, date_over, date_wrong, date-goes}
+use Rattle.date.specs.DateSteps.{date_from, date_over, date_wrong, date_goes}
 use Rattle.plain.specs.declared.feed.Pending.{Pending}
 use Rattle.plain.specs.declared.feed.Taking.TheVariants.{Text, Date, Number, Length, Block}
 use Rattle.plain.specs.declared.feed.Fed.{Fed}
@@ -31,29 +31,29 @@ module _ (t : Told) (s : List ℕ) (at : ℕ) where
   module _ (rule : Rule) (of : Pending) (v : Valid (Text rule of) at) where
     pub text_ended : get_or s at 0 ≡ 0 → Feeds t s (Text rule of) at (Ends of (at - of.start))
     unfolding span_from fed_span Follows Valid
-    text_ended z = record { is = λ end h l. text-stops (rule_of rule) s end l of.start at v h z; follows = (record { kind = refl; next = refl }, omega arith) }
+    text_ended z = record { is = λ end h l. text_stops (rule_of rule) s end l of.start at v h z; follows = (record { kind = refl; next = refl }, omega arith) }
 
-    pub text-further : text_byte (rule_of rule) (get_or s at 0) ≡ true → Feeds t s (Text rule of) at (Goes (Text rule of))
+    pub text_further : text_byte (rule_of rule) (get_or s at 0) ≡ true → Feeds t s (Text rule of) at (Goes (Text rule of))
     unfolding span_from fed_span Follows Valid
-    text-further b = record { is = λ end h l. text-goes (rule_of rule) s end l of.start at v h b; follows = (record { kind = refl; next = refl }, refl, omega arith) }
+    text_further b = record { is = λ end h l. text_goes (rule_of rule) s end l of.start at v h b; follows = (record { kind = refl; next = refl }, refl, omega arith) }
 
-    pub text-refused : (get_or s at 0 ≡ 0 → ⊥) → text_byte (rule_of rule) (get_or s at 0) ≡ false → Feeds t s (Text rule of) at (Wrong 8 at)
+    pub text_refused : (get_or s at 0 ≡ 0 → ⊥) → text_byte (rule_of rule) (get_or s at 0) ≡ false → Feeds t s (Text rule of) at (Wrong 8 at)
     unfolding span_from fed_span Follows Valid
-    text-refused z b = record { is = λ end h l. text_wrong (rule_of rule) s end l of.start at v h z b; follows = omega arith }
+    text_refused z b = record { is = λ end h l. text_wrong (rule_of rule) s end l of.start at v h z b; follows = omega arith }
 
   -- Dates; r: whether the byte passes
   module _ (isAbsolute designated : Bool) (of : Pending) (v : Valid (Date isAbsolute designated of) at) {r : Bool}
       (is : r ≡ passes (check_at isAbsolute (at - of.start)) (earlier s of.start (at - of.start)) (get_or s (of.start + (at - of.start)) 0)) where
     date_on : r ≡ true → (end : ℕ) → at < end → end ≤ length s
-        → dateFrom s end of.start isAbsolute (date_length designated) (at - of.start) ≡ dateFrom s end of.start isAbsolute (date_length designated) (at + 1 - of.start)
+        → date_from s end of.start isAbsolute (date_length designated) (at - of.start) ≡ date_from s end of.start isAbsolute (date_length designated) (at + 1 - of.start)
     unfolding Valid
     date_on q end h l =
         let u : at - of.start + 1 ≡ at + 1 - of.start = omega (arith, v.0) in
-        date-goes s end of.start isAbsolute (date_length designated) (at - of.start) (omega (arith, v.0, v.1)) l (omega (arith, v.0)) is q ∙ ap (dateFrom s end of.start isAbsolute (date_length designated)) u
+        date_goes s end of.start isAbsolute (date_length designated) (at - of.start) (omega (arith, v.0, v.1)) l (omega (arith, v.0)) is q ∙ ap (date_from s end of.start isAbsolute (date_length designated)) u
 
-    pub date-further : r ≡ true → at - of.start + 1 < date_length designated → Feeds t s (Date isAbsolute designated of) at (Goes (Date isAbsolute designated of))
+    pub date_further : r ≡ true → at - of.start + 1 < date_length designated → Feeds t s (Date isAbsolute designated of) at (Goes (Date isAbsolute designated of))
     unfolding span_from fed_span Follows Valid
-    date-further q k = record { is = date_on q; follows = (record { kind = refl; next = refl }, refl, (omega (arith, v.0), omega (arith, v.0))) }
+    date_further q k = record { is = date_on q; follows = (record { kind = refl; next = refl }, refl, (omega (arith, v.0), omega (arith, v.0))) }
 
     pub date_ended : r ≡ true → date_length designated ≤ at - of.start + 1 → Feeds t s (Date isAbsolute designated of) at (Ends of (at - of.start + 1))
     unfolding span_from fed_span Follows Valid
@@ -65,9 +65,9 @@ module _ (t : Told) (s : List ℕ) (at : ℕ) where
       follows = (record { kind = refl; next = refl }, omega (arith, v.0));
     }
 
-    pub date-refused : r ≡ false → Feeds t s (Date isAbsolute designated of) at (Wrong 9 at)
+    pub date_refused : r ≡ false → Feeds t s (Date isAbsolute designated of) at (Wrong 9 at)
     unfolding span_from fed_span Follows Valid
-    date-refused q = record {
+    date_refused q = record {
       is = λ end h l.
           let u : of.start + (at - of.start) ≡ at = omega (arith, v.0) in
           date_wrong s end of.start isAbsolute (date_length designated) (at - of.start) (omega (arith, v.0, v.1)) l (omega (arith, v.0)) is q ∙ rw u refl;
@@ -83,9 +83,9 @@ module _ (t : Told) (s : List ℕ) (at : ℕ) where
       follows = (record { kind = refl; next = refl }, omega (arith, v.0));
     }
 
-    pub number-further : (value : ℕ) → value ≤ number_most → turn number (eqb at of.start) (get_or s at 0) ≡ more value → Feeds t s (Number number of) at (Goes (Number value of))
+    pub number_further : (value : ℕ) → value ≤ number_most → turn number (eqb at of.start) (get_or s at 0) ≡ more value → Feeds t s (Number number of) at (Goes (Number value of))
     unfolding span_from fed_span Follows Valid take_number
-    number-further value k q = record {
+    number_further value k q = record {
       is = λ end h l.
           let u : at - of.start + 1 ≡ at + 1 - of.start = omega (arith, v.0) in
           let z : eqb (at + 1) of.start ≡ false = ne_eqb (at + 1) of.start (λ e. omega (arith, v.0)) in
@@ -93,9 +93,9 @@ module _ (t : Told) (s : List ℕ) (at : ℕ) where
       follows = (record { kind = refl; next = refl }, refl, (omega (arith, v.0), k));
     }
 
-    pub number-refused : turn number (eqb at of.start) (get_or s at 0) ≡ wrong → Feeds t s (Number number of) at (Wrong 10 at)
+    pub number_refused : turn number (eqb at of.start) (get_or s at 0) ≡ wrong → Feeds t s (Number number of) at (Wrong 10 at)
     unfolding span_from fed_span Follows Valid take_number
-    number-refused q = record {
+    number_refused q = record {
       is = λ end h l. rw (from_cons s at end h l, q) (ap (misses 10) (omega (arith, from_length s (at + 1) end (omega arith) l)));
       follows = omega arith;
     }
@@ -105,17 +105,17 @@ module _ (t : Told) (s : List ℕ) (at : ℕ) where
       turn_is : turn number (eqb at of.start) (get_or s at 0) ≡ turned answer
       turn_is = rw (← byte) turns.is
 
-      pub number-stops : {value : ℕ} → answer ≡ turning.Stop value → Feeds t s (Number number of) at (Ends of (at - of.start + 1))
+      pub number_stops : {value : ℕ} → answer ≡ turning.Stop value → Feeds t s (Number number of) at (Ends of (at - of.start + 1))
       unfolding turned
-      number-stops q = number_ended (turn_is ∙ ap turned q)
+      number_stops q = number_ended (turn_is ∙ ap turned q)
 
-      pub number-goes : {value : ℕ} → answer ≡ turning.More value → Feeds t s (Number number of) at (Goes (Number value of))
+      pub number_goes : {value : ℕ} → answer ≡ turning.More value → Feeds t s (Number number of) at (Goes (Number value of))
       unfolding turned Worth
-      number-goes {value} q = let w = rw q at turns.worth in number-further value w.0 (turn_is ∙ ap turned q)
+      number_goes {value} q = let w = rw q at turns.worth in number_further value w.0 (turn_is ∙ ap turned q)
 
-      pub number-wrongs : answer ≡ turning.Wrong → Feeds t s (Number number of) at (Wrong 10 at)
+      pub number_wrongs : answer ≡ turning.Wrong → Feeds t s (Number number of) at (Wrong 10 at)
       unfolding turned
-      number-wrongs q = number-refused (turn_is ∙ ap turned q)
+      number_wrongs q = number_refused (turn_is ∙ ap turned q)
 
   -- Blocks
   module _ (until : ℕ) (of : Pending) (v : Valid (Block until of) at) where
@@ -126,13 +126,13 @@ module _ (t : Told) (s : List ℕ) (at : ℕ) where
         let u : at - of.start + 1 ≡ at + 1 - of.start = omega (arith, v.0) in
         rw (k, from_cons s at end h l) (span_prefixed (at - of.start) (get_or s at 0) (take_bytes (until - (at + 1)) (from s (at + 1) end)) ∙ rw u refl)
 
-    pub block-further : at + 1 < until → Feeds t s (Block until of) at (Goes (Block until of))
+    pub block_further : at + 1 < until → Feeds t s (Block until of) at (Goes (Block until of))
     unfolding span_from fed_span Follows Valid
-    block-further k = record { is = block_on; follows = (record { kind = refl; next = refl }, refl, (omega (arith, v.0), k)) }
+    block_further k = record { is = block_on; follows = (record { kind = refl; next = refl }, refl, (omega (arith, v.0), k)) }
 
-    pub block-ended : until ≤ at + 1 → Feeds t s (Block until of) at (Ends of (at + 1 - of.start))
+    pub block_ended : until ≤ at + 1 → Feeds t s (Block until of) at (Ends of (at + 1 - of.start))
     unfolding span_from fed_span Follows Valid take_bytes
-    block-ended k = record {
+    block_ended k = record {
       is = λ end h l.
           let z : until - (at + 1) ≡ 0 = omega arith in
           let u : at + 1 - of.start + 0 ≡ at + 1 - of.start = omega arith in
@@ -148,9 +148,9 @@ module _ (t : Told) (s : List ℕ) (at : ℕ) where
         let k : of.start + width - at ≡ suc (of.start + width - (at + 1)) = omega (arith, v.2) in
         rw (k, from_cons s at end h l, is) refl
 
-    pub length-further : at + 1 - of.start < width → n < length_below (at + 1 - of.start) → Feeds t s (Length width number of) at (Goes (Length width n of))
+    pub length_further : at + 1 - of.start < width → n < length_below (at + 1 - of.start) → Feeds t s (Length width number of) at (Goes (Length width n of))
     unfolding span_from fed_span Follows Valid
-    length-further k b = record {
+    length_further k b = record {
       is = λ end h l. rw (length_on end h l) refl;
       follows = (record { kind = refl; next = refl }, refl, (v.0, omega (arith, v.1), omega (arith, v.1), v.3, b));
     }
@@ -187,11 +187,11 @@ module _ (t : Told) (s : List ℕ) (at : ℕ) where
           follows = (record { kind = refl; next = refl }, refl, (omega arith, omega (arith, eqb-false n 0 q)));
         }
 
-        pub length-ended : Feeds t s (Length width number of) at (block_from (at + 1) n of)
-        length-ended = length_block (eqb n 0) refl
+        pub length_ended : Feeds t s (Length width number of) at (block_from (at + 1) n of)
+        length_ended = length_block (eqb n 0) refl
 
         pub length_ends : {x : Fed} → x ≡ block_from (at + 1) n of → Feeds t s (Length width number of) at x
-        length_ends q = rw q length-ended
+        length_ends q = rw q length_ended
 
 -- a length's bytes so far are below what so many bytes can say
 pub below_most : (j : ℕ) → length_below j ≤ 4294967296
@@ -218,12 +218,12 @@ module _ (width number at : ℕ) (of : Pending) (v : Valid (Length width number 
   unfolding Valid
   length_low = omega (arith, v.4, below_most (at - of.start))
 
-  pub length-next : {b : ℕ} → b < 256 → 256 * number + b < length_below (at + 1 - of.start)
+  pub length_next : {b : ℕ} → b < 256 → 256 * number + b < length_below (at + 1 - of.start)
   unfolding Valid
-  length-next {b} h =
+  length_next {b} h =
       let q : at - of.start + 1 ≡ at + 1 - of.start = omega (arith, v.1) in
       rw (← q) (below_next (at - of.start) number b v.4 h (omega (arith, v.1, v.2, v.3, width_most (width_of width))))
 
-  pub length-starts : (1 ≤ of.start) × (of.start ≤ at) × (bytes_of (width_of width) ≡ width)
+  pub length_starts : (1 ≤ of.start) × (of.start ≤ at) × (bytes_of (width_of width) ≡ width)
   unfolding Valid
-  length-starts = (v.0, v.1, v.3)
+  length_starts = (v.0, v.1, v.3)

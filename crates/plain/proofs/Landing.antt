@@ -38,10 +38,10 @@ module _ (t : Told) (s : List ℕ) (at : ℕ) where
   lands_by taking (fed.Wrong refusal p) f end h l st n m = let u : end - (end - p) ≡ p = omega arith in rw u refl
 
   -- THE LAW OF A VALUE'S STEP
-  pub fed-lands : {taking : Taking} {x : Fed} → Feeds t s taking at x → (end : ℕ) → at < end → end ≤ length s → (st : State) (n : ℕ) (m : List ℕ)
+  pub fed_lands : {taking : Taking} {x : Fed} → Feeds t s taking at x → (end : ℕ) → at < end → end ≤ length s → (st : State) (n : ℕ) (m : List ℕ)
       → value_at (source t s end) st taking at n m ≡ fed_at (source t s end) st x at n m
   unfolding value_at
-  fed-lands {taking} {x} a end h l st n m =
+  fed_lands {taking} {x} a end h l st n m =
       ap (λ (y : Span). landed_span (source t s end) (back_of taking) (pending_of taking).kind st.level (go (next_of (pending_of taking).next) st) y n m) (a.is end h l)
       ∙ lands_by taking x a.follows end h l st n m
 
@@ -53,8 +53,8 @@ module _ (t : Told) (s : List ℕ) (at : ℕ) where
   follows_valid taking fed.Over f = tt
   follows_valid taking (fed.Wrong refusal p) f = tt
 
-  pub fed-valid : {taking : Taking} {x : Fed} → Feeds t s taking at x → FedValid at x
-  fed-valid {taking} {x} a = follows_valid taking x a.follows
+  pub fed_valid : {taking : Taking} {x : Fed} → Feeds t s taking at x → FedValid at x
+  fed_valid {taking} {x} a = follows_valid taking x a.follows
 
   follows_leads : (l : Lists) (taking : Taking) (x : Fed) → Follows taking at x → Leads (pending_of taking).next l → FedLeads l x
   unfolding Follows FedLeads
@@ -64,12 +64,12 @@ module _ (t : Told) (s : List ℕ) (at : ℕ) where
   follows_leads l taking fed.Over f a = tt
   follows_leads l taking (fed.Wrong refusal p) f a = tt
 
-  pub fed-leads : {l : Lists} {taking : Taking} {x : Fed} → Feeds t s taking at x → Leads (pending_of taking).next l → FedLeads l x
-  fed-leads {l} {taking} {x} a = follows_leads l taking x a.follows
+  pub fed_leads : {l : Lists} {taking : Taking} {x : Fed} → Feeds t s taking at x → Leads (pending_of taking).next l → FedLeads l x
+  fed_leads {l} {taking} {x} a = follows_leads l taking x a.follows
 
   -- the step of a value in a state
-  pub fed-steps : {taking : Taking} {x : Fed} (room : Room) (l : Lists) → Feeds t s taking at x → Leads (pending_of taking).next l → StepsFrom (λ i n m. value_at i (state_of room l) taking at n m) room l t s at x
-  fed-steps room l a g = record { is = λ end h k n m. fed-lands a end h k (state_of room l) n m; valid = fed-valid a; leads = fed-leads a g }
+  pub fed_steps : {taking : Taking} {x : Fed} (room : Room) (l : Lists) → Feeds t s taking at x → Leads (pending_of taking).next l → StepsFrom (λ i n m. value_at i (state_of room l) taking at n m) room l t s at x
+  fed_steps room l a g = record { is = λ end h k n m. fed_lands a end h k (state_of room l) n m; valid = fed_valid a; leads = fed_leads a g }
 
 -- what steps from one reading steps from another that comes to the same
 pub steps_onward : {Begins mid : Source → ℕ → List ℕ → Filling} {room : Room} {l : Lists} {t : Told} {s : List ℕ} {at : ℕ} {x : Fed}
@@ -78,13 +78,13 @@ steps_onward q a = record { is = λ end h k n m. q end h k n m ∙ a.is end h k 
 
 -- the engine's step
 module _ {t : Told} {s : List ℕ} {at : ℕ} {x : Fed} (e : Engine) where
-  pub step-code : e.doing ≡ Code → CodeSteps e.room e.lists t s at x → Steps e t s at x
+  pub step_code : e.doing ≡ Code → CodeSteps e.room e.lists t s at x → Steps e t s at x
   unfolding doing_at
-  step-code q a = steps_onward (λ end h k n m. rw q refl) a
+  step_code q a = steps_onward (λ end h k n m. rw q refl) a
 
   pub step_value : {taking : Taking} → e.doing ≡ Value taking → Leads (pending_of taking).next e.lists → Feeds t s taking at x → Steps e t s at x
   unfolding doing_at
-  step_value q g f = steps_onward (λ end h k n m. rw q refl) (fed-steps t s at e.room e.lists f g)
+  step_value q g f = steps_onward (λ end h k n m. rw q refl) (fed_steps t s at e.room e.lists f g)
 
 pub code_holds : (e : Engine) (at : ℕ) → e.doing ≡ Code → Holds e at → Bounded e.room e.lists
 unfolding DoingHolds

@@ -41,8 +41,8 @@ module _ {l : Lists} (a : Nested l) where
     most = inl (omega arith);
   }
 
-  pub gone-outer : (r : Room) {x : Standing} → x ≡ none_open r l → Gone (Outer r) l x
-  gone-outer r q = rw q (record { is = λ room. refl; bounded = none_bounded r })
+  pub gone_outer : (r : Room) {x : Standing} → x ≡ none_open r l → Gone (Outer r) l x
+  gone_outer r q = rw q (record { is = λ room. refl; bounded = none_bounded r })
 
   one_kind : (kind : ℕ) → get_or (set l.kinds 0 kind) 0 0 ≡ kind
   one_kind kind = get_or-set_same l.kinds 0 kind 0 (omega (arith, a.size))
@@ -58,14 +58,14 @@ module _ {l : Lists} (a : Nested l) where
     most = inl (omega arith);
   }
 
-  pub gone-inner : (r : Room) {x : Standing} → x ≡ one_open r many l → Gone (Inner r) l x
-  gone-inner r q = rw q (record { is = λ room. rw (one_kind many) refl; bounded = one_bounded r many (λ z. omega arith) })
+  pub gone_inner : (r : Room) {x : Standing} → x ≡ one_open r many l → Gone (Inner r) l x
+  gone_inner r q = rw q (record { is = λ room. rw (one_kind many) refl; bounded = one_bounded r many (λ z. omega arith) })
 
   pub gone_one : {x : Standing} → x ≡ one_open OneAgent one l → Gone InnerOne l x
   gone_one q = rw q (record { is = λ room. rw (one_kind one) refl; bounded = one_bounded OneAgent one (λ z. omega arith) })
 
-  pub gone-stay : (r : Room) → l.depth ≤ 8 → Gone (Stay r) l (record { room = r; lists = l })
-  gone-stay r h = record { is = λ room. refl; bounded = record { nested = a; most = inl h } }
+  pub gone_stay : (r : Room) → l.depth ≤ 8 → Gone (Stay r) l (record { room = r; lists = l })
+  gone_stay r h = record { is = λ room. refl; bounded = record { nested = a; most = inl h } }
 
   -- one more
   module _ (few : l.depth ≤ 8) where
@@ -106,8 +106,8 @@ module _ {l : Lists} (a : Nested l) where
     deeper_by true q = deeper_first (eqb-true l.depth 0 q)
     deeper_by false q = deeper_more (eqb-false l.depth 0 q)
 
-    pub gone-deeper : {x : Standing} → x ≡ one_more l → Gone Deeper l x
-    gone-deeper q = rw q (deeper_by (eqb l.depth 0) refl)
+    pub gone_deeper : {x : Standing} → x ≡ one_more l → Gone Deeper l x
+    gone_deeper q = rw q (deeper_by (eqb l.depth 0) refl)
 
   -- behind a list
   pub list_none : l.depth ≡ 0 → {x : Standing} → x ≡ none_open Parameters l → Gone ListEnds l x
@@ -139,8 +139,8 @@ module _ {l : Lists} (a : Nested l) where
     list_deep (suc zero) e q = absurd (e q)
     list_deep (suc (suc d)) e q = let u : suc (suc d) - 1 ≡ suc d = omega arith in rw u refl
 
-    pub list-resolvers : get_or l.kinds (l.depth - 1) 0 ≡ resolvers → Gone ListEnds l (standing AfterResolvers l.kinds (l.depth - 1))
-    list-resolvers h =
+    pub list_resolvers : get_or l.kinds (l.depth - 1) 0 ≡ resolvers → Gone ListEnds l (standing AfterResolvers l.kinds (l.depth - 1))
+    list_resolvers h =
         let e = deep_enough h in
         record {
           is = λ room. rw (fewer_single e) (list_deep l.depth e refl);
@@ -150,12 +150,12 @@ module _ {l : Lists} (a : Nested l) where
           };
         }
 
-    pub list-first : (get_or l.kinds (l.depth - 1) 0 ≡ resolvers → ⊥) → {x : Standing} → x ≡ none_open Parameters l → Gone ListEnds l x
-    list-first h q = let e = is_first (get_or l.kinds (l.depth - 1) 0) refl h in rw q (record { is = λ room. rw e refl; bounded = none_bounded Parameters })
+    pub list_first : (get_or l.kinds (l.depth - 1) 0 ≡ resolvers → ⊥) → {x : Standing} → x ≡ none_open Parameters l → Gone ListEnds l x
+    list_first h q = let e = is_first (get_or l.kinds (l.depth - 1) 0) refl h in rw q (record { is = λ room. rw e refl; bounded = none_bounded Parameters })
 
     -- behind an agent
-    pub agent-one : get_or l.kinds (l.depth - 1) 0 ≡ one → {x : Standing} → x ≡ none_open Parameters l → Gone AgentEnds l x
-    agent-one h q =
+    pub agent_one : get_or l.kinds (l.depth - 1) 0 ≡ one → {x : Standing} → x ≡ none_open Parameters l → Gone AgentEnds l x
+    agent_one h q =
         let e = is_first one h (λ z. omega arith) in
         let u : l.depth - 1 ≡ 0 = omega arith in
         let k : get_or l.kinds 0 0 ≡ one = ap (λ (x : ℕ). get_or l.kinds x 0) (sym u) ∙ h in
@@ -169,8 +169,8 @@ module _ {l : Lists} (a : Nested l) where
         rw (e, k) refl
     agent_stays h false q = and_never (single_of l)
 
-    pub agent-listed : (get_or l.kinds (l.depth - 1) 0 ≡ one → ⊥) → Gone AgentEnds l (record { room = AgentList; lists = l })
-    agent-listed h = record { is = λ room. rw (agent_stays h (eqb l.depth 1) refl) refl; bounded = record { nested = a; most = inr refl } }
+    pub agent_listed : (get_or l.kinds (l.depth - 1) 0 ≡ one → ⊥) → Gone AgentEnds l (record { room = AgentList; lists = l })
+    agent_listed h = record { is = λ room. rw (agent_stays h (eqb l.depth 1) refl) refl; bounded = record { nested = a; most = inr refl } }
 
-  pub agent-none : l.depth ≡ 0 → Gone AgentEnds l (record { room = AgentList; lists = l })
-  agent-none z = record { is = λ room. rw z refl; bounded = record { nested = a; most = inr refl } }
+  pub agent_none : l.depth ≡ 0 → Gone AgentEnds l (record { room = AgentList; lists = l })
+  agent_none z = record { is = λ room. rw z refl; bounded = record { nested = a; most = inr refl } }

@@ -138,9 +138,9 @@ value_ends t s at l (Block until of) v =
     rw (from_end s at at (omega arith), k) refl
 
 module _ (e : Engine) (at count : ℕ) where
-  pub ended-value : {taking : Taking} → e.doing ≡ Value taking → Ended e at count (stage.Refused at 6)
+  pub ended_value : {taking : Taking} → e.doing ≡ Value taking → Ended e at count (stage.Refused at 6)
   unfolding doing_at value_at DoingHolds after Moved
-  ended-value {taking} q = record {
+  ended_value {taking} q = record {
     is = λ t s m l h.
         let v = rw q at h in
         let u : at - 0 ≡ at = omega arith in
@@ -148,16 +148,16 @@ module _ (e : Engine) (at count : ℕ) where
     moved = λ least h k. tt;
   }
 
-  pub ended-closed : e.doing ≡ Code → is_closed (room_of e.room) ≡ true → Ended e at count (stage.Go at count)
+  pub ended_closed : e.doing ≡ Code → is_closed (room_of e.room) ≡ true → Ended e at count (stage.Go at count)
   unfolding doing_at after Moved
-  ended-closed q c = record {
+  ended_closed q c = record {
     is = λ t s m l h. rw q (closed_same (source t s at) at count m (omega arith) l (room_of e.room) e.lists.depth _ c);
     moved = λ least h k. (h, omega arith, k);
   }
 
-  pub ended-open : e.doing ≡ Code → is_closed (room_of e.room) ≡ false → Ended e at count (stage.Refused at 6)
+  pub ended_open : e.doing ≡ Code → is_closed (room_of e.room) ≡ false → Ended e at count (stage.Refused at 6)
   unfolding doing_at after Moved
-  ended-open q c = record {
+  ended_open q c = record {
     is = λ t s m l h. rw q (at_end (source t s at) at count m (state_of e.room e.lists) (from_end s at at (omega arith)) refl c);
     moved = λ least h k. tt;
   }
@@ -168,8 +168,8 @@ module _ (t : Told) (s : List ℕ) (end here place count : ℕ) (m : List ℕ) (
   reaches : o ≡ comes (source t s end) e place count m
   reaches = inv ∙ past.is t count m
 
-  pub run-ended : {r : Stage} → end ≤ place → end ≤ length s → least ≤ here → count ≤ here → Ended e place count r → Ran (source t s end) least o r (state closed 0 false) m
-  run-ended {r} h k l c a =
+  pub run_ended : {r : Stage} → end ≤ place → end ≤ length s → least ≤ here → count ≤ here → Ended e place count r → Ran (source t s end) least o r (state closed 0 false) m
+  run_ended {r} h k l c a =
       let q : end ≡ place = omega (arith, past.before) in
       let w = past.inside in
       record { goes = reaches ∙ rw q (a.is t s m (omega arith) past.holds); moved = rw q (a.moved least (omega arith) (omega arith)) }
@@ -178,32 +178,32 @@ module _ (t : Told) (s : List ℕ) (end here place count : ℕ) (m : List ℕ) (
     onward : o ≡ fed_at (source t s end) (state_of e.room e.lists) x place count m
     onward = reaches ∙ a.is end h k count m
 
-    pub run-refused : {refusal p : ℕ} → x ≡ fed.Wrong refusal p → Ran (source t s end) least o (stage.Refused p refusal) (state closed 0 false) m
+    pub run_refused : {refusal p : ℕ} → x ≡ fed.Wrong refusal p → Ran (source t s end) least o (stage.Refused p refusal) (state closed 0 false) m
     unfolding fed_at after Moved
-    run-refused q = record { goes = onward ∙ rw q refl; moved = tt }
+    run_refused q = record { goes = onward ∙ rw q refl; moved = tt }
 
-    pub run-over : x ≡ fed.Over → least ≤ here → count ≤ here → Ran (source t s end) least o (stage.Go place count) (state closed 0 false) m
+    pub run_over : x ≡ fed.Over → least ≤ here → count ≤ here → Ran (source t s end) least o (stage.Go place count) (state closed 0 false) m
     unfolding fed_at after Moved
-    run-over q l c = let w = past.inside in record { goes = onward ∙ rw q refl; moved = (omega arith, omega arith, omega arith) }
+    run_over q l c = let w = past.inside in record { goes = onward ∙ rw q refl; moved = (omega arith, omega arith, omega arith) }
 
-    pub run-goes : {taking : Taking} {f : Engine} → x ≡ fed.Goes taking → f ≡ record { room = e.room; doing = Value taking; lists = e.lists } → (o ≡ comes (source t s end) f (place + 1) count m) × Holds f (place + 1)
+    pub run_goes : {taking : Taking} {f : Engine} → x ≡ fed.Goes taking → f ≡ record { room = e.room; doing = Value taking; lists = e.lists } → (o ≡ comes (source t s end) f (place + 1) count m) × Holds f (place + 1)
     unfolding fed_at doing_at DoingHolds FedValid FedLeads
-    run-goes q w =
+    run_goes q w =
         let v = rw q at a.valid in
         let g = rw q at a.leads in
         (onward ∙ rw (q, w) refl, rw w (g, v))
 
-    pub moves-lead : {n : Next} → x ≡ fed.Moves n → Leads n e.lists
+    pub moves_lead : {n : Next} → x ≡ fed.Moves n → Leads n e.lists
     unfolding FedLeads
-    moves-lead q = rw q at a.leads
+    moves_lead q = rw q at a.leads
 
-    pub run-moves : {n : Next} {f : Engine} → x ≡ fed.Moves n → f.doing ≡ Code → Gone n e.lists (record { room = f.room; lists = f.lists }) → (o ≡ comes (source t s end) f (place + 1) count m) × Holds f (place + 1)
+    pub run_moves : {n : Next} {f : Engine} → x ≡ fed.Moves n → f.doing ≡ Code → Gone n e.lists (record { room = f.room; lists = f.lists }) → (o ≡ comes (source t s end) f (place + 1) count m) × Holds f (place + 1)
     unfolding fed_at doing_at DoingHolds
-    run-moves q d g = (onward ∙ rw (q, d, g.is (room_of e.room)) refl, rw d g.bounded)
+    run_moves q d g = (onward ∙ rw (q, d, g.is (room_of e.room)) refl, rw d g.bounded)
 
-    pub ends-lead : {of : Pending} {len : ℕ} → x ≡ fed.Ends of len → Leads of.next e.lists
+    pub ends_lead : {of : Pending} {len : ℕ} → x ≡ fed.Ends of len → Leads of.next e.lists
     unfolding FedLeads
-    ends-lead q = rw q at a.leads
+    ends_lead q = rw q at a.leads
 
     pub row_fits : {of : Pending} {len : ℕ} → x ≡ fed.Ends of len → (of.start ≤ place + 1) × (len ≤ place + 1)
     unfolding FedValid

@@ -7,7 +7,7 @@ use Rattle.laws_steps.specs.From.{from}
 use Rattle.laws_steps.specs.Pouring.{Source, source}
 use Rattle.values.specs.Stages.{Span, spans, misses, span, rule_of}
 use Rattle.date.specs.Dates.{date_length}
-use Rattle.date.specs.DateSteps.{dateFrom}
+use Rattle.date.specs.DateSteps.{date_from}
 use Rattle.plain.specs.declared.feed.Pending.{Pending}
 use Rattle.plain.specs.declared.feed.Taking.{Taking}
 use Rattle.plain.specs.declared.feed.Taking.TheVariants.{Text, Date, Number, Length, Block}
@@ -44,7 +44,7 @@ length_below (suc (suc (suc (suc j)))) = 4294967296
 -- from the place `at` on
 unfoldable pub span_from : Source → Taking → ℕ → Span
 span_from i (Text rule of) at = span (at - of.start) (take_text (rule_of rule) (from i.bytes at i.end))
-span_from i (Date isAbsolute designated of) at = dateFrom i.bytes i.end of.start isAbsolute (date_length designated) (at - of.start)
+span_from i (Date isAbsolute designated of) at = date_from i.bytes i.end of.start isAbsolute (date_length designated) (at - of.start)
 span_from i (Number number of) at = span (at - of.start) (take_number number (eqb at of.start) (from i.bytes at i.end))
 span_from i (Length width number of) at =
     span 0 (block_of i.told (width_of width) (i.end - (of.start - 1)) (high_first (of.start + width - at) number (from i.bytes at i.end)))

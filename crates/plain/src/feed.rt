@@ -17,7 +17,7 @@ use values::number::{Turning, turn};
 use values::text::{Rule, in_note};
 
 // The row that a value will have, and where its move leads: kind, next, and where it begins.
-#[derive(Drop)]
+#[derive(Clone, Copy)]
 pub struct Pending {
     pub kind: u32,
     pub next: Next,
@@ -26,7 +26,7 @@ pub struct Pending {
 
 // What is being taken: a text by its rule; a date, absolute or not, with a designator or without; a number, and what it is so far; a length of so many
 // bytes, and what it is so far; a block, and the place behind it. How far it is taken, the place says.
-#[derive(Drop)]
+#[derive(Clone, Copy)]
 pub enum Taking {
     Text(Rule, Pending),
     Date(bool, bool, Pending),

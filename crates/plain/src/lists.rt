@@ -15,7 +15,7 @@ pub const ONE: u8 = 1;
 pub const RESOLVERS: u8 = 2;
 
 // The open lists, the outermost first, and how many they are: the level.
-#[derive(Drop)]
+#[derive(Clone, Copy)]
 pub struct Lists {
     pub kinds: [u8; 9],
     pub depth: usize,

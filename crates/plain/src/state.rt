@@ -7,14 +7,14 @@ use crate::lists::{Lists, go_on};
 use moves::rooms::{Next, Room};
 
 // A code is awaited, or a value is being taken.
-#[derive(Drop)]
+#[derive(Clone, Copy)]
 pub enum Doing {
     Code,
     Value(Taking),
 }
 
 // Where the engine stands: the room in which a code is awaited or was found, what it does there, and the open lists.
-#[derive(Drop)]
+#[derive(Clone, Copy)]
 pub struct Engine {
     pub room: Room,
     pub doing: Doing,

@@ -36,17 +36,17 @@ module _ (edition : Edition) (rows pool : List ℕ) (code : ℕ) {r : Checked} (
 -- The edition's number and the code
 
 module _ (number : ℕ) (rows pool : List ℕ) (code : ℕ) (t : T (are_bytes pool)) {a : declared.Reply} where
-  pub in-none : label_of number ≡ unknown → reply_of a ≡ reply 1 0 0 → PresentPromise number rows pool code a
+  pub in_none : label_of number ≡ unknown → reply_of a ≡ reply 1 0 0 → PresentPromise number rows pool code a
   unfolding present_answer
-  in-none q e = record { bytes = t; answers = e ∙ ap (present_under rows pool code) (sym q) }
+  in_none q e = record { bytes = t; answers = e ∙ ap (present_under rows pool code) (sym q) }
 
   module _ {edition : Edition} (q : label_of number ≡ known edition) {b : Bool} (c : b ≡ can_ask code) where
     in_edition : {x : Bool} → b ≡ x → reply_of a ≡ pick x (answered_by rows code (checked edition rows pool)) (reply 17 0 0) → PresentPromise number rows pool code a
     unfolding present_answer
     in_edition h e = record { bytes = t; answers = e ∙ ap (λ (z : Bool). pick z (answered_by rows code (checked edition rows pool)) (reply 17 0 0)) (sym h ∙ c) ∙ ap (present_under rows pool code) (sym q) }
 
-    pub can-be-asked : b ≡ true → reply_of a ≡ answered_by rows code (checked edition rows pool) → PresentPromise number rows pool code a
-    can-be-asked h e = in_edition h e
+    pub can_be_asked : b ≡ true → reply_of a ≡ answered_by rows code (checked edition rows pool) → PresentPromise number rows pool code a
+    can_be_asked h e = in_edition h e
 
-    pub cannot-be-asked : b ≡ false → reply_of a ≡ reply 17 0 0 → PresentPromise number rows pool code a
-    cannot-be-asked h e = in_edition h e
+    pub cannot_be_asked : b ≡ false → reply_of a ≡ reply 17 0 0 → PresentPromise number rows pool code a
+    cannot_be_asked h e = in_edition h e

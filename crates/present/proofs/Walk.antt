@@ -13,7 +13,7 @@ use Rattle.meaning.specs.Skips.{Rank, is_envelope}
 use Rattle.meaning.specs.Codes.{code_of, has_value, can_ask}
 use Rattle.meaning.specs.Memory.{row_width, room_of}
 use Rattle.laws_steps.specs.Hopping.{rank_at, given_at, skip_at, skip_forward, skip_most}
-use Rattle.laws_tables.specs.Passing.{first_at, first_ends, first_found, first-steps, first-hops}
+use Rattle.laws_tables.specs.Passing.{first_at, first_ends, first_found, first_steps, first_hops}
 use Rattle.laws_tables.specs.PresentValues.{Walkable, agents_deep, can_ask_open}
 use Rattle.present.specs.Promise.{next_looked}
 
@@ -30,8 +30,8 @@ module _ (rows : List ℕ) (code : ℕ) {n : ℕ} (room : n ≡ room_of rows) wh
   all_rows : first_at code rows n 0 ≡ first_at code rows (room_of rows) 0
   all_rows = ap (λ (x : ℕ). first_at code rows x 0) room
 
-  pub looked-all : {i : ℕ} → Looked rows code n i → n ≤ i → n ≡ first_at code rows (room_of rows) 0
-  looked-all {i} l h = let e : n ≡ i = omega (arith, l.most) in e ∙ sym (first_ends code rows n i h) ∙ sym l.same ∙ all_rows
+  pub looked_all : {i : ℕ} → Looked rows code n i → n ≤ i → n ≡ first_at code rows (room_of rows) 0
+  looked_all {i} l h = let e : n ≡ i = omega (arith, l.most) in e ∙ sym (first_ends code rows n i h) ∙ sym l.same ∙ all_rows
 
   module _ {i : ℕ} (l : Looked rows code n i) (h : i < n) {b : Bool} (v : b ≡ has_value code (rank_at rows i)) where
     pub found : b ≡ true → i ≡ first_at code rows (room_of rows) 0
@@ -41,22 +41,22 @@ module _ (rows : List ℕ) (code : ℕ) {n : ℕ} (room : n ≡ room_of rows) wh
       right : given_at rows i ≡ skip_at rows n i
       right = s.hops i (omega arith) (omega arith) ∙ ap (λ (x : ℕ). skip_at rows x i) (sym room)
 
-      pub looks-behind : {next : ℕ} → next ≡ next_looked rows i → (i < next) × (next ≤ n)
-      looks-behind {next} e = at (is_envelope (get_or rows (i * row_width) 0)) e
+      pub looks_behind : {next : ℕ} → next ≡ next_looked rows i → (i < next) × (next ≤ n)
+      looks_behind {next} e = at (is_envelope (get_or rows (i * row_width) 0)) e
         where
           at : (z : Bool) → next ≡ pick z (i + 1) (given_at rows i) → (i < next) × (next ≤ n)
           at true q = (omega arith, omega arith)
           at false q = (omega (arith, q, right, skip_forward rows n i), omega (arith, q, right, skip_most rows n i h))
 
       pub looks_on : can_ask code ≡ true → b ≡ false → {next : ℕ} → next ≡ next_looked rows i → Looked rows code n next
-      looks_on a t {next} e = record { most = (looks-behind e).1; same = l.same ∙ at (is_envelope (get_or rows (i * row_width) 0)) refl e }
+      looks_on a t {next} e = record { most = (looks_behind e).1; same = l.same ∙ at (is_envelope (get_or rows (i * row_width) 0)) refl e }
         where
           at : (z : Bool) → is_envelope (get_or rows (i * row_width) 0) ≡ z → next ≡ pick z (i + 1) (given_at rows i) → first_at code rows n i ≡ first_at code rows n next
-          at true o q = first-steps code rows n i h (sym v ∙ t) ∙ ap (first_at code rows n) (sym q)
-          at false o q = first-hops code rows n i h (sym v ∙ t) (can_ask_open code a) o (agents_deep rows s i (omega arith)) ∙ ap (first_at code rows n) (sym right ∙ sym q)
+          at true o q = first_steps code rows n i h (sym v ∙ t) ∙ ap (first_at code rows n) (sym q)
+          at false o q = first_hops code rows n i h (sym v ∙ t) (can_ask_open code a) o (agents_deep rows s i (omega arith)) ∙ ap (first_at code rows n) (sym right ∙ sym q)
 
-      pub looks-less : {next : ℕ} → next ≡ next_looked rows i → n - next < n - i
-      looks-less e = let (x, y) = looks-behind e in omega arith
+      pub looks_less : {next : ℕ} → next ≡ next_looked rows i → n - next < n - i
+      looks_less e = let (x, y) = looks_behind e in omega arith
 
 -- A row's value, by its level and kind
 

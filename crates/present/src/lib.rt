@@ -1,4 +1,6 @@
 // Document 02, order 1: present values. "The delivery desk wants one value for each parameter": the first that the envelopes have, in their order.
+#![tactic(auto)]
+
 ghost use Rattle.std.specs.Prelude.{◌≡◌, true, ◌<◌};
 ghost use Rattle.meaning.specs.Codes.{has_value, can_ask};
 ghost use Rattle.meaning.specs.Memory.{room_of};

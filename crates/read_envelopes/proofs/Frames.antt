@@ -29,16 +29,16 @@ others_come left (answer.Extension p n) h = h
 others_come left (answer.Refused refusal p) h = tt
 
 module _ {s : List ℕ} {at left : ℕ} {f : Frame} where
-  pub opens-fit : {base : Bool} {first end : ℕ} → f ≡ Opens base first end → HeaderFramed s at left f → (at + 3 ≤ first) × (first ≤ end) × (end ≤ length s) × (end ≤ at + envelope_most) × (1 ≤ left)
+  pub opens_fit : {base : Bool} {first end : ℕ} → f ≡ Opens base first end → HeaderFramed s at left f → (at + 3 ≤ first) × (first ≤ end) × (end ≤ length s) × (end ≤ at + envelope_most) × (1 ≤ left)
   unfolding FrameFits MayCome
-  opens-fit h a =
+  opens_fit h a =
       let fits = rw h at a.fits in
       let more = rw h at a.more in
       (fits.0, fits.1, fits.2, fits.3, more)
 
-  pub envelope-refused : (t : Told) (n : ℕ) (m : List ℕ) {kept : List ℕ} {refusal p : ℕ} → f ≡ Refused refusal p → HeaderFramed s at left f → EnvelopeRead t s left at n m (answer.Refused refusal p) kept
+  pub envelope_refused : (t : Told) (n : ℕ) (m : List ℕ) {kept : List ℕ} {refusal p : ℕ} → f ≡ Refused refusal p → HeaderFramed s at left f → EnvelopeRead t s left at n m (answer.Refused refusal p) kept
   unfolding framed behind_envelope EnvelopeFits OthersCome
-  envelope-refused t n m h a =
+  envelope_refused t n m h a =
       let is = rw h at (a.is t) in
       record { is = ap (λ (x : Answer). finish x n m) is; fits = tt; more = tt }
 
@@ -46,6 +46,6 @@ module _ {s : List ℕ} {at left : ℕ} {f : Frame} where
       → EnvelopeOpened t s at first end base n m r kept → EnvelopeRead t s left at n m r kept
   unfolding framed
   envelope_read t n m {end = end} {r = r} h a b =
-      let (Begins, before, whole, most, comes) = opens-fit h a in
+      let (Begins, before, whole, most, comes) = opens_fit h a in
       let is = rw h at (a.is t) in
       record { is = ap (λ (x : Answer). finish x n m) is ∙ b.is (header (left - 1) t); fits = ended_fits s at end r (omega arith) whole most b.fits; more = others_come left r comes }

@@ -51,15 +51,15 @@ module _ (i : Source) (at n level : ℕ) (m : List ℕ) (ready : Ready i.bytes i
       let b : y ≡ left = cc in
       rw (a, b) refl
 
-  pub value-kept : (kind back : ℕ) (q : State) (taken : Taken) (v : Value) → Valued i.bytes i.end at kind back taken v
+  pub value_kept : (kind back : ℕ) (q : State) (taken : Taken) (v : Value) → Valued i.bytes i.end at kind back taken v
       → Ran i (at + 1) (landed i back kind level q taken n m) (goes_on v n) q (keeps v n level m)
   unfolding span_of Stands after Moved
-  value-kept kind back q taken (Is k start len p) a =
+  value_kept kind back q taken (Is k start len p) a =
       let (kinds, sums, Begins, moved, before) = a.stands in
       let few = ready.few in
       let u : i.end - (length (from i.bytes p i.end) + len + back) ≡ start = omega (arith, from_length i.bytes p i.end before ready.whole) in
       record { goes = landed_spans back kind q len (from i.bytes p i.end) taken a.is ∙ rw (u, kinds) refl; moved = (omega arith, before, omega arith) }
-  value-kept kind back q taken (Refused refusal p) a =
+  value_kept kind back q taken (Refused refusal p) a =
       let h : p ≤ i.end = a.stands in
       let u : i.end - (i.end - p) ≡ p = omega arith in
       record { goes = landed_misses back kind q refusal (i.end - p) taken a.is ∙ rw u refl; moved = tt }
@@ -79,4 +79,4 @@ module _ (i : Source) (at n level : ℕ) (m : List ℕ) (ready : Ready i.bytes i
       (begun (omega arith)
       (coded i at n m code l ready.whole (from_cons i.bytes at i.end l ready.whole) q (on code ▸ kind ▸ form ▸ h.out) hits (not_deep q kind b.flat) b.coded b.rowed
       ∙ ap (λ (x : ℕ). landed i (reach_back form) kind x (go h.out q) taken n m) h.deep)
-      (value-kept kind (reach_back form) (go h.out q) taken v a))
+      (value_kept kind (reach_back form) (go h.out q) taken v a))

@@ -5,7 +5,7 @@ use Rattle.meaning.specs.Basics.{pick}
 use Rattle.meaning.specs.Editions.{State, moves}
 use Rattle.meaning.specs.Reading.{look, none, is_closed, strange}
 use Rattle.laws_steps.specs.Pouring.{Filling, stopped, Source, run_at, Ready, Peeked}
-use Rattle.laws_steps.specs.ReadAt.{foreign, passed-at}
+use Rattle.laws_steps.specs.ReadAt.{foreign, passed_at}
 use Rattle.laws_steps.specs.Shapes.{Extras}
 use Rattle.table.specs.Rows.{u32_most}
 use Rattle.values.specs.Stages.{Inside}
@@ -51,8 +51,8 @@ module _ {i : Source} where
   refusing h = record { goes = h; moved = tt }
 
 module _ {s : List ℕ} {end at n : ℕ} (h : Ready s end at n) where
-  pub ready-inside : Inside s end at
-  ready-inside = record { whole = h.whole; before = h.before }
+  pub ready_inside : Inside s end at
+  ready_inside = record { whole = h.whole; before = h.before }
 
   pub row_fits : (n ≤ u32_most) × (at ≤ u32_most) × (0 ≤ u32_most)
   row_fits = (omega (arith, h.small, h.before, h.few), omega (arith, h.small, h.before), omega arith)
@@ -62,7 +62,7 @@ pub no_extras : (i : Source) (at n : ℕ) (m : List ℕ) (b : ℕ) → Peeked i.
     → Ran i at (run_at i q at n m) (Go (at + 1) n) d m
 no_extras i at n m b a h few {q} e =
     let k : at < i.end = a.inside (omega arith) in
-    arrives e.leads (going (passed-at i at n m b a 1 h (omega arith) q e.out e.stop) (omega arith) (omega arith) (omega arith))
+    arrives e.leads (going (passed_at i at n m b a 1 h (omega arith) q e.out e.stop) (omega arith) (omega arith) (omega arith))
 
 -- a byte that the room does not take
 pub foreign_byte : (i : Source) (at n : ℕ) (m : List ℕ) (b : ℕ) → Peeked i.bytes i.end at b → {least : ℕ} (q : State) {d : State} {k : List ℕ} {r : Stage} → r ≡ fault_of b at

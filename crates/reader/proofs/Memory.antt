@@ -21,7 +21,7 @@ use Rattle.laws_steps.specs.Hopping.{ranks_for, ranks_at, ranks_next}
 use Rattle.laws_tables.specs.Skipping.{skips_laid, all_laid_over}
 use Rattle.laws_tables.specs.AllTabled.{ranks_read, AtMost, accepted_tabled, some_row}
 use Rattle.laws_tables.specs.Wording.{top, Split, nothing, first, tabled_split}
-use Rattle.laws_tables.specs.Beside.{put-ranks, put-stands}
+use Rattle.laws_tables.specs.Beside.{put_ranks, put_stands}
 use Rattle.laws_tables.specs.Adjoining.{read_neighbours, neighbours_at}
 use Rattle.laws_steps.specs.Pouring.{filled, stopped, header_most}
 use Rattle.laws_steps.specs.Finishing.{finish}
@@ -49,12 +49,12 @@ module _ (strictness : declared.Strictness) (edition : ℕ) (input m : List ℕ)
   abbrev w : Strictness
   w = strictness_of strictness
 
-  pub unknown-edition : {left : List ℕ} → label ≡ Unknown → Surveyed w edition input m (Refused 0 1) left
+  pub unknown_edition : {left : List ℕ} → label ≡ Unknown → Surveyed w edition input m (Refused 0 1) left
   unfolding filling_of PlaceFits
-  unknown-edition h = record { is = ap (λ (x : Answer). finish x 0 m) (read_labelled w edition input label is ∙ ap (λ (x : Label). labelled w input (label_is x)) h); fits = tt }
+  unknown_edition h = record { is = ap (λ (x : Answer). finish x 0 m) (read_labelled w edition input label is ∙ ap (λ (x : Label). labelled w input (label_is x)) h); fits = tt }
 
-  pub known-edition : {e : Edition} {left : List ℕ} {r : Stage} → label ≡ Known e → HeaderRead (told_of (record { edition = e; strictness = strictness })) input m r left → Surveyed w edition input m r left
-  known-edition h a = record { is = ap (λ (x : Answer). finish x 0 m) (read_labelled w edition input label is ∙ ap (λ (x : Label). labelled w input (label_is x)) h) ∙ a.is; fits = a.fits }
+  pub known_edition : {e : Edition} {left : List ℕ} {r : Stage} → label ≡ Known e → HeaderRead (told_of (record { edition = e; strictness = strictness })) input m r left → Surveyed w edition input m r left
+  known_edition h a = record { is = ap (λ (x : Answer). finish x 0 m) (read_labelled w edition input label is ∙ ap (λ (x : Label). labelled w input (label_is x)) h) ∙ a.is; fits = a.fits }
 
 -- What the first pass found
 
@@ -73,9 +73,9 @@ module _ (w : Strictness) (edition : ℕ) (input m left : List ℕ) where
       rw (u, v) refl
   refused_by refusal p (accepted place rs) q = absurd (let z : ◌≡◌ {A = ℕ} 0 1 = cc in omega arith)
 
-  pub header-counted : {r : Stage} {p n : ℕ} → r ≡ Go p n → Surveyed w edition input m r left → AcceptedHeader w edition input p n
+  pub header_counted : {r : Stage} {p n : ℕ} → r ≡ Go p n → Surveyed w edition input m r left → AcceptedHeader w edition input p n
   unfolding filling_of PlaceFits
-  header-counted {p = p} {n = n} h a =
+  header_counted {p = p} {n = n} h a =
       let is = rw h at a.is in
       let fits = rw h at a.fits in
       accepted_by p n (read_by w edition input) refl is fits.0 fits.1
@@ -84,13 +84,13 @@ module _ (w : Strictness) (edition : ℕ) (input m left : List ℕ) where
   unfolding filling_of
   header_refused {refusal = refusal} {p = p} h a = let is = rw h at a.is in refused_by refusal p (read_by w edition input) is
 
-  pub refusal-answered : T (are_bytes input) → (before words : List ℕ) {r : Stage} {refusal p : ℕ} {answer : Reply} → r ≡ Refused p refusal → Surveyed w edition input m r left → reply_of answer ≡ reply refusal p 0 → ReadsBy w edition input before words answer before words
+  pub refusal_answered : T (are_bytes input) → (before words : List ℕ) {r : Stage} {refusal p : ℕ} {answer : Reply} → r ≡ Refused p refusal → Surveyed w edition input m r left → reply_of answer ≡ reply refusal p 0 → ReadsBy w edition input before words answer before words
   unfolding answer_by rows_by words_by
-  refusal-answered t before words h a s = let q = header_refused h a in record { bytes = t; answers = s ∙ rw q refl; rows = rw q refl; carries = rw q refl }
+  refusal_answered t before words h a s = let q = header_refused h a in record { bytes = t; answers = s ∙ rw q refl; rows = rw q refl; carries = rw q refl }
 
 -- .. of a strict reading, whatever was lent
 pub counted : (edition : ℕ) (input m left : List ℕ) {r : Stage} → Surveyed strict edition input m r left → Counted edition input r
-counted edition input m left a = record { refuses = λ place refusal h. header_refused strict edition input m left h a; accepts = λ place n h. header-counted strict edition input m left h a }
+counted edition input m left a = record { refuses = λ place refusal h. header_refused strict edition input m left h a; accepts = λ place n h. header_counted strict edition input m left h a }
 
 -- where the payload lies, by the strict reading
 module _ (edition : ℕ) (input : List ℕ) where
@@ -98,9 +98,9 @@ module _ (edition : ℕ) (input : List ℕ) where
   unfolding payload_start payload_end
   no_part h a = let q = a.refuses _ _ h in record { starts = rw q refl; ends = rw q refl; forward = omega arith; inside = omega arith }
 
-  pub the-part : {r : Stage} {p n : ℕ} → r ≡ Go p n → Counted edition input r → PartPromise edition input (record { start = p; end = length input })
+  pub the_part : {r : Stage} {p n : ℕ} → r ≡ Go p n → Counted edition input r → PartPromise edition input (record { start = p; end = length input })
   unfolding payload_start payload_end
-  the-part h a =
+  the_part h a =
       let c = a.accepts _ _ h in
       let q = c.is in
       record { starts = rw q refl; ends = rw q refl; forward = c.within; inside = omega arith }
@@ -141,7 +141,7 @@ module _ (w : Strictness) (edition : ℕ) (input m words : List ℕ) (place n : 
     kept = filled_by mid r (ap (λ (x : Answer). finish x 0 m) (sym a.is) ∙ f.is)
 
     ranks : ranks_for mid 0 n ≡ ranks_read a.rows
-    ranks = put-ranks a.rows m mid n kept a.count (enough h).0
+    ranks = put_ranks a.rows m mid n kept a.count (enough h).0
 
     ranks_from : ranks_at mid n 0 ≡ ranks_read a.rows
     ranks_from = let q : n - 0 ≡ n = omega arith in ap (ranks_for mid 0) q ∙ ranks
@@ -153,7 +153,7 @@ module _ (w : Strictness) (edition : ℕ) (input m words : List ℕ) (place n : 
         room = omega (arith, same, (enough h).0);
         most = omega (arith, a.few);
         opens = λ some. begins_with (tabled_split tabled.2) (sym (ranks_next mid n 0 some) ∙ ranks_from);
-        each = put-stands a.rows m mid n kept a.count (enough h).0 (tabled_split tabled.2);
+        each = put_stands a.rows m mid n kept a.count (enough h).0 (tabled_split tabled.2);
         beside = neighbours_at mid n (top true) (ranks_read a.rows) ranks (read_neighbours w edition input place a.rows t a.is (top true));
       };
       count = tabled.0;
@@ -162,9 +162,9 @@ module _ (w : Strictness) (edition : ℕ) (input m words : List ℕ) (place n : 
     }
 
     -- the rows, then their skip numbers and the words
-    pub all-filled : T (are_bytes input) → (left words' : List ℕ) → Finished mid words n left words' → ReadsBy w edition input m words (record { answer = 0; place = place; rows = n }) left words'
+    pub all_filled : T (are_bytes input) → (left words' : List ℕ) → Finished mid words n left words' → ReadsBy w edition input m words (record { answer = 0; place = place; rows = n }) left words'
     unfolding answer_by rows_by words_by
-    all-filled t left words' d =
+    all_filled t left words' d =
         let c = a.count in
         let q : leb (length a.rows) (room_with m words) ≡ true = le-leb (length a.rows) (room_with m words) (omega arith) in
         let laid : left ≡ laid_over m (table_of a.rows)

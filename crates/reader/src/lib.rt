@@ -1,4 +1,6 @@
 // The reader: a header as rows and words in lent memory, and the payload behind it.
+#![tactic(auto)]
+
 ghost use Rattle.std.specs.Prelude.{◌≡◌, ◌/◌, leb};
 ghost use Rattle.meaning.specs.Basics.{pick};
 ghost use Rattle.meaning.specs.Memory.{row_width, words_borrowed};

@@ -13,7 +13,7 @@ use Rattle.meaning.specs.Skips.{Skips, right, wrong_at}
 use Rattle.meaning.specs.Headers.{accepted, envelope_most, envelopes_most, header}
 use Rattle.meaning.specs.Writing.{Envelope, Plan, stuck, plan, envelope_size, within_limit}
 use Rattle.meaning.specs.Memory.{reply, skips_held, words_read}
-use Rattle.meaning.specs.Relay.{extension_plan, relayed, unrelayed, joint_of, joined_plan, behind_old, relay_under, relay, relayAnswer, relayRows, relayWords, relayOutput}
+use Rattle.meaning.specs.Relay.{extension_plan, relayed, unrelayed, joint_of, joined_plan, behind_old, relay_under, relay, relay_answer, relay_rows, relay_words, relay_output}
 use Rattle.laws_steps.specs.Logic.{are_bytes, both_hold}
 use Rattle.laws_steps.specs.Rows.{cells_at, cells_are}
 use Rattle.laws_tables.specs.Ties.{read_as}
@@ -83,7 +83,7 @@ module _ (edition : ℕ) (input table pool rows words output : List ℕ) where
   LentBytes = T (are_bytes input) × T (are_bytes pool)
 
   unrelayed_is : LentBytes → (refusal place : ℕ) {r : Reply} → relay edition input table pool ≡ unrelayed refusal place → reply_of r ≡ reply refusal place 0 → RelayPromise edition input table pool rows words output r rows words output
-  unfolding relayAnswer relayRows relayWords relayOutput
+  unfolding relay_answer relay_rows relay_words relay_output
   unrelayed_is lent refusal place q s = record { bytes = lent.0; pool_bytes = lent.1; answers = s ∙ rw q refl; joins = rw q refl; carries = rw q refl; leaves = rw q refl }
 
   pub no_edition : LentBytes → {label : Label} {r : Reply} → label_is label ≡ label_of edition → label ≡ Unknown → reply_of r ≡ reply 1 0 0 → RelayPromise edition input table pool rows words output r rows words output
@@ -140,8 +140,8 @@ module _ (edition : ℕ) (input table pool rows words output : List ℕ) where
             let (bytes, vs, p, s, m) = planned in
             unrelayed_is lent 5 0 (limits_decide b f bytes vs p s m ∙ ap (λ (x : Bool). pick x (relayed (joint_of e bytes (take place input) a.rows)) (unrelayed 5 0)) over) t
 
-        pub may-join : {b : Bool} → OneMoreFits input many b → b ≡ true → Joinable edition e input table pool place n many
-        may-join {b} f holds =
+        pub may_join : {b : Bool} → OneMoreFits input many b → b ≡ true → Joinable edition e input table pool place n many
+        may_join {b} f holds =
             let (bytes, vs, p, s, m) = planned in
             let fits = f.is (told e) place a.rows header_is in
             let (few, small) = both_hold (ltb (length (words_read a.rows)) envelopes_most) (within_limit many) (sym fits ∙ holds) in

@@ -5,7 +5,7 @@ use Rattle.meaning.specs.Skips.{Skips, right, wrong_at}
 use Rattle.meaning.specs.Headers.{Placed, accepted, envelopes_most, header}
 use Rattle.meaning.specs.Writing.{Envelope, Plan, stuck, plan, within_limit}
 use Rattle.meaning.specs.Memory.{words_read}
-use Rattle.meaning.specs.Relay.{extension_plan, relayed, joint_of, relay, relayAnswer, relayRows, relayWords, relayOutput}
+use Rattle.meaning.specs.Relay.{extension_plan, relayed, joint_of, relay, relay_answer, relay_rows, relay_words, relay_output}
 use Rattle.laws_steps.specs.Logic.{are_bytes}
 use Rattle.laws_steps.specs.Rows.{cells_at}
 use Rattle.table.specs.declared.reply.Reply.{Reply}
@@ -17,10 +17,10 @@ use Rattle.write_envelopes.specs.Whole.{Verdict, bad, needs}
 pub record RelayPromise (edition : ℕ) (input table pool rows words output : List ℕ) (answer : Reply) (rows' words' output' : List ℕ) : Type 0 where
   pub bytes : T (are_bytes input)
   pub pool_bytes : T (are_bytes pool)
-  pub answers : reply_of answer ≡ relayAnswer edition input table pool rows words output
-  pub joins : rows' ≡ relayRows edition input table pool rows words output
-  pub carries : words' ≡ relayWords edition input table pool rows words output
-  pub leaves : output' ≡ relayOutput edition input table pool rows words output
+  pub answers : reply_of answer ≡ relay_answer edition input table pool rows words output
+  pub joins : rows' ≡ relay_rows edition input table pool rows words output
+  pub carries : words' ≡ relay_words edition input table pool rows words output
+  pub leaves : output' ≡ relay_output edition input table pool rows words output
 
 -- what the check of the new table comes to: a wrong skip number is 15 behind its other faults
 abbrev pub new_verdict : Skips → Plan → Verdict

@@ -1,4 +1,6 @@
 // Document 02, order 2: the relay. "The gateway may not alter an envelope it received; it puts a new one in front."
+#![tactic(auto)]
+
 ghost use Rattle.std.specs.Prelude.{◌≡◌, ◌≤◌};
 ghost use Rattle.meaning.specs.Told as told;
 ghost use Rattle.meaning.specs.Headers.{envelope_most};
@@ -142,7 +144,7 @@ fn join(
         return refused(OUTPUT_SHORT, long);
     }
     put_extension(known, table, pool, many, output);
-    bytes::copy(&input[..place], &mut output[size..]);
+    output[size..long].copy_from_slice(&input[..place]);
     fill(
         edition,
         Strictness::Strict,

@@ -13,7 +13,7 @@ use Rattle.laws_steps.specs.Nesting.{false_not}
 use Rattle.laws_tables.specs.Presence.{or_words, no_other_bit}
 use Rattle.laws_tables.specs.Neighbours.{is_follower, is_silent, Flat, kind_most}
 use Rattle.skips.specs.Classes.{bit_of, way_of, class_of, ClassesAre}
-use Rattle.skips.specs.Owning.{of-received, of-to, of-from, of-receiver, of-resolvers}
+use Rattle.skips.specs.Owning.{of_received, of_to, of_from, of_receiver, of_resolvers}
 use Rattle.skips.specs.Belonging.{by_follower, Light}
 
 -- What the number says
@@ -52,8 +52,8 @@ module _ (kind class : ℕ) (is : class ≡ class_of kind) where
       at w (deeper p q r s) u = absurd (omega arith)
       at w (plain l f) u = (l, f)
 
-  pub is-deeper : 0x1000 ≤ class → class < 0x2000 → Deeper kind
-  is-deeper g h = at (way_of kind) (way_is kind) (omega arith) (omega (arith, bit_small kind))
+  pub is_deeper : 0x1000 ≤ class → class < 0x2000 → Deeper kind
+  is_deeper g h = at (way_of kind) (way_is kind) (omega arith) (omega (arith, bit_small kind))
     where
       at : (w : ℕ) → Way kind w → w < 0x2000 → 0x1000 < w + 4096 → Deeper kind
       at w (envelope p) u v = absurd (omega arith)
@@ -62,8 +62,8 @@ module _ (kind class : ℕ) (is : class ≡ class_of kind) where
       at w (deeper p q r s) u v = (p, q, r, s)
       at w (plain l f) u v = absurd (omega arith)
 
-  pub is-agent : 0x2000 ≤ class → class < 0x3000 → kind ≡ 15
-  is-agent g h = at (way_of kind) (way_is kind) (omega arith) (omega (arith, bit_small kind))
+  pub is_agent : 0x2000 ≤ class → class < 0x3000 → kind ≡ 15
+  is_agent g h = at (way_of kind) (way_is kind) (omega arith) (omega (arith, bit_small kind))
     where
       at : (w : ℕ) → Way kind w → w < 0x3000 → 0x2000 < w + 4096 → kind ≡ 15
       at w (envelope p) u v = absurd (omega arith)
@@ -72,8 +72,8 @@ module _ (kind class : ℕ) (is : class ≡ class_of kind) where
       at w (deeper p q r s) u v = absurd (omega arith)
       at w (plain l f) u v = absurd (omega arith)
 
-  pub is-follower : 0x3000 ≤ class → class < 0x4000 → is_follower kind ≡ true
-  is-follower g h = at (way_of kind) (way_is kind) (omega arith) (omega (arith, bit_small kind))
+  pub is_follower_lem : 0x3000 ≤ class → class < 0x4000 → is_follower kind ≡ true
+  is_follower_lem g h = at (way_of kind) (way_is kind) (omega arith) (omega (arith, bit_small kind))
     where
       at : (w : ℕ) → Way kind w → w < 0x4000 → 0x3000 < w + 4096 → is_follower kind ≡ true
       at w (envelope p) u v = absurd (omega arith)
@@ -82,8 +82,8 @@ module _ (kind class : ℕ) (is : class ≡ class_of kind) where
       at w (deeper p q r s) u v = absurd (omega arith)
       at w (plain l f) u v = absurd (omega arith)
 
-  pub is-envelope : 0x4000 ≤ class → is_envelope kind ≡ true
-  is-envelope g = at (way_of kind) (way_is kind) (omega (arith, bit_small kind))
+  pub is_envelope_lem : 0x4000 ≤ class → is_envelope kind ≡ true
+  is_envelope_lem g = at (way_of kind) (way_is kind) (omega (arith, bit_small kind))
     where
       at : (w : ℕ) → Way kind w → 0x4000 < w + 4096 → is_envelope kind ≡ true
       at w (envelope p) v = p
@@ -98,12 +98,12 @@ deeper_owns kind level s p r h = at (is_envelope kind) (eqb kind 8) (eqb kind 12
   where
     at : (v a b c d g e : Bool) → v ≡ false → g ≡ false → eqb kind 8 ≡ a → eqb kind 12 ≡ b → eqb kind 13 ≡ c → eqb kind 14 ≡ d → eqb kind 18 ≡ e → v || a || b || c || d || g || e ≡ true → belongs (rank kind level) s ≡ ltb level s.level
     at true a b c d g e vq gq qa qb qc qd qe z = false_not (sym vq)
-    at false true b c d g e vq gq qa qb qc qd qe z = of-received level s (eqb-true kind 8 qa)
-    at false false true c d g e vq gq qa qb qc qd qe z = of-to level s (eqb-true kind 12 qb)
-    at false false false true d g e vq gq qa qb qc qd qe z = of-from level s (eqb-true kind 13 qc)
-    at false false false false true g e vq gq qa qb qc qd qe z = of-receiver level s (eqb-true kind 14 qd)
+    at false true b c d g e vq gq qa qb qc qd qe z = of_received level s (eqb-true kind 8 qa)
+    at false false true c d g e vq gq qa qb qc qd qe z = of_to level s (eqb-true kind 12 qb)
+    at false false false true d g e vq gq qa qb qc qd qe z = of_from level s (eqb-true kind 13 qc)
+    at false false false false true g e vq gq qa qb qc qd qe z = of_receiver level s (eqb-true kind 14 qd)
     at false false false false false true e vq gq qa qb qc qd qe z = false_not (sym gq)
-    at false false false false false false true vq gq qa qb qc qd qe z = of-resolvers level s (eqb-true kind 18 qe)
+    at false false false false false false true vq gq qa qb qc qd qe z = of_resolvers level s (eqb-true kind 18 qe)
     at false false false false false false false vq gq qa qb qc qd qe z = false_not z
 
 -- The bits below

@@ -30,52 +30,52 @@ module _ (at : ℕ) (s : Rank) where
   unfolding belongs
   deeper k h b = rw (h, b) (or_none (ltb at s.level) (eqb s.level at))
 
-  pub of-envelope : {kind : ℕ} → kind ≡ 1 → Has kind (above_test 2 at s)
+  pub of_envelope : {kind : ℕ} → kind ≡ 1 → Has kind (above_test 2 at s)
   unfolding belongs
-  of-envelope = as_named 1 refl
+  of_envelope = as_named 1 refl
 
-  pub of-base : {kind : ℕ} → kind ≡ 2 → Has kind (above_test 2 at s)
+  pub of_base : {kind : ℕ} → kind ≡ 2 → Has kind (above_test 2 at s)
   unfolding belongs
-  of-base = as_named 2 refl
+  of_base = as_named 2 refl
 
-  pub of-agent : {kind : ℕ} → kind ≡ 15 → Has kind (above_test 15 at s)
+  pub of_agent : {kind : ℕ} → kind ≡ 15 → Has kind (above_test 15 at s)
   unfolding belongs
-  of-agent = as_named 15 refl
+  of_agent = as_named 15 refl
 
-  pub of-received : {kind : ℕ} → kind ≡ 8 → Has kind (ltb at s.level)
-  of-received = as_named 8 (deeper 8 refl refl)
+  pub of_received : {kind : ℕ} → kind ≡ 8 → Has kind (ltb at s.level)
+  of_received = as_named 8 (deeper 8 refl refl)
 
-  pub of-to : {kind : ℕ} → kind ≡ 12 → Has kind (ltb at s.level)
-  of-to = as_named 12 (deeper 12 refl refl)
+  pub of_to : {kind : ℕ} → kind ≡ 12 → Has kind (ltb at s.level)
+  of_to = as_named 12 (deeper 12 refl refl)
 
-  pub of-from : {kind : ℕ} → kind ≡ 13 → Has kind (ltb at s.level)
-  of-from = as_named 13 (deeper 13 refl refl)
+  pub of_from : {kind : ℕ} → kind ≡ 13 → Has kind (ltb at s.level)
+  of_from = as_named 13 (deeper 13 refl refl)
 
-  pub of-receiver : {kind : ℕ} → kind ≡ 14 → Has kind (ltb at s.level)
-  of-receiver = as_named 14 (deeper 14 refl refl)
+  pub of_receiver : {kind : ℕ} → kind ≡ 14 → Has kind (ltb at s.level)
+  of_receiver = as_named 14 (deeper 14 refl refl)
 
-  pub of-resolvers : {kind : ℕ} → kind ≡ 18 → Has kind (ltb at s.level)
-  of-resolvers = as_named 18 (deeper 18 refl refl)
+  pub of_resolvers : {kind : ℕ} → kind ≡ 18 → Has kind (ltb at s.level)
+  of_resolvers = as_named 18 (deeper 18 refl refl)
 
-  pub of-addresses : {kind : ℕ} → kind ≡ 16 → Has kind (beside_test 17 17 at s)
+  pub of_addresses : {kind : ℕ} → kind ≡ 16 → Has kind (beside_test 17 17 at s)
   unfolding belongs
-  of-addresses = as_named 16 (ap (λ (b : Bool). eqb s.level at && b) (twice (eqb s.kind 17)))
+  of_addresses = as_named 16 (ap (λ (b : Bool). eqb s.level at && b) (twice (eqb s.kind 17)))
 
-  pub of-extra : {kind : ℕ} → kind ≡ 19 → Has kind (beside_test 20 21 at s)
+  pub of_extra : {kind : ℕ} → kind ≡ 19 → Has kind (beside_test 20 21 at s)
   unfolding belongs
-  of-extra = as_named 19 refl
+  of_extra = as_named 19 refl
 
-  pub of-behaviour : {kind : ℕ} → kind ≡ 29 → Has kind (beside_test 20 21 at s)
+  pub of_behaviour : {kind : ℕ} → kind ≡ 29 → Has kind (beside_test 20 21 at s)
   unfolding belongs
-  of-behaviour = as_named 29 refl
+  of_behaviour = as_named 29 refl
 
-  pub of-encrypted : {kind : ℕ} → kind ≡ 25 → Has kind (beside_test 26 26 at s)
+  pub of_encrypted : {kind : ℕ} → kind ≡ 25 → Has kind (beside_test 26 26 at s)
   unfolding belongs
-  of-encrypted = as_named 25 (ap (λ (b : Bool). eqb s.level at && b) (twice (eqb s.kind 26)))
+  of_encrypted = as_named 25 (ap (λ (b : Bool). eqb s.level at && b) (twice (eqb s.kind 26)))
 
-  pub of-own : {kind : ℕ} → kind ≡ 27 → Has kind (beside_test 28 28 at s)
+  pub of_own : {kind : ℕ} → kind ≡ 27 → Has kind (beside_test 28 28 at s)
   unfolding belongs
-  of-own = as_named 27 (ap (λ (b : Bool). eqb s.level at && b) (twice (eqb s.kind 28)))
+  of_own = as_named 27 (ap (λ (b : Bool). eqb s.level at && b) (twice (eqb s.kind 28)))
 
   pub of_others : (kind : ℕ) → (kind ≡ 1 → ⊥) → (kind ≡ 2 → ⊥) → (kind ≡ 8 → ⊥) → (kind ≡ 12 → ⊥) → (kind ≡ 13 → ⊥) → (kind ≡ 14 → ⊥) → (kind ≡ 15 → ⊥) → (kind ≡ 16 → ⊥) → (kind ≡ 18 → ⊥)
       → (kind ≡ 19 → ⊥) → (kind ≡ 25 → ⊥) → (kind ≡ 27 → ⊥) → (kind ≡ 29 → ⊥) → Has kind false

@@ -5,7 +5,7 @@ use Rattle.meaning.specs.Basics.{pick}
 use Rattle.meaning.specs.Skips.{right, wrong_at}
 use Rattle.meaning.specs.Memory.{room_of, skips_held}
 use Rattle.laws_steps.specs.Hopping.{given_at, skip_at, held_at, held_end, held_next, held_wrong, AllRight, all_held, held_are}
-use Rattle.laws_tables.specs.Skipping.{skips_laid, laid-length, laid-skip, laid_same}
+use Rattle.laws_tables.specs.Skipping.{skips_laid, laid_length, laid_skip, laid_same}
 use Rattle.skips.specs.Owners.{Hoppable, held_as}
 
 -- From the last row to the first
@@ -19,10 +19,10 @@ module _ (m : List ℕ) (n i : ℕ) (h : 0 < i) (l : i ≤ n) where
 
   module _ (rows : List ℕ) (q : rows ≡ skips_laid m n (n - i)) where
     -- the rows behind have theirs
-    pub laid-hoppable : n ≤ room_of m → Hoppable rows n (i - 1)
-    laid-hoppable r =
+    pub laid_hoppable : n ≤ room_of m → Hoppable rows n (i - 1)
+    laid_hoppable r =
         subst (λ (x : List ℕ). Hoppable x n (i - 1)) (sym q)
-        (hoppable_in (skips_laid m n (n - i)) (omega (arith, laid-length m n (n - i))) (λ j x y. laid-skip m n (n - i) j (omega arith) (omega arith) y ∙ sym (laid_same m n (n - i) j)))
+        (hoppable_in (skips_laid m n (n - i)) (omega (arith, laid_length m n (n - i))) (λ j x y. laid_skip m n (n - i) j (omega arith) (omega arith) y ∙ sym (laid_same m n (n - i) j)))
       where
         hoppable_in : (x : List ℕ) → n ≤ room_of x → AllRight x n i → Hoppable x n (i - 1)
         hoppable_in x r a = record { inside = omega arith; room = r; behind = λ j u y. a j (omega arith) y }

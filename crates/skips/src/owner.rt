@@ -11,7 +11,7 @@ use table::kinds::{
 };
 
 // What a row has among its rows: nothing; what is deeper; all of an envelope or of an agent; or one kind or two beside it.
-#[derive(Drop)]
+#[derive(Clone, Copy)]
 pub enum Owner {
     Nothing,
     Deeper,

@@ -68,8 +68,8 @@ module _ (pool rows : List ℕ) {i : ℕ} {n : Row} (h : i < room_of rows) (w : 
   row_cell_lem : row_cell pool rows i ≡ cell_of pool n.kind n.level n.start n.length
   row_cell_lem = rw (w.kind_is, w.level_is, w.start_is, w.length_is) refl
 
-  pub ahead-out : {r : Ahead} → length pool < n.start + n.length → r ≡ no_row → AheadIs pool rows i r
-  ahead-out k q =
+  pub ahead_out : {r : Ahead} → length pool < n.start + n.length → r ≡ no_row → AheadIs pool rows i r
+  ahead_out k q =
       let c : cells_at pool rows i ≡ broken ∷ cells_at pool rows (i + 1)
       = cells_next pool rows i h ∙ ap (λ (x : Cell). x ∷ cells_at pool rows (i + 1)) (row_cell_lem ∙ rw (lt-leb (n.start + n.length) (length pool) k) refl) in
       nothing_is pool rows i q (subst NoRow (sym c) tt)

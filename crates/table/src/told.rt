@@ -3,21 +3,21 @@ ghost use Rattle.std.specs.Prelude.{◌≡◌};
 ghost use Rattle.meaning.specs.Told.{label_of};
 ghost use Rattle.table.specs.Told.{label_is};
 
-#[derive(Drop)]
+#[derive(Clone, Copy)]
 pub enum Edition {
     B,
     D,
 }
 
 // Order 10: whether the shortest length form of a block is required, or any will do.
-#[derive(Drop)]
+#[derive(Clone, Copy)]
 pub enum Strictness {
     Strict,
     Tolerant,
 }
 
 // What a reading is told.
-#[derive(Drop)]
+#[derive(Clone, Copy)]
 pub struct Told {
     pub edition: Edition,
     pub strictness: Strictness,

@@ -11,7 +11,7 @@ use Rattle.meaning.specs.Bytes.{high_first, Width, one_byte, two_bytes, four_byt
 use Rattle.meaning.specs.Told.{strict, tolerant, Told}
 use Rattle.meaning.specs.Kinds.{any_bytes}
 use Rattle.laws_steps.specs.From.{from, from_length, from_end, from_cons}
-use Rattle.laws_steps.specs.HighFirst.{high_few, high_one, high-two, high-four}
+use Rattle.laws_steps.specs.HighFirst.{high_few, high_one, high_two, high_four}
 use Rattle.values.specs.declared.any.Length.{Length}
 use Rattle.values.specs.declared.any.Length.TheVariants.{Says, Short}
 use Rattle.values.specs.declared.Value.TheVariants.{Is, Refused}
@@ -21,22 +21,22 @@ use Rattle.values.specs.Answers.{span_prefixed, answered, refuses}
 
 -- a length at a place: too few bytes, or one, two or four of them
 module _ (s : List ℕ) (end at width : ℕ) (b : at ≤ end) (l : end ≤ length s) where
-  pub length-short : end - at < width → LengthRead s end at width Short
+  pub length_short : end - at < width → LengthRead s end at width Short
   unfolding said Behind
-  length-short h = record { is = high_few width 0 (from s at end) (omega (arith, from_length s at end b l)); ends = tt }
+  length_short h = record { is = high_few width 0 (from s at end) (omega (arith, from_length s at end b l)); ends = tt }
 
   module _ (h : width ≤ end - at) {value : ℕ} where
-    pub length-one : width ≡ 1 → value ≡ get_or s at 0 → LengthRead s end at width (Says value (at + width))
+    pub length_one : width ≡ 1 → value ≡ get_or s at 0 → LengthRead s end at width (Says value (at + width))
     unfolding said Behind
-    length-one w q = record { is = rw (w, q) (high_one s end at l (omega arith)); ends = (refl, omega arith) }
+    length_one w q = record { is = rw (w, q) (high_one s end at l (omega arith)); ends = (refl, omega arith) }
 
     pub length_two : width ≡ 2 → value ≡ 256 * get_or s at 0 + get_or s (at + 1) 0 → LengthRead s end at width (Says value (at + width))
     unfolding said Behind
-    length_two w q = record { is = rw (w, q) (high-two s end at l (omega arith)); ends = (refl, omega arith) }
+    length_two w q = record { is = rw (w, q) (high_two s end at l (omega arith)); ends = (refl, omega arith) }
 
-    pub length-four : width ≡ 4 → value ≡ 65536 * (256 * get_or s at 0 + get_or s (at + 1) 0) + (256 * get_or s (at + 2) 0 + get_or s (at + 2 + 1) 0) → LengthRead s end at width (Says value (at + width))
+    pub length_four : width ≡ 4 → value ≡ 65536 * (256 * get_or s at 0 + get_or s (at + 1) 0) + (256 * get_or s (at + 2) 0 + get_or s (at + 2 + 1) 0) → LengthRead s end at width (Says value (at + width))
     unfolding said Behind
-    length-four w q = record { is = rw (w, q) (high-four s end at l (omega arith)); ends = (refl, omega arith) }
+    length_four w q = record { is = rw (w, q) (high_four s end at l (omega arith)); ends = (refl, omega arith) }
 
 -- a width that is neither 1 nor 2
 pub four_wide : {width : ℕ} → IsWidth width → (width ≡ 1 → ⊥) → (width ≡ 2 → ⊥) → width ≡ 4
@@ -76,18 +76,18 @@ module _ (s : List ℕ) (end at width : ℕ) (l : end ≤ length s) (b : at < en
   length_is : high_first (bytes_of w) 0 (from s (at + 1) end) ≡ said s end n
   length_is = ap (λ (x : ℕ). high_first x 0 (from s (at + 1) end)) hw ∙ a.is
 
-  pub block-short : n ≡ Short → Valued s end (at + 1) any_bytes 0 (take_block t w (end - at) (from s (at + 1) end)) (Refused 6 end)
+  pub block_short : n ≡ Short → Valued s end (at + 1) any_bytes 0 (take_block t w (end - at) (from s (at + 1) end)) (Refused 6 end)
   unfolding take_block block_of said
-  block-short h = refuses (rw (length_is, h) (ap (misses 6) (omega arith))) (omega arith)
+  block_short h = refuses (rw (length_is, h) (ap (misses 6) (omega arith))) (omega arith)
 
   module _ {value after : ℕ} (h : n ≡ Says value after) {r : Bool} (is : r ≡ too_wide t w value) where
-    pub block-wide : r ≡ true → Valued s end (at + 1) any_bytes 0 (take_block t w (end - at) (from s (at + 1) end)) (Refused 11 at)
+    pub block_wide : r ≡ true → Valued s end (at + 1) any_bytes 0 (take_block t w (end - at) (from s (at + 1) end)) (Refused 11 at)
     unfolding take_block block_of said
-    block-wide q = refuses (rw (length_is, h, sym is ∙ q) refl) (omega arith)
+    block_wide q = refuses (rw (length_is, h, sym is ∙ q) refl) (omega arith)
 
-    pub block-far : r ≡ false → end - after < value → Valued s end (at + 1) any_bytes 0 (take_block t w (end - at) (from s (at + 1) end)) (Refused 6 end)
+    pub block_far : r ≡ false → end - after < value → Valued s end (at + 1) any_bytes 0 (take_block t w (end - at) (from s (at + 1) end)) (Refused 6 end)
     unfolding take_block block_of said
-    block-far q d =
+    block_far q d =
         let (p, e) = length_to a h in
         refuses (rw (length_is, h, sym is ∙ q) (take_short s end l value after 0 e (omega arith) ∙ ap (misses 6) (omega arith))) (omega arith)
 

@@ -23,15 +23,15 @@ module _ (number : ℕ) (first : Bool) (b : ℕ) {d : ℕ} {x : Bool} (hd : d �
   abbrev odd : Bool
   odd = x && leb one number_most
 
-  pub odd-ends : (b ≡ 0 → ⊥) → odd ≡ true → b % 16 ≡ 0 → Turned number first b (Stop one)
+  pub odd_ends : (b ≡ 0 → ⊥) → odd ≡ true → b % 16 ≡ 0 → Turned number first b (Stop one)
   unfolding turn turned Worth number_value
-  odd-ends h p z =
+  odd_ends h p z =
       let q : (is_digit (b / 16) && leb (10 * number + digit_of (b / 16)) number_most) ≡ true = rw (hd, hx) at p in
       record { is = simp (ne_eqb b 0 h, q, eq-eqb (b % 16) 0 z); worth = rw (hd, ne_eqb b 0 h, eq-eqb (b % 16) 0 z) refl }
 
-  pub odd-wrong : (b ≡ 0 → ⊥) → odd ≡ false → Turned number first b Wrong
+  pub odd_wrong : (b ≡ 0 → ⊥) → odd ≡ false → Turned number first b Wrong
   unfolding turn turned Worth
-  odd-wrong h p =
+  odd_wrong h p =
       let q : (is_digit (b / 16) && leb (10 * number + digit_of (b / 16)) number_most) ≡ false = rw (hd, hx) at p in
       record { is = simp (ne_eqb b 0 h, q); worth = tt }
 
@@ -40,9 +40,9 @@ module _ (number : ℕ) (first : Bool) (b : ℕ) {d : ℕ} {x : Bool} (hd : d �
     abbrev even : Bool
     even = y && not (first && eqb (b / 16) 1) && leb (10 * one + e) number_most
 
-    pub even-goes : (b ≡ 0 → ⊥) → odd ≡ true → (b % 16 ≡ 0 → ⊥) → even ≡ true → Turned number first b (More (10 * one + e))
+    pub even_goes : (b ≡ 0 → ⊥) → odd ≡ true → (b % 16 ≡ 0 → ⊥) → even ≡ true → Turned number first b (More (10 * one + e))
     unfolding turn turned Worth number_value
-    even-goes h p z r =
+    even_goes h p z r =
         let q : (is_digit (b / 16) && leb (10 * number + digit_of (b / 16)) number_most) ≡ true = rw (hd, hx) at p in
         let t : (is_digit (b % 16) && not (first && eqb (b / 16) 1) && leb (10 * (10 * number + digit_of (b / 16)) + digit_of (b % 16)) number_most) ≡ true = rw (hd, he, hy) at r in
         record {
@@ -50,9 +50,9 @@ module _ (number : ℕ) (first : Bool) (b : ℕ) {d : ℕ} {x : Bool} (hd : d �
           worth = (leb-true (10 * one + e) number_most (both_hold (y && not (first && eqb (b / 16) 1)) (leb (10 * one + e) number_most) r).1, λ v. rw (hd, he, ne_eqb b 0 h, ne_eqb (b % 16) 0 z) refl);
         }
 
-    pub even-wrong : (b ≡ 0 → ⊥) → odd ≡ true → (b % 16 ≡ 0 → ⊥) → even ≡ false → Turned number first b Wrong
+    pub even_wrong : (b ≡ 0 → ⊥) → odd ≡ true → (b % 16 ≡ 0 → ⊥) → even ≡ false → Turned number first b Wrong
     unfolding turn turned Worth
-    even-wrong h p z r =
+    even_wrong h p z r =
         let q : (is_digit (b / 16) && leb (10 * number + digit_of (b / 16)) number_most) ≡ true = rw (hd, hx) at p in
         let t : (is_digit (b % 16) && not (first && eqb (b / 16) 1) && leb (10 * (10 * number + digit_of (b / 16)) + digit_of (b % 16)) number_most) ≡ false = rw (hd, he, hy) at r in
         record { is = simp (ne_eqb b 0 h, q, ne_eqb (b % 16) 0 z, t); worth = tt }
@@ -91,16 +91,16 @@ module _ (s : List ℕ) (end : ℕ) (l : end ≤ length s) (at i number : ℕ) (
     unfolding take_number turned
     number_wrong q = rw (from_cons s i end h l, turns Wrong q) (ap (fails 10) (omega (arith, from_length s (i + 1) end (omega arith) l)))
 
-    pub number-stops : {value : ℕ} → r ≡ Stop value → tally (i - at) number (take_number number first (from s i end)) ≡ counts (i + 1 - at) value (from s (i + 1) end)
+    pub number_stops : {value : ℕ} → r ≡ Stop value → tally (i - at) number (take_number number first (from s i end)) ≡ counts (i + 1 - at) value (from s (i + 1) end)
     unfolding take_number turned Worth
-    number-stops {value} q =
+    number_stops {value} q =
         let w : number_value number (b ∷ []) ≡ value = rw q at t.worth in
         let p : i - at + 1 ≡ i + 1 - at = omega arith in
         rw (from_cons s i end h l, turns (Stop value) q, ← is, w, p) refl
 
-    pub number-goes : {value : ℕ} → r ≡ More value → tally (i - at) number (take_number number first (from s i end)) ≡ tally (i + 1 - at) value (take_number value false (from s (i + 1) end))
+    pub number_goes : {value : ℕ} → r ≡ More value → tally (i - at) number (take_number number first (from s i end)) ≡ tally (i + 1 - at) value (take_number value false (from s (i + 1) end))
     unfolding take_number turned Worth
-    number-goes {value} q =
+    number_goes {value} q =
         let w : (value ≤ number_most) × ((v : List ℕ) → number_value number (b ∷ v) ≡ number_value value v) = rw q at t.worth in
         let p : i - at + 1 ≡ i + 1 - at = omega arith in
         let onward = take_number value false (from s (i + 1) end) in

@@ -38,18 +38,18 @@ not_zero rule b h = let k = text_byte_above rule b (subst T (sym h) tt) in ne_eq
 
 -- at the place i of a text that begins at `at`
 module _ (rule : Rule) (s : List ℕ) (end : ℕ) (l : end ≤ length s) (at i : ℕ) (g : at ≤ i) where
-  pub text-stops : i < end → get_or s i 0 ≡ 0 → span (i - at) (take_text rule (from s i end)) ≡ spans (i - at) (from s (i + 1) end)
+  pub text_stops : i < end → get_or s i 0 ≡ 0 → span (i - at) (take_text rule (from s i end)) ≡ spans (i - at) (from s (i + 1) end)
   unfolding take_text
-  text-stops h z = rw (from_cons s i end h l, z) (ap (λ (x : ℕ). spans x (from s (i + 1) end)) (omega arith))
+  text_stops h z = rw (from_cons s i end h l, z) (ap (λ (x : ℕ). spans x (from s (i + 1) end)) (omega arith))
 
   pub text_wrong : i < end → (get_or s i 0 ≡ 0 → ⊥) → text_byte rule (get_or s i 0) ≡ false → span (i - at) (take_text rule (from s i end)) ≡ misses 8 (end - i)
   unfolding take_text
   text_wrong h z b =
       rw (from_cons s i end h l, ne_eqb (get_or s i 0) 0 z, b) (ap (misses 8) (omega (arith, from_length s (i + 1) end (omega arith) l)))
 
-  pub text-goes : i < end → text_byte rule (get_or s i 0) ≡ true → span (i - at) (take_text rule (from s i end)) ≡ span (i + 1 - at) (take_text rule (from s (i + 1) end))
+  pub text_goes : i < end → text_byte rule (get_or s i 0) ≡ true → span (i - at) (take_text rule (from s i end)) ≡ span (i + 1 - at) (take_text rule (from s (i + 1) end))
   unfolding take_text
-  text-goes h b =
+  text_goes h b =
       let p : i - at + 1 ≡ i + 1 - at = omega arith in
       let onward = take_text rule (from s (i + 1) end) in
       rw (from_cons s i end h l, not_zero rule (get_or s i 0) b, b) (span_prefixed (i - at) (get_or s i 0) onward ∙ ap (λ (x : ℕ). span x onward) p)
@@ -60,13 +60,13 @@ module _ (rule : Rule) (s : List ℕ) (end : ℕ) (l : end ≤ length s) (at i :
 
 -- one byte and n more that one rule allows, and the text's rule too: the text goes on behind them all
 module _ (least rule : Rule) (wider : (b : ℕ) → text_byte least b ≡ true → text_byte rule b ≡ true) (s : List ℕ) (end : ℕ) (l : end ≤ length s) where
-  pub text-runs : (at i n : ℕ) → at ≤ i → i + n < end → text_run least s i n ≡ true → span (i - at) (take_text rule (from s i end)) ≡ span (i + suc n - at) (take_text rule (from s (i + suc n) end))
+  pub text_runs : (at i n : ℕ) → at ≤ i → i + n < end → text_run least s i n ≡ true → span (i - at) (take_text rule (from s i end)) ≡ span (i + suc n - at) (take_text rule (from s (i + suc n) end))
   unfolding text_run
-  text-runs at i zero g h b = text-goes rule s end l at i g (omega arith) (wider (get_or s i 0) b)
-  text-runs at i (suc n) g h b =
+  text_runs at i zero g h b = text_goes rule s end l at i g (omega arith) (wider (get_or s i 0) b)
+  text_runs at i (suc n) g h b =
       let (before, last) = both_hold (text_run least s i n) (text_byte least (get_or s (i + suc n) 0)) b in
       let q : i + suc n + 1 ≡ i + suc (suc n) = omega arith in
-      text-runs at i n g (omega arith) before ∙ text-goes rule s end l at (i + suc n) (omega arith) (omega arith) (wider (get_or s (i + suc n) 0) last) ∙ rw q refl
+      text_runs at i n g (omega arith) before ∙ text_goes rule s end l at (i + suc n) (omega arith) (omega arith) (wider (get_or s (i + suc n) 0) last) ∙ rw q refl
 
   -- the place behind a run
   run_skipped : (at n : ℕ) → at + n < end → text_run least s at n ≡ true → Skipped rule s end at (at + suc n)
@@ -75,7 +75,7 @@ module _ (least rule : Rule) (wider : (b : ℕ) → text_byte least b ≡ true �
       record {
         inside = omega arith;
         before = omega arith;
-        is = ap (λ (x : ℕ). span x (take_text rule (from s at end))) q ∙ text-runs at at n (omega arith) h b;
+        is = ap (λ (x : ℕ). span x (take_text rule (from s at end))) q ∙ text_runs at at n (omega arith) h b;
       }
 
 pub line_skipped : (s : List ℕ) (end : ℕ) → end ≤ length s → (at n : ℕ) → at + n < end → text_run line s at n ≡ true → (rule : Rule) → Skipped rule s end at (at + suc n)
@@ -118,7 +118,7 @@ byte_skipped rule s end l i h b =
     record {
       inside = omega arith;
       before = omega arith;
-      is = ap (λ (x : ℕ). span x (take_text rule (from s i end))) q ∙ text-goes rule s end l i i (omega arith) h b;
+      is = ap (λ (x : ℕ). span x (take_text rule (from s i end))) q ∙ text_goes rule s end l i i (omega arith) h b;
     }
 
 -- two runs, one behind the other

@@ -22,11 +22,11 @@ module _ {s : List ℕ} {end at kind back : ℕ} {taken : Taken} where
   unfolding span_of Stands
   refuses q a = record { is = q; stands = a }
 
-  pub valued-at : {r : Value} {k start length after : ℕ} → Valued s end at kind back taken r → r ≡ Is k start length after
+  pub valued_at : {r : Value} {k start length after : ℕ} → Valued s end at kind back taken r → r ≡ Is k start length after
       → (span 0 taken ≡ spans length (from s after end)) × (k ≡ kind) × (start + length + back ≡ after) × (at ≤ start) × (at < after) × (after ≤ end)
   unfolding span_of Stands
-  valued-at a h = let p = rw h at a.stands in (a.is ∙ ap (span_of s end) h, p.0, p.1, p.2, p.3, p.4)
+  valued_at a h = let p = rw h at a.stands in (a.is ∙ ap (span_of s end) h, p.0, p.1, p.2, p.3, p.4)
 
-  pub valued-refused : {r : Value} {refusal place : ℕ} → Valued s end at kind back taken r → r ≡ Refused refusal place → (span 0 taken ≡ misses refusal (end - place)) × (place ≤ end)
+  pub valued_refused : {r : Value} {refusal place : ℕ} → Valued s end at kind back taken r → r ≡ Refused refusal place → (span 0 taken ≡ misses refusal (end - place)) × (place ≤ end)
   unfolding span_of Stands
-  valued-refused a h = (a.is ∙ ap (span_of s end) h, rw h at a.stands)
+  valued_refused a h = (a.is ∙ ap (span_of s end) h, rw h at a.stands)

@@ -16,13 +16,13 @@ stands_behind end at kind back (Is k start length after) h = (h.0, h.1, omega ar
 stands_behind end at kind back (Refused refusal place) h = h
 
 module _ {t : Told} {s : List ℕ} {end at strange : ℕ} {moves : Next → List Move} (h : at < end) {b : ℕ} (is : b ≡ get_or s at 0) where
-  pub code-unknown : ((n : Next) → look b (moves n) ≡ none) → Coded t moves strange s end at (Refused strange at)
-  code-unknown q = unknown h (λ n. rw (sym is) (q n))
+  pub code_unknown : ((n : Next) → look b (moves n) ≡ none) → Coded t moves strange s end at (Refused strange at)
+  code_unknown q = unknown h (λ n. rw (sym is) (q n))
 
-  pub code-known : {kind : ℕ} {r : Value} (form : Form) → Bears b kind form → ((n : Next) → look b (moves n) ≡ hit (on b ▸ kind ▸ form ▸ n))
+  pub code_known : {kind : ℕ} {r : Value} (form : Form) → Bears b kind form → ((n : Next) → look b (moves n) ≡ hit (on b ▸ kind ▸ form ▸ n))
       → Valued s end at kind (reach_back form) (take_value t form (end - at) b (from s (at + 1) end)) r → Coded t moves strange s end at r
-  code-known {kind} {r} form a q v = valued {answer = r} kind form h (rw (sym is) a) (λ n. rw (sym is) (q n)) (rw (sym is) v)
+  code_known {kind} {r} form a q v = valued {answer = r} kind form h (rw (sym is) a) (λ n. rw (sym is) (q n)) (rw (sym is) v)
 
-  pub code-before : {kind : ℕ} {r : Value} (form : Form) → Bears b kind form → ((n : Next) → look b (moves n) ≡ hit (on b ▸ kind ▸ form ▸ n))
+  pub code_before : {kind : ℕ} {r : Value} (form : Form) → Bears b kind form → ((n : Next) → look b (moves n) ≡ hit (on b ▸ kind ▸ form ▸ n))
       → Valued s end (at + 1) kind (reach_back form) (take_value t form (end - at) b (from s (at + 1) end)) r → Coded t moves strange s end at r
-  code-before {kind} {r} form a q v = code-known form a q (record { is = v.is; stands = stands_behind end at kind (reach_back form) r v.stands })
+  code_before {kind} {r} form a q v = code_known form a q (record { is = v.is; stands = stands_behind end at kind (reach_back form) r v.stands })

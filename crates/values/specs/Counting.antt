@@ -22,21 +22,21 @@ span_tally k number (took v rest) = refl
 span_tally k number (failed refusal left) = refl
 
 module _ {s : List ℕ} {end at : ℕ} {r : Number} (a : Counted s end at r) where
-  pub counted-to : {value after : ℕ} → r ≡ Counts value after → (at < after) × (after ≤ end)
+  pub counted_to : {value after : ℕ} → r ≡ Counts value after → (at < after) × (after ≤ end)
   unfolding Ends
-  counted-to h = rw h at a.ends
+  counted_to h = rw h at a.ends
 
-  pub counted-fault : {refusal place : ℕ} → r ≡ Fails refusal place → place ≤ end
+  pub counted_fault : {refusal place : ℕ} → r ≡ Fails refusal place → place ≤ end
   unfolding Ends
-  counted-fault h = rw h at a.ends
+  counted_fault h = rw h at a.ends
 
   spans_counted : span 0 (take_number 0 true (from s at end)) ≡ valueless (tallied s end at r)
   spans_counted = span_tally 0 0 (take_number 0 true (from s at end)) ∙ ap valueless a.is
 
   pub counted_is : {value after : ℕ} → r ≡ Counts value after → Valued s end at payload_length 0 (take_number 0 true (from s at end)) (Is payload_length at (after - at) after)
   unfolding tallied
-  counted_is h = let p = counted-to h in answered (spans_counted ∙ ap (λ (x : Number). valueless (tallied s end at x)) h) (omega arith) (omega arith) p.0 p.1
+  counted_is h = let p = counted_to h in answered (spans_counted ∙ ap (λ (x : Number). valueless (tallied s end at x)) h) (omega arith) (omega arith) p.0 p.1
 
-  pub counted-refused : {refusal place : ℕ} → r ≡ Fails refusal place → Valued s end at payload_length 0 (take_number 0 true (from s at end)) (Refused refusal place)
+  pub counted_refused : {refusal place : ℕ} → r ≡ Fails refusal place → Valued s end at payload_length 0 (take_number 0 true (from s at end)) (Refused refusal place)
   unfolding tallied
-  counted-refused h = refuses (spans_counted ∙ ap (λ (x : Number). valueless (tallied s end at x)) h) (counted-fault h)
+  counted_refused h = refuses (spans_counted ∙ ap (λ (x : Number). valueless (tallied s end at x)) h) (counted_fault h)

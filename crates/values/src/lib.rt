@@ -1,4 +1,5 @@
 // The values of an envelope: the stages that take one off the input.
+#![tactic(auto)]
 pub mod any;
 pub mod bytes;
 pub mod digits;

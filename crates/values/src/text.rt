@@ -9,7 +9,7 @@ use crate::eights::{eight_bytes, first_mark, marks};
 use table::refusals::{ENVELOPE_ENDS, TEXT_WRONG};
 
 // What a text is for: a line, or a note, which may have line breaks.
-#[derive(Drop)]
+#[derive(Clone, Copy)]
 pub enum Rule {
     Line,
     Note,

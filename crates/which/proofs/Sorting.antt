@@ -40,14 +40,14 @@ module _ (input : List ℕ) where
     unfolding editions_of read_either
     by_both g h = filled 2 3 (rw ((x.accepts _ _ g).is, (y.accepts _ _ h).is) refl) (rw ((x.accepts _ _ g).is, (y.accepts _ _ h).is) refl)
 
-    pub by-second : {before words after words' : List ℕ} {r : table.Reply} {a : declared.Sorted} {p refusal place m : ℕ} → b ≡ Refused p refusal → d ≡ Go place m → ReadsBy strict 2 input before words r after words' → sorted_of a ≡ sorted 2 (reply_of r) → WhichPromise input before words a after words'
+    pub by_second : {before words after words' : List ℕ} {r : table.Reply} {a : declared.Sorted} {p refusal place m : ℕ} → b ≡ Refused p refusal → d ≡ Go place m → ReadsBy strict 2 input before words r after words' → sorted_of a ≡ sorted 2 (reply_of r) → WhichPromise input before words a after words'
     unfolding editions_of read_either
-    by-second g h = filled 2 2 (rw (x.refuses _ _ g, (y.accepts _ _ h).is) refl) (rw (x.refuses _ _ g, (y.accepts _ _ h).is) refl)
+    by_second g h = filled 2 2 (rw (x.refuses _ _ g, (y.accepts _ _ h).is) refl) (rw (x.refuses _ _ g, (y.accepts _ _ h).is) refl)
 
     pub by_first : {before words after words' : List ℕ} {r : table.Reply} {a : declared.Sorted} {p n place refusal : ℕ} → b ≡ Go p n → d ≡ Refused place refusal → ReadsBy strict 1 input before words r after words' → sorted_of a ≡ sorted 1 (reply_of r) → WhichPromise input before words a after words'
     unfolding editions_of read_either
     by_first g h = filled 1 1 (rw ((x.accepts _ _ g).is, y.refuses _ _ h) refl) (rw ((x.accepts _ _ g).is, y.refuses _ _ h) refl)
 
-    pub by-neither : T (are_bytes input) → (before words : List ℕ) {p k place refusal : ℕ} → b ≡ Refused p k → d ≡ Refused place refusal → WhichPromise input before words (record { answer = refusal; place = place; rows = 0; editions = 0 }) before words
+    pub by_neither : T (are_bytes input) → (before words : List ℕ) {p k place refusal : ℕ} → b ≡ Refused p k → d ≡ Refused place refusal → WhichPromise input before words (record { answer = refusal; place = place; rows = 0; editions = 0 }) before words
     unfolding editions_of read_either which_answer which_rows which_words
-    by-neither t before words {refusal = refusal} g h = record { bytes = t; answers = rw (x.refuses _ _ g, y.refuses _ _ h) (pick_none (eqb refusal 0)); rows = rw (x.refuses _ _ g, y.refuses _ _ h) refl; carries = rw (x.refuses _ _ g, y.refuses _ _ h) refl }
+    by_neither t before words {refusal = refusal} g h = record { bytes = t; answers = rw (x.refuses _ _ g, y.refuses _ _ h) (pick_none (eqb refusal 0)); rows = rw (x.refuses _ _ g, y.refuses _ _ h) refl; carries = rw (x.refuses _ _ g, y.refuses _ _ h) refl }

@@ -1,4 +1,6 @@
 // Order 9: a reading that is told no edition.
+#![tactic(auto)]
+
 ghost use Rattle.std.specs.Prelude.{◌≡◌};
 ghost use Rattle.meaning.specs.Which.{sorted};
 ghost use Rattle.table.specs.Reply.{reply_of};

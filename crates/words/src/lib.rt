@@ -1,4 +1,6 @@
 // Order 6, presence words: how many different codes one carries. The words themselves are laid with the skip numbers (`lay_skips`).
+#![tactic(auto)]
+
 ghost use Rattle.std.specs.Prelude.{◌≡◌};
 ghost use Rattle.meaning.specs.Words.{ones_of};
 

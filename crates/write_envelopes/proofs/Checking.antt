@@ -20,7 +20,7 @@ use Rattle.write_envelopes.specs.Whole.{edge, from_body, Verdict, bad, needs, ve
 use Rattle.write_envelopes.specs.declared.measure.Sizes.{Sizes}
 use Rattle.write_inside.specs.declared.body.Bodied.{Bodied}
 use Rattle.write_inside.specs.declared.body.Bodied.TheVariants.{Stuck, Ended}
-use Rattle.write_envelopes.proofs.Wholes.{edge_none, edge_open, more-extension, more-base, Later, body_later, opened}
+use Rattle.write_envelopes.proofs.Wholes.{edge_none, edge_open, more_extension, more_base, Later, body_later, opened}
 
 -- the plan from row i on, where an envelope must open
 abbrev pub rest : Edition → List ℕ → List ℕ → ℕ → Plan
@@ -35,8 +35,8 @@ inside_rows pool rows i n q h = at (ltb i (room_of rows)) refl
 
 -- what the envelope that opens at row i is
 module _ (edition : Edition) (pool rows : List ℕ) (i : ℕ) {n : ℕ} (q : n ≡ open_number (cells_at pool rows i)) where
-  pub rest-none : n ≡ 0 → rest edition pool rows i ≡ stuck i
-  rest-none z = edge_none edition [] i (cells_at pool rows i) (sym q ∙ z)
+  pub rest_none : n ≡ 0 → rest edition pool rows i ≡ stuck i
+  rest_none z = edge_none edition [] i (cells_at pool rows i) (sym q ∙ z)
 
   module _ (h : n ≡ 0 → ⊥) where
     pub row_inside : i < room_of rows
@@ -45,8 +45,8 @@ module _ (edition : Edition) (pool rows : List ℕ) (i : ℕ) {n : ℕ} (q : n �
     abbrev pub here : Body
     here = body_of edition (cells_at pool rows (i + 1)) (i + 1) (start (eqb n base_opens))
 
-    pub rest-opens : rest edition pool rows i ≡ new_plan i (eqb n base_opens) [] (from_body edition (eqb n base_opens) here)
-    rest-opens = edge_open edition [] i (cells_at pool rows i) (cells_at pool rows (i + 1)) q h (ap opened (cells_next pool rows i row_inside))
+    pub rest_opens : rest edition pool rows i ≡ new_plan i (eqb n base_opens) [] (from_body edition (eqb n base_opens) here)
+    rest_opens = edge_open edition [] i (cells_at pool rows i) (cells_at pool rows (i + 1)) q h (ap opened (cells_next pool rows i row_inside))
 
 -- a body that was measured, by the answer
 abbrev pub Ends : Body → List ℕ → List ℕ → ℕ → ℕ → Type 0
@@ -74,31 +74,31 @@ module _ (edition : Edition) (pool rows : List ℕ) (i : ℕ) {n : ℕ} (q : n �
   abbrev so_far : Verdict
   so_far = verdict t.left t.total (limit_of t.over t.first) (rest edition pool rows i)
 
-  pub check-none : n ≡ 0 → so_far ≡ bad 15 i
-  check-none z = ap (verdict t.left t.total (limit_of t.over t.first)) (rest-none edition pool rows i q z)
+  pub check_none : n ≡ 0 → so_far ≡ bad 15 i
+  check_none z = ap (verdict t.left t.total (limit_of t.over t.first)) (rest_none edition pool rows i q z)
 
   module _ (h : n ≡ 0 → ⊥) where
     abbrev behind : Body → Verdict
     behind b = verdict t.left t.total (limit_of t.over t.first) (new_plan i (eqb n base_opens) [] (from_body edition (eqb n base_opens) b))
 
     opened_so_far : so_far ≡ behind (here edition pool rows i q h)
-    opened_so_far = ap (verdict t.left t.total (limit_of t.over t.first)) (rest-opens edition pool rows i q h)
+    opened_so_far = ap (verdict t.left t.total (limit_of t.over t.first)) (rest_opens edition pool rows i q h)
 
-    pub check-stuck : {j : ℕ} → here edition pool rows i q h ≡ halt j → so_far ≡ bad 15 j
-    check-stuck e = opened_so_far ∙ ap behind e
+    pub check_stuck : {j : ℕ} → here edition pool rows i q h ≡ halt j → so_far ≡ bad 15 j
+    check_stuck e = opened_so_far ∙ ap behind e
 
-    pub check-base : {row many : ℕ} {r : Sizes} → Ends (here edition pool rows i q h) pool rows row many → OneMore t i many r → n ≡ base_opens → so_far ≡ end_verdict (cells_at pool rows row) row r.total (limit_of r.over r.first)
-    check-base {row} (bytes, e, m, l) a two =
+    pub check_base : {row many : ℕ} {r : Sizes} → Ends (here edition pool rows i q h) pool rows row many → OneMore t i many r → n ≡ base_opens → so_far ≡ end_verdict (cells_at pool rows row) row r.total (limit_of r.over r.first)
+    check_base {row} (bytes, e, m, l) a two =
         opened_so_far ∙ ap behind e
         ∙ ap (λ (b : Bool). verdict t.left t.total (limit_of t.over t.first) (new_plan i b [] (edge edition b bytes row (cells_at pool rows row)))) (eq-eqb n base_opens two)
-        ∙ more-base a (length bytes) m edition bytes row (cells_at pool rows row) refl
+        ∙ more_base a (length bytes) m edition bytes row (cells_at pool rows row) refl
 
-    pub check-extension : {row many : ℕ} {r : Sizes} → Ends (here edition pool rows i q h) pool rows row many → OneMore t i many r → (n ≡ base_opens → ⊥)
+    pub check_extension : {row many : ℕ} {r : Sizes} → Ends (here edition pool rows i q h) pool rows row many → OneMore t i many r → (n ≡ base_opens → ⊥)
         → so_far ≡ verdict r.left r.total (limit_of r.over r.first) (rest edition pool rows row)
-    check-extension {row} (bytes, e, m, l) a two =
+    check_extension {row} (bytes, e, m, l) a two =
         opened_so_far ∙ ap behind e
         ∙ ap (λ (b : Bool). verdict t.left t.total (limit_of t.over t.first) (new_plan i b [] (edge edition b bytes row (cells_at pool rows row)))) (ne_eqb n base_opens two)
-        ∙ more-extension a (length bytes) m edition bytes row (cells_at pool rows row) refl
+        ∙ more_extension a (length bytes) m edition bytes row (cells_at pool rows row) refl
 
     -- the next envelope opens further on
     pub ends_later : {row many : ℕ} → Ends (here edition pool rows i q h) pool rows row many → i < row
@@ -111,11 +111,11 @@ module _ (pool rows : List ℕ) (row total : ℕ) (o : Limit) where
   pub end_more : row < room_of rows → bad 15 row ≡ end_verdict (cells_at pool rows row) row total o
   end_more h = sym (ap (λ (x : List Cell). end_verdict x row total o) (cells_next pool rows row h))
 
-  pub end-part : room_of rows ≤ row → whole_rows rows ≡ false → bad 15 row ≡ end_verdict (cells_at pool rows row) row total o
-  end-part h k = sym (ap (λ (x : List Cell). end_verdict x row total o) (cells_part pool rows row h k))
+  pub end_part : room_of rows ≤ row → whole_rows rows ≡ false → bad 15 row ≡ end_verdict (cells_at pool rows row) row total o
+  end_part h k = sym (ap (λ (x : List Cell). end_verdict x row total o) (cells_part pool rows row h k))
 
-  pub end-all : room_of rows ≤ row → whole_rows rows ≡ true → verdict_of total o ≡ end_verdict (cells_at pool rows row) row total o
-  end-all h k = sym (ap (λ (x : List Cell). end_verdict x row total o) (cells_none pool rows row h k))
+  pub end_all : room_of rows ≤ row → whole_rows rows ≡ true → verdict_of total o ≡ end_verdict (cells_at pool rows row) row total o
+  end_all h k = sym (ap (λ (x : List Cell). end_verdict x row total o) (cells_none pool rows row h k))
 
 pub over_limit : (total first : ℕ) {over : Bool} → over ≡ true → checked_of (bad 5 first) ≡ checked_of (verdict_of total (limit_of over first))
 over_limit total first q = ap (λ (b : Bool). checked_of (verdict_of total (limit_of b first))) (sym q)

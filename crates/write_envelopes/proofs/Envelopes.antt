@@ -56,8 +56,8 @@ module _ (out : List ℕ) (at n end : ℕ) (h : at ≤ n) (k : n ≤ end) (l : e
   behind : post_of n (end - n) (put_mid at (n - at) out head) ≡ drop end out
   behind = ap (drop (end - n)) (drop_put at n out head h (omega arith) p) ∙ Post-is n end out k
 
-  pub parts-put : put_mid n (end - n) (put_mid at (n - at) out head) bytes ≡ take at out ++ ((head ++ bytes) ++ drop end out)
-  parts-put =
+  pub parts_put : put_mid n (end - n) (put_mid at (n - at) out head) bytes ≡ take at out ++ ((head ++ bytes) ++ drop end out)
+  parts_put =
       ap (λ (x : List ℕ). x ++ (bytes ++ post_of n (end - n) (put_mid at (n - at) out head))) first_part
       ∙ ap (λ (x : List ℕ). (take at out ++ head) ++ (bytes ++ x)) behind
       ∙ append_assoc (take at out) head (bytes ++ drop end out) ∙ ap (λ (x : List ℕ). take at out ++ x) (sym (append_assoc head bytes (drop end out)))
@@ -84,9 +84,9 @@ module _ (out : List ℕ) (at n end many : ℕ) (base : Bool) (e : end ≡ at + 
       from (Stuck i) z = absurd z
       from (Ended row p) z = laid_all z.3 (q ∙ sym w)
 
-  pub envelope-laid : (B : Body) (pool rows lh lb : List ℕ) (r : Bodied) {p : ℕ} → Laid (take (n - at) (drop at out)) 0 (head_of base many) lh p → BodyIs B pool rows (take (end - n) (drop n (put_mid at (n - at) out lh))) 0 r lb
+  pub envelope_laid : (B : Body) (pool rows lh lb : List ℕ) (r : Bodied) {p : ℕ} → Laid (take (n - at) (drop at out)) 0 (head_of base many) lh p → BodyIs B pool rows (take (end - n) (drop n (put_mid at (n - at) out lh))) 0 r lb
       → EnvelopeWritten B pool rows base many out at (put_mid n (end - n) (put_mid at (n - at) out lh) lb) r
-  envelope-laid B pool rows lh lb r a b =
+  envelope_laid B pool rows lh lb r a b =
       let hn = n_is in
       let hl = head_length base many in
       let lhIs : lh ≡ head_of base many = laid_all a head_part in
@@ -96,7 +96,7 @@ module _ (out : List ℕ) (at n end many : ℕ) (base : Bool) (e : end ≡ at + 
       record {
         inside = measured B pool rows (take (end - n) (drop n (put_mid at (n - at) out lh))) lb r b;
         laid = λ bytes j cells f w.
-            parts-put out at n end (omega (arith, n_is)) (omega arith) l lh lb lhLength
+            parts_put out at n end (omega (arith, n_is)) (omega arith) l lh lb lhLength
             ∙ ap (λ (x : List ℕ). take at out ++ ((lh ++ x) ++ drop end out)) (body_bytes B pool rows (take (end - n) (drop n (put_mid at (n - at) out lh))) lb r m b bytes j cells f w)
             ∙ ap (λ (x : List ℕ). take at out ++ ((x ++ bytes) ++ drop end out)) lhIs
             ∙ ap (λ (k : ℕ). take at out ++ ((head_of base k ++ bytes) ++ drop end out)) (sym w) ∙ ap (λ (k : ℕ). take at out ++ (wrap base bytes ++ drop k out)) e;

@@ -55,14 +55,14 @@ module _ (e : Edition) (pool rows : List ℕ) {n : ℕ} (q : n ≡ open_number (
     abbrev pub inside : Body
     inside = body_of e (cells_at pool rows 1) 1 (start false)
 
-    pub its-plan : extension_plan e (cells_at pool rows 0) ≡ from_body e true inside
-    its-plan = extension_opens_lem e (cells_at pool rows 0) (cells_at pool rows 1) (sym q ∙ one) (ap opened (cells_next pool rows 0 some_row))
+    pub its_plan : extension_plan e (cells_at pool rows 0) ≡ from_body e true inside
+    its_plan = extension_opens_lem e (cells_at pool rows 0) (cells_at pool rows 1) (sym q ∙ one) (ap opened (cells_next pool rows 0 some_row))
 
-    pub extension-stuck : {j : ℕ} → inside ≡ halt j → bad 15 j ≡ extension_verdict (extension_plan e (cells_at pool rows 0))
-    extension-stuck h = sym (ap extension_verdict (its-plan ∙ ap (from_body e true) h))
+    pub extension_stuck : {j : ℕ} → inside ≡ halt j → bad 15 j ≡ extension_verdict (extension_plan e (cells_at pool rows 0))
+    extension_stuck h = sym (ap extension_verdict (its_plan ∙ ap (from_body e true) h))
 
-    pub extension-ended : {row many : ℕ} → Ends inside pool rows row many → end_verdict (cells_at pool rows row) row many fine ≡ extension_verdict (extension_plan e (cells_at pool rows 0))
-    extension-ended {row} (bytes, h, m, l) = sym (ap extension_verdict (its-plan ∙ ap (from_body e true) h) ∙ at (cells_at pool rows row) ∙ ap (λ (x : ℕ). end_verdict (cells_at pool rows row) row x fine) (sym m))
+    pub extension_ended : {row many : ℕ} → Ends inside pool rows row many → end_verdict (cells_at pool rows row) row many fine ≡ extension_verdict (extension_plan e (cells_at pool rows 0))
+    extension_ended {row} (bytes, h, m, l) = sym (ap extension_verdict (its_plan ∙ ap (from_body e true) h) ∙ at (cells_at pool rows row) ∙ ap (λ (x : ℕ). end_verdict (cells_at pool rows row) row x fine) (sym m))
       where
         at : (cs : List Cell) → extension_verdict (edge e true bytes row cs) ≡ end_verdict cs row (capped (length bytes)) fine
         at [] = refl
@@ -94,15 +94,15 @@ body_planned e (body bs j (broken ∷ cs)) bytes vs p = no_plan p
 body_planned e (body bs j (cell row ∷ cs)) bytes vs p = no_plan p
 
 module _ (e : Edition) (pool rows : List ℕ) (bytes : List ℕ) (vs : List Envelope) (p : extension_plan e (cells_at pool rows 0) ≡ plan bytes vs) where
-  pub planned-row : 0 < room_of rows
-  planned-row = some_row e pool rows refl (one_opens e (cells_at pool rows 0) bytes vs p)
+  pub planned_row : 0 < room_of rows
+  planned_row = some_row e pool rows refl (one_opens e (cells_at pool rows 0) bytes vs p)
 
   planned_body : (j : ℕ) × (cells : List Cell) × (body_of e (cells_at pool rows 1) 1 (start false) ≡ body bytes j cells)
-  planned_body = body_planned e (body_of e (cells_at pool rows 1) 1 (start false)) bytes vs (sym (its-plan e pool rows refl (one_opens e (cells_at pool rows 0) bytes vs p)) ∙ p)
+  planned_body = body_planned e (body_of e (cells_at pool rows 1) 1 (start false)) bytes vs (sym (its_plan e pool rows refl (one_opens e (cells_at pool rows 0) bytes vs p)) ∙ p)
 
-  pub extension-laid : {many : ℕ} {before after : List ℕ} {r : Bodied} → length bytes ≡ many → EnvelopeWritten (body_of e (cells_at pool rows 1) 1 (start false)) pool rows false many before 0 after r → after ≡ laid_over before (wrap false bytes)
+  pub extension_laid : {many : ℕ} {before after : List ℕ} {r : Bodied} → length bytes ≡ many → EnvelopeWritten (body_of e (cells_at pool rows 1) 1 (start false)) pool rows false many before 0 after r → after ≡ laid_over before (wrap false bytes)
   unfolding laid_over
-  extension-laid {many} {before} l w =
+  extension_laid {many} {before} l w =
       let (j, cells, q) = planned_body in
       let long : envelope_size many ≡ length (wrap false bytes) = ap envelope_size (sym l) ∙ sym (wrap_length false bytes) in
       let zero_more : 0 + envelope_size many ≡ length (wrap false bytes) = omega (arith, long) in

@@ -17,7 +17,7 @@ use Rattle.table.specs.declared.answers.Checked.{Checked}
 use Rattle.write_envelopes.specs.declared.measure.Sizes.{Sizes}
 use Rattle.write_envelopes.proofs.Wholes.{whole_edge, small_count}
 use Rattle.write_envelopes.proofs.Checking.{rest, here, Ends}
-use Rattle.write_envelopes.proofs.Passing.{Passing, never, still_fine, passing-fine, passing-extension, passing-base}
+use Rattle.write_envelopes.proofs.Passing.{Passing, never, still_fine, passing_fine, passing_extension, passing_base}
 
 -- where the check refuses, no length has to be noted
 pub checked_bad : (p : Plan) {r : Checked} {lengths : List ℕ} {answer place : ℕ} → verdict envelopes_most 0 fine p ≡ bad answer place → r ≡ checked_of (bad answer place) → CheckedAs p r lengths
@@ -46,8 +46,8 @@ module _ (edition : Edition) (pool rows : List ℕ) where
     pub long : length lengths ≡ envelopes_most
     pub so_far : (u : ℕ) → passed u → insides_of all ≡ take (envelopes_most - left) lengths ++ insides_of (rest edition pool rows i)
 
-  pub noting-starts : {lengths : List ℕ} → length lengths ≡ envelopes_most → Noting envelopes_most 0 lengths
-  noting-starts h = record { long = h; so_far = λ u z. ap insides_of (whole_edge edition (cells_at pool rows 0)) }
+  pub noting_starts : {lengths : List ℕ} → length lengths ≡ envelopes_most → Noting envelopes_most 0 lengths
+  noting_starts h = record { long = h; so_far = λ u z. ap insides_of (whole_edge edition (cells_at pool rows 0)) }
 
   module _ {i : ℕ} (t : Sizes) {lengths : List ℕ} (a : Noting t.left i lengths) (few : t.left ≤ envelopes_most)
       (v : verdict envelopes_most 0 fine all ≡ verdict t.left t.total (limit_of t.over t.first) (rest edition pool rows i))
@@ -63,25 +63,25 @@ module _ (edition : Edition) (pool rows : List ℕ) where
 
     counts : (u : ℕ) → passed u → (k < length lengths) × (many ≡ length z.0)
     counts u p =
-        let f = (passing-fine (passes u p) q h z.1).0 in
+        let f = (passing_fine (passes u p) q h z.1).0 in
         (omega (arith, sized_some t.left i (length z.0) f, a.long), z.2 ∙ small_count t.left i (length z.0) f)
 
     noted_here : (u : ℕ) (p : passed u) (vs : List Envelope) → insides_of (rest edition pool rows i) ≡ length z.0 ∷ insides vs → insides_of all ≡ (take k lengths ++ (many ∷ [])) ++ insides vs
     noted_here u p vs e =
         a.so_far u p ∙ ap (λ (x : List ℕ). take k lengths ++ x) (e ∙ ap (λ (x : ℕ). x ∷ insides vs) (sym (counts u p).1)) ∙ sym (append_assoc (take k lengths) (many ∷ []) (insides vs))
 
-    pub noting-on : {left : ℕ} → left ≡ t.left - 1 → (n ≡ base_opens → ⊥) → Noting left row (set lengths k many)
-    noting-on {left} l two =
+    pub noting_on : {left : ℕ} → left ≡ t.left - 1 → (n ≡ base_opens → ⊥) → Noting left row (set lengths k many)
+    noting_on {left} l two =
         record {
           long = length-set lengths k many ∙ a.long;
           so_far = λ u p.
               let (c, m) = counts u p in
               let j : suc k ≡ envelopes_most - left = omega (arith, a.long) in
-              noted_here u p (envelopes_of (rest edition pool rows row)) (ap insides (passing-extension (passes u p) q h z.1 (ne_eqb n base_opens two)))
+              noted_here u p (envelopes_of (rest edition pool rows row)) (ap insides (passing_extension (passes u p) q h z.1 (ne_eqb n base_opens two)))
               ∙ ap (λ (x : List ℕ). x ++ insides_of (rest edition pool rows row)) (sym (set_front lengths k many c) ∙ ap (λ (x : ℕ). take x (set lengths k many)) j);
         }
 
-    pub noting-ends : n ≡ base_opens → (u : ℕ) → passed u → Begins (insides_of all) (set lengths k many)
-    noting-ends two u p =
-        let e = noted_here u p [] (ap insides (passing-base (passes u p) q h z.1 (eq-eqb n base_opens two))) in
+    pub noting_ends : n ≡ base_opens → (u : ℕ) → passed u → Begins (insides_of all) (set lengths k many)
+    noting_ends two u p =
+        let e = noted_here u p [] (ap insides (passing_base (passes u p) q h z.1 (eq-eqb n base_opens two))) in
         (drop (suc k) lengths, set_parts lengths k many (counts u p).0 ∙ ap (λ (x : List ℕ). x ++ drop (suc k) lengths) (sym (e ∙ append-nil (take k lengths ++ (many ∷ [])))))

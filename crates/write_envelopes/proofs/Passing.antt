@@ -15,7 +15,7 @@ use Rattle.write_rows.specs.Bodies.{Body, halt, body}
 use Rattle.write_inside.specs.Insides.{open_number}
 use Rattle.write_envelopes.specs.Whole.{open_plan, edge, from_body, bad, needs, verdict_of, verdict, sized, end_verdict, envelopes_of}
 use Rattle.write_envelopes.proofs.Wholes.{verdict_extension, verdict_base}
-use Rattle.write_envelopes.proofs.Checking.{rest, rest-none, here, rest-opens}
+use Rattle.write_envelopes.proofs.Checking.{rest, rest_none, here, rest_opens}
 
 pub never : {A : Type 0} {answer place t : ℕ} → bad answer place ≡ needs t → A
 never q = let z : ◌≡◌ {A = ℕ} 0 1 = cc q in absurd (omega arith)
@@ -68,27 +68,27 @@ pub record Passing (edition : Edition) (pool rows : List ℕ) (i m t u : ℕ) : 
   pub is : verdict m t fine (rest edition pool rows i) ≡ needs u
 
 module _ {edition : Edition} {pool rows : List ℕ} {i m t u : ℕ} (v : Passing edition pool rows i m t u) {n : ℕ} (q : n ≡ open_number (cells_at pool rows i)) where
-  pub passing-none : {A : Type 0} → n ≡ 0 → A
-  passing-none z = never (ap (verdict m t fine) (sym (rest-none edition pool rows i q z)) ∙ v.is)
+  pub passing_none : {A : Type 0} → n ≡ 0 → A
+  passing_none z = never (ap (verdict m t fine) (sym (rest_none edition pool rows i q z)) ∙ v.is)
 
   module _ (h : n ≡ 0 → ⊥) where
     passes_here : verdict m t fine (new_plan i (eqb n base_opens) [] (from_body edition (eqb n base_opens) (here edition pool rows i q h))) ≡ needs u
-    passes_here = ap (verdict m t fine) (sym (rest-opens edition pool rows i q h)) ∙ v.is
+    passes_here = ap (verdict m t fine) (sym (rest_opens edition pool rows i q h)) ∙ v.is
 
-    pub passing-stuck : {A : Type 0} {j : ℕ} → here edition pool rows i q h ≡ halt j → A
-    passing-stuck e = never (ap (λ (b : Body). verdict m t fine (new_plan i (eqb n base_opens) [] (from_body edition (eqb n base_opens) b))) (sym e) ∙ passes_here)
+    pub passing_stuck : {A : Type 0} {j : ℕ} → here edition pool rows i q h ≡ halt j → A
+    passing_stuck e = never (ap (λ (b : Body). verdict m t fine (new_plan i (eqb n base_opens) [] (from_body edition (eqb n base_opens) b))) (sym e) ∙ passes_here)
 
-    pub passing-body : (bytes : List ℕ) × (row : ℕ) × (cells : List Cell) × (here edition pool rows i q h ≡ body bytes row cells)
-    passing-body = at (here edition pool rows i q h) refl
+    pub passing_body : (bytes : List ℕ) × (row : ℕ) × (cells : List Cell) × (here edition pool rows i q h ≡ body bytes row cells)
+    passing_body = at (here edition pool rows i q h) refl
       where
         at : (b : Body) → here edition pool rows i q h ≡ b → (bytes : List ℕ) × (row : ℕ) × (cells : List Cell) × (here edition pool rows i q h ≡ body bytes row cells)
-        at (halt j) e = passing-stuck e
+        at (halt j) e = passing_stuck e
         at (body bytes row cells) e = (bytes, row, cells, e)
 
     module _ {bytes : List ℕ} {row : ℕ} {cells : List Cell} (z : here edition pool rows i q h ≡ body bytes row cells) where
       opens_at : (b : Bool) → eqb n base_opens ≡ b → rest edition pool rows i ≡ new_plan i b [] (edge edition b bytes row cells)
       opens_at b e =
-          rest-opens edition pool rows i q h ∙ ap (λ (x : Body). new_plan i (eqb n base_opens) [] (from_body edition (eqb n base_opens) x)) z
+          rest_opens edition pool rows i q h ∙ ap (λ (x : Body). new_plan i (eqb n base_opens) [] (from_body edition (eqb n base_opens) x)) z
           ∙ ap (λ (b : Bool). new_plan i b [] (edge edition b bytes row cells)) e
 
       passes_at : (b : Bool) → eqb n base_opens ≡ b → verdict m t fine (new_plan i b [] (edge edition b bytes row cells)) ≡ needs u
@@ -103,25 +103,25 @@ module _ {edition : Edition} {pool rows : List ℕ} {i m t u : ℕ} (v : Passing
       base_passes : eqb n base_opens ≡ true → end_verdict cells row (t + envelope_size (length bytes)) (sized m i (length bytes)) ≡ needs u
       base_passes e = sym (verdict_base m t i fine edition bytes row cells) ∙ passes_at true e
 
-      pub passing-on : eqb n base_opens ≡ false → verdict (m - 1) (t + envelope_size (length bytes)) fine (edge edition false [] row cells) ≡ needs u
-      passing-on e = (extension_passes e).0
+      pub passing_on : eqb n base_opens ≡ false → verdict (m - 1) (t + envelope_size (length bytes)) fine (edge edition false [] row cells) ≡ needs u
+      passing_on e = (extension_passes e).0
 
-      pub passing-fine : (sized m i (length bytes) ≡ fine) × (t + envelope_size (length bytes) ≤ u)
-      passing-fine = at (eqb n base_opens) refl
+      pub passing_fine : (sized m i (length bytes) ≡ fine) × (t + envelope_size (length bytes) ≤ u)
+      passing_fine = at (eqb n base_opens) refl
         where
           at : (b : Bool) → eqb n base_opens ≡ b → (sized m i (length bytes) ≡ fine) × (t + envelope_size (length bytes) ≤ u)
           at true e = let (f, g) = end_fine (t + envelope_size (length bytes)) u row (sized m i (length bytes)) cells (base_passes e) in (f, omega arith)
-          at false e = ((extension_passes e).1, needs_most (m - 1) (t + envelope_size (length bytes)) u (edge edition false [] row cells) (passing-on e))
+          at false e = ((extension_passes e).1, needs_most (m - 1) (t + envelope_size (length bytes)) u (edge edition false [] row cells) (passing_on e))
 
-      pub passing-extension : eqb n base_opens ≡ false → envelopes_of (rest edition pool rows i) ≡ envelope_at i false bytes ∷ envelopes_of (edge edition false [] row cells)
-      passing-extension e = ap envelopes_of (opens_at false e) ∙ extension_first (m - 1) (t + envelope_size (length bytes)) u i edition bytes row cells (passing-on e)
+      pub passing_extension : eqb n base_opens ≡ false → envelopes_of (rest edition pool rows i) ≡ envelope_at i false bytes ∷ envelopes_of (edge edition false [] row cells)
+      passing_extension e = ap envelopes_of (opens_at false e) ∙ extension_first (m - 1) (t + envelope_size (length bytes)) u i edition bytes row cells (passing_on e)
 
-      pub passing-base : eqb n base_opens ≡ true → envelopes_of (rest edition pool rows i) ≡ envelope_at i true bytes ∷ []
-      passing-base e = ap envelopes_of (opens_at true e) ∙ base_alone (t + envelope_size (length bytes)) u i (sized m i (length bytes)) edition bytes row cells (base_passes e)
+      pub passing_base : eqb n base_opens ≡ true → envelopes_of (rest edition pool rows i) ≡ envelope_at i true bytes ∷ []
+      passing_base e = ap envelopes_of (opens_at true e) ∙ base_alone (t + envelope_size (length bytes)) u i (sized m i (length bytes)) edition bytes row cells (base_passes e)
 
-      pub passing-first : (behind : List Envelope) × (envelopes_of (rest edition pool rows i) ≡ envelope_at i (eqb n base_opens) bytes ∷ behind)
-      passing-first = at (eqb n base_opens) refl
+      pub passing_first : (behind : List Envelope) × (envelopes_of (rest edition pool rows i) ≡ envelope_at i (eqb n base_opens) bytes ∷ behind)
+      passing_first = at (eqb n base_opens) refl
         where
           at : (b : Bool) → eqb n base_opens ≡ b → (behind : List Envelope) × (envelopes_of (rest edition pool rows i) ≡ envelope_at i b bytes ∷ behind)
-          at true e = ([], passing-base e)
-          at false e = (envelopes_of (edge edition false [] row cells), passing-extension e)
+          at true e = ([], passing_base e)
+          at false e = (envelopes_of (edge edition false [] row cells), passing_extension e)

@@ -26,8 +26,8 @@ differ : {A : Type 0} (b : Bool) → b ≡ true → b ≡ false → A
 differ b p q = let z : ◌≡◌ {A = ℕ} 0 1 = cc (p, q) in absurd (omega arith)
 
 module _ (t : Sizes) (i many : ℕ) (r : Sizes) (l : r.left ≡ t.left - 1) (b : r.total + r.left * envelope_most ≤ envelopes_most * envelope_most) where
-  pub stays-over : t.over ≡ true → r.over ≡ true → r.first ≡ t.first → OneMore t i many r
-  stays-over p q f =
+  pub stays_over : t.over ≡ true → r.over ≡ true → r.first ≡ t.first → OneMore t i many r
+  stays_over p q f =
       record {
         limit = ap (λ (x : Bool). limit_of x r.first) q ∙ ap exceeds f ∙ sym (ap (λ (x : Bool). first_over (limit_of x t.first) (sized t.left i many)) p);
         less = l;
@@ -44,8 +44,8 @@ module _ (t : Sizes) (i many : ℕ) (r : Sizes) (l : r.left ≡ t.left - 1) (b :
         bound = b;
       }
 
-  pub stays-fine : t.over ≡ false → sized t.left i many ≡ fine → r.over ≡ false → r.total ≡ t.total + envelope_size many → OneMore t i many r
-  stays-fine p s q f =
+  pub stays_fine : t.over ≡ false → sized t.left i many ≡ fine → r.over ≡ false → r.total ≡ t.total + envelope_size many → OneMore t i many r
+  stays_fine p s q f =
       record {
         limit = ap (λ (x : Bool). limit_of x r.first) q ∙ sym (ap (λ (x : Bool). first_over (limit_of x t.first) (sized t.left i many)) p ∙ s);
         less = l;

@@ -214,17 +214,17 @@ module _ {t : Sizes} {i many : ℕ} {r : Sizes} (a : OneMore t i many r) (k : �
   more_end [] j false q = ap needs (more_total q)
   more_end (c ∷ cs) j b q = refl
 
-  pub more-extension : (e : Edition) (bs : List ℕ) (j : ℕ) (cs : List Cell) → length bs ≡ k
+  pub more_extension : (e : Edition) (bs : List ℕ) (j : ℕ) (cs : List Cell) → length bs ≡ k
       → verdict t.left t.total (limit_of t.over t.first) (new_plan i false [] (edge e false bs j cs)) ≡ verdict r.left r.total (limit_of r.over r.first) (edge e false [] j cs)
-  more-extension e bs j cs q =
+  more_extension e bs j cs q =
       verdict_extension t.left t.total i (limit_of t.over t.first) e bs j cs
       ∙ ap (λ (n : ℕ). verdict (t.left - 1) (t.total + envelope_size n) (first_over (limit_of t.over t.first) (sized t.left i n)) (edge e false [] j cs)) q
       ∙ ap (λ (o : Limit). verdict (t.left - 1) (t.total + envelope_size k) o (edge e false [] j cs)) (sym more_limit)
       ∙ more_plan (edge e false [] j cs) r.over refl
 
-  pub more-base : (e : Edition) (bs : List ℕ) (j : ℕ) (cs : List Cell) → length bs ≡ k
+  pub more_base : (e : Edition) (bs : List ℕ) (j : ℕ) (cs : List Cell) → length bs ≡ k
       → verdict t.left t.total (limit_of t.over t.first) (new_plan i true [] (edge e true bs j cs)) ≡ end_verdict cs j r.total (limit_of r.over r.first)
-  more-base e bs j cs q =
+  more_base e bs j cs q =
       verdict_base t.left t.total i (limit_of t.over t.first) e bs j cs
       ∙ ap (λ (n : ℕ). end_verdict cs j (t.total + envelope_size n) (first_over (limit_of t.over t.first) (sized t.left i n))) q
       ∙ ap (end_verdict cs j (t.total + envelope_size k)) (sym more_limit) ∙ more_end cs j r.over refl

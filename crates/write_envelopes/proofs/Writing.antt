@@ -22,7 +22,7 @@ use Rattle.write_inside.specs.declared.body.Bodied.{Bodied}
 use Rattle.write_rows.specs.Laying.{capped_most}
 use Rattle.write_envelopes.proofs.Wholes.{whole_edge, small_count}
 use Rattle.write_envelopes.proofs.Checking.{rest, here, Ends}
-use Rattle.write_envelopes.proofs.Passing.{Passing, needs_most, passing-none, passing-stuck, passing-body, passing-on, passing-fine, passing-extension, passing-base, passing-first}
+use Rattle.write_envelopes.proofs.Passing.{Passing, needs_most, passing_none, passing_stuck, passing_body, passing_on, passing_fine, passing_extension, passing_base, passing_first}
 
 -- where the writing stands: before row i and the k-th length, with the bytes so far in front of the output
 pub record WritingAt (edition : Edition) (pool rows lengths before : List ℕ) (u i k at : ℕ) (output : List ℕ) : Type 0 where
@@ -35,8 +35,8 @@ pub record WritingAt (edition : Edition) (pool rows lengths before : List ℕ) (
   pub memory : output ≡ bytes ++ drop at before
 
 module _ (edition : Edition) (pool rows lengths before : List ℕ) (w : Writable edition rows pool lengths before) where
-  pub writing-starts : WritingAt edition pool rows lengths before w.bytes_needed 0 0 0 before
-  writing-starts =
+  pub writing_starts : WritingAt edition pool rows lengths before w.bytes_needed 0 0 0 before
+  writing_starts =
       let q = whole_edge edition (cells_at pool rows 0) in
       record {
         may_come = envelopes_most;
@@ -48,23 +48,23 @@ module _ (edition : Edition) (pool rows lengths before : List ℕ) (w : Writable
         memory = refl;
       }
 
-  pub writing-length : {i k at : ℕ} {output : List ℕ} → WritingAt edition pool rows lengths before w.bytes_needed i k at output → length output ≡ length before
-  writing-length {i} {k} {at} a =
+  pub writing_length : {i k at : ℕ} {output : List ℕ} → WritingAt edition pool rows lengths before w.bytes_needed i k at output → length output ≡ length before
+  writing_length {i} {k} {at} a =
       let h = needs_most a.may_come at w.bytes_needed (rest edition pool rows i) a.passes.is in
       ap length a.memory ∙ length-append a.bytes (drop at before) ∙ omega (arith, a.count, w.room, length-drop at before)
 
   module _ {i k at : ℕ} {output : List ℕ} (a : WritingAt edition pool rows lengths before w.bytes_needed i k at output) {n : ℕ} (q : n ≡ open_number (cells_at pool rows i)) where
-    pub writing-none : {A : Type 0} → n ≡ 0 → A
-    writing-none z = passing-none a.passes q z
+    pub writing_none : {A : Type 0} → n ≡ 0 → A
+    writing_none z = passing_none a.passes q z
 
     module _ (h : n ≡ 0 → ⊥) where
-      pub writing-stuck : {A : Type 0} {j : ℕ} → here edition pool rows i q h ≡ halt j → A
-      writing-stuck e = passing-stuck a.passes q h e
+      pub writing_stuck : {A : Type 0} {j : ℕ} → here edition pool rows i q h ≡ halt j → A
+      writing_stuck e = passing_stuck a.passes q h e
 
       -- the length noted is the inside's
       noted_first : (bytes : List ℕ) (row : ℕ) (cells : List Cell) → here edition pool rows i q h ≡ body bytes row cells → (k < length lengths) × (get_or lengths k 0 ≡ length bytes)
       noted_first bytes row cells z =
-          let (vs, f) = passing-first a.passes q h z in
+          let (vs, f) = passing_first a.passes q h z in
           let (behind, g) = a.noted in
           let d : drop k lengths ≡ length bytes ∷ (insides vs ++ behind) = g ∙ ap (λ (x : List Envelope). insides x ++ behind) f in
           let l : length (drop k lengths) ≡ 1 + length (insides vs ++ behind) = ap length d ∙ omega arith in
@@ -74,11 +74,11 @@ module _ (edition : Edition) (pool rows lengths before : List ℕ) (w : Writable
       abbrev many : ℕ
       many = get_or lengths k 0
 
-      pub writing-noted : (k < length lengths) × (at + envelope_size many ≤ length before) × (many ≤ envelope_most)
-      writing-noted =
-          let (bytes, row, cells, z) = passing-body a.passes q h in
+      pub writing_noted : (k < length lengths) × (at + envelope_size many ≤ length before) × (many ≤ envelope_most)
+      writing_noted =
+          let (bytes, row, cells, z) = passing_body a.passes q h in
           let (l, m) = noted_first bytes row cells z in
-          let f = passing-fine a.passes q h z in (
+          let f = passing_fine a.passes q h z in (
             l,
             subst (λ (x : ℕ). at + envelope_size x ≤ length before) (sym m) (omega (arith, f.1, w.room)),
             omega (arith, m, small_count a.may_come i (length bytes) f.0, capped_most (length bytes)),
@@ -113,14 +113,14 @@ module _ (edition : Edition) (pool rows lengths before : List ℕ) (w : Writable
         goes_on : (n ≡ base_opens → ⊥) → WritingAt edition pool rows lengths before w.bytes_needed row (k + 1) end after
         goes_on two =
             let e = ne_eqb n base_opens two in
-            let first = passing-extension a.passes q h z.1 e in
+            let first = passing_extension a.passes q h z.1 e in
             let (behind, g) = a.noted in
             let ended : at + envelope_size (length within) ≡ end = ap (λ (k : ℕ). at + envelope_size k) exact in
             let d : drop k lengths ≡ length within ∷ (insides_of (rest edition pool rows row) ++ behind) = g ∙ ap (λ (x : List Envelope). insides x ++ behind) first in
             record {
               may_come = a.may_come - 1;
               bytes = a.bytes ++ wrap (eqb n base_opens) within;
-              passes = record { is = ap (λ (k : ℕ). verdict (a.may_come - 1) k fine (rest edition pool rows row)) (sym ended) ∙ passing-on a.passes q h z.1 e };
+              passes = record { is = ap (λ (k : ℕ). verdict (a.may_come - 1) k fine (rest edition pool rows row)) (sym ended) ∙ passing_on a.passes q h z.1 e };
               noted = (behind, sym (drop-drop 1 k lengths) ∙ ap (drop 1) d);
               count = front_length;
               all =
@@ -130,14 +130,14 @@ module _ (edition : Edition) (pool rows lengths before : List ℕ) (w : Writable
               memory = after_is;
             }
 
-        pub writing-on : {size : ℕ} → size ≡ envelope_size many → (n ≡ base_opens → ⊥) → WritingAt edition pool rows lengths before w.bytes_needed row (k + 1) (at + size) after
-        writing-on s two = subst (λ (x : ℕ). WritingAt edition pool rows lengths before w.bytes_needed row (k + 1) (at + x) after) (sym s) (goes_on two)
+        pub writing_on : {size : ℕ} → size ≡ envelope_size many → (n ≡ base_opens → ⊥) → WritingAt edition pool rows lengths before w.bytes_needed row (k + 1) (at + size) after
+        writing_on s two = subst (λ (x : ℕ). WritingAt edition pool rows lengths before w.bytes_needed row (k + 1) (at + x) after) (sym s) (goes_on two)
 
-        pub writing-ends : n ≡ base_opens → after ≡ laid_over before (bytes_of_plan (whole_plan edition (cells_at pool rows 0)))
+        pub writing_ends : n ≡ base_opens → after ≡ laid_over before (bytes_of_plan (whole_plan edition (cells_at pool rows 0)))
         unfolding laid_over
-        writing-ends two =
+        writing_ends two =
             let e = eq-eqb n base_opens two in
             let all : a.bytes ++ wrap (eqb n base_opens) within ≡ bytes_of_plan (whole_plan edition (cells_at pool rows 0))
             = ap (λ (b : Bool). a.bytes ++ wrap b within) e ∙ ap (λ (y : List ℕ). a.bytes ++ y) (sym (append-nil (wrap true within)))
-            ∙ ap (λ (x : List Envelope). a.bytes ++ header_of x) (sym (passing-base a.passes q h z.1 e)) ∙ a.all in
+            ∙ ap (λ (x : List Envelope). a.bytes ++ header_of x) (sym (passing_base a.passes q h z.1 e)) ∙ a.all in
             after_is ∙ ap (λ (k : ℕ). (a.bytes ++ wrap (eqb n base_opens) within) ++ drop k before) (sym front_length) ∙ ap (λ (y : List ℕ). y ++ drop (length y) before) all

@@ -16,7 +16,7 @@ use Rattle.meaning.specs.Told.{Edition, B, D}
 use Rattle.meaning.specs.Memory.{room_of}
 use Rattle.meaning.specs.Headers.{envelope_most}
 use Rattle.write_rows.specs.Bodies.{on_body, row_body, cell_body, body_of, opens_number}
-use Rattle.write_rows.specs.Stands.{fits-pass, led_row, LedBy, closing-first}
+use Rattle.write_rows.specs.Stands.{fits_pass, led_row, LedBy, closing_first}
 use Rattle.write_rows.specs.Laying.{Laid}
 use Rattle.laws_steps.specs.Rows.{cells_at}
 use Rattle.write_rows.specs.Rooms.{of_kind, own_among, NotAmong}
@@ -32,7 +32,7 @@ use Rattle.write_inside.specs.declared.parameter.Parameter.{Parameter}
 use Rattle.write_inside.specs.declared.parameter.Parameter.TheVariants.{Go, Last, Stuck}
 use Rattle.write_rows.specs.Among.{find_kind, nothing_among, not_hit, sole_move, same_kind, takes}
 use Rattle.write_rows.specs.Openings.{opens_past}
-use Rattle.write_rows.specs.Onward.{leading, onward_then, onward-stuck, own_on}
+use Rattle.write_rows.specs.Onward.{leading, onward_then, onward_stuck, own_on}
 
 -- Before a row that has no move of its own
 
@@ -45,7 +45,7 @@ WayAhead edition c (cell row ∷ cs) = (way_to row.kind ≡ c) × (opens_number 
 -- the parameters, before a row that has no code of its own there
 pub parameters_close : (e : Edition) (cs : List Cell) (i : ℕ) → ClosingAhead cs → NotAmong (moves e parameters) 0 cs → body_of e cs i at_parameters ≡ on_body (0x01 ∷ []) (body_of e cs i (state closed 0 false))
 unfolding moves shared own find
-parameters_close e cs i h = closing-first e at_parameters refl (closing_is e) cs i (all cs h)
+parameters_close e cs i h = closing_first e at_parameters refl (closing_is e) cs i (all cs h)
   where
     closing_is : (e : Edition) → find (is_pass closing) (moves e parameters) ≡ hit (pass 0x01 ▸ outer closed)
     closing_is B = refl
@@ -66,7 +66,7 @@ parameters_pass edition c {m} (cell row ∷ cs) i q w = at (opens_of row) w.1
     at : (o : Opens) → opens_number o ≡ 0 → cell_body edition at_parameters i row cs (body_of edition cs (suc i)) o ≡ on_body (m.code ∷ []) (cell_body edition (go m.next at_parameters) i row cs (body_of edition cs (suc i)) o)
     at inner_row z =
         ap (row_body i (body_of edition cs (suc i)))
-        (fits-pass edition at_parameters row w.2 (ap (λ (d : ℕ). or_else (find (is_pass d) (moves edition parameters)) (find (is_pass closing) (moves edition parameters))) w.0 ∙ ap (λ (o : Found). or_else o (find (is_pass closing) (moves edition parameters))) q))
+        (fits_pass edition at_parameters row w.2 (ap (λ (d : ℕ). or_else (find (is_pass d) (moves edition parameters)) (find (is_pass closing) (moves edition parameters))) w.0 ∙ ap (λ (o : Found). or_else o (find (is_pass closing) (moves edition parameters))) q))
         ∙ led_row i (body_of edition cs (suc i)) (m.code ∷ []) (fit_row edition (go m.next at_parameters) row)
     at (envelope_row true) z = absurd (omega arith)
     at (envelope_row false) z = absurd (omega arith)
@@ -112,7 +112,7 @@ tried_move kind next pool rows i before at t after q x = subst (λ (c : ℕ). Tr
 module _ (edition : Edition) (l : List Move) {pool rows : List ℕ} {i : ℕ} {st : State} {m : List ℕ} {at : ℕ} {m₁ : List ℕ} {p₁ : ℕ} (small : length m ≤ envelope_most) (a : Onward edition pool rows i at_parameters (i + 1) st m at m₁ p₁) where
   followed : (s : Advance) (m₂ : List ℕ) → AdvanceIs edition pool rows (i + 1) st at_parameters m₁ p₁ s m₂ → ParameterIs edition l pool rows i m at (after_advance s) m₂
   followed (advance.Go k p) m₂ x = (onward_then small a x, omega (arith, x.later))
-  followed (advance.Stuck j) m₂ x = onward-stuck small a x
+  followed (advance.Stuck j) m₂ x = onward_stuck small a x
 
   pub after_first : (s : Advance) (m₂ : List ℕ) {r : Parameter} → AdvanceIs edition pool rows (i + 1) st at_parameters m₁ p₁ s m₂ → r ≡ after_advance s → ParameterIs edition l pool rows i m at r m₂
   after_first s m₂ x q = subst (λ (y : Parameter). ParameterIs edition l pool rows i m at y m₂) (sym q) (followed s m₂ x)
@@ -139,12 +139,12 @@ module _ (edition : Edition) (pool rows : List ℕ) (i : ℕ) {r : Ahead} (a : A
   found_by before at (Stuck j) after w x = x
 
 module _ (edition : Edition) (pool rows : List ℕ) (i k : ℕ) {r : Ahead} (a : AheadIs pool rows i r) (q : r.kind ≡ k) (w : way_to k ≡ closing) (before : List ℕ) (at : ℕ) where
-  pub found-kind : (l : List Move) → of_kind k (moves edition parameters) ≡ of_kind k l → (p : Parameter) (after : List ℕ) → ParameterIs edition l pool rows i before at p after → FoundIs edition pool rows i before at p after
-  found-kind l is p after x =
+  pub found_kind : (l : List Move) → of_kind k (moves edition parameters) ≡ of_kind k l → (p : Parameter) (after : List ℕ) → ParameterIs edition l pool rows i before at p after → FoundIs edition pool rows i before at p after
+  found_kind l is p after x =
       found_by edition pool rows i a l (ap (λ (n : ℕ). of_kind n (moves edition parameters)) q ∙ is ∙ sym (ap (λ (n : ℕ). of_kind n l) q)) before at p after (ap way_to q ∙ w) x
 
   pub found_none : {after : List ℕ} → after ≡ before → of_kind k (moves edition parameters) ≡ [] → FoundIs edition pool rows i before at Last after
-  found_none {after} e is = found-kind [] is Last after (e, nothing_among 0 (cells_at pool rows i))
+  found_none {after} e is = found_kind [] is Last after (e, nothing_among 0 (cells_at pool rows i))
 
 -- "08 encrypted", of an edition that is known
 pub encrypted_as : {edition : Edition} (pool rows : List ℕ) (i : ℕ) (before : List ℕ) (at : ℕ) (p : Parameter) (after : List ℕ) {edition₁ : Edition} → edition ≡ edition₁ → ParameterIs edition₁ (encrypted_in edition₁) pool rows i before at p after → ParameterIs edition (encrypted_in edition) pool rows i before at p after

@@ -63,14 +63,14 @@ module _ {pool rows : List ℕ} {i : ℕ} {r : Ahead} (a : AheadIs pool rows i r
   unfolding from
   view_length = from_length pool r.start r.end a.ordered a.inside
 
-  pub open-past : base_opens < r.kind → 0 ≡ open_number (cells_at pool rows i)
-  open-past h = open_by 0 (opens_past r.kind r.level (viewed pool r) h) (λ z. refl)
+  pub open_past : base_opens < r.kind → 0 ≡ open_number (cells_at pool rows i)
+  open_past h = open_by 0 (opens_past r.kind r.level (viewed pool r) h) (λ z. refl)
 
-  pub open-deep : (r.level ≡ 0 → ⊥) → 0 ≡ open_number (cells_at pool rows i)
-  open-deep h = open_by 0 (opens_level r.kind r.level (viewed pool r) h) (λ z. refl)
+  pub open_deep : (r.level ≡ 0 → ⊥) → 0 ≡ open_number (cells_at pool rows i)
+  open_deep h = open_by 0 (opens_level r.kind r.level (viewed pool r) h) (λ z. refl)
 
-  pub open-some : (r.start ≡ r.end → ⊥) → 0 ≡ open_number (cells_at pool rows i)
-  open-some h = open_by 0 (opens_some r.kind r.level (viewed pool r) (λ z. h (omega (arith, view_length, a.ordered)))) (λ z. refl)
+  pub open_some : (r.start ≡ r.end → ⊥) → 0 ≡ open_number (cells_at pool rows i)
+  open_some h = open_by 0 (opens_some r.kind r.level (viewed pool r) (λ z. h (omega (arith, view_length, a.ordered)))) (λ z. refl)
 
   pub open_is : r.kind ≤ base_opens → r.level ≡ 0 → r.start ≡ r.end → r.kind ≡ open_number (cells_at pool rows i)
   open_is h l e = open_by r.kind (opens_kind r.kind h ∙ opens_by r.kind r.level (viewed pool r) l (omega (arith, view_length))) (λ z. z)
@@ -107,8 +107,8 @@ module _ {edition : Edition} {pool rows : List ℕ} {i : ℕ} {st : State} {k : 
   whole : {c : Bool} → b ≡ c → body_at edition pool rows i st ≡ on_body bytes (pick c (body [] k (cells_at pool rows k)) (halt k))
   whole q = a.onto.is ∙ ap (on_body bytes) (closed_body edition (cells_at pool rows k) k ∙ ap (λ (x : Bool). pick x (body [] k (cells_at pool rows k)) (halt k)) (sym e ∙ q))
 
-  pub body-ends : b ≡ true → BodyIs (body_at edition pool rows i st) pool rows m at (bodied.Ended k p) m₁
-  body-ends q = subst (λ (x : Body). BodyIs x pool rows m at (bodied.Ended k p) m₁) (sym (whole q ∙ ap (λ (x : List ℕ). body x k (cells_at pool rows k)) (append-nil bytes))) (refl, a.inside, refl, a.onto.laid)
+  pub body_ends : b ≡ true → BodyIs (body_at edition pool rows i st) pool rows m at (bodied.Ended k p) m₁
+  body_ends q = subst (λ (x : Body). BodyIs x pool rows m at (bodied.Ended k p) m₁) (sym (whole q ∙ ap (λ (x : List ℕ). body x k (cells_at pool rows k)) (append-nil bytes))) (refl, a.inside, refl, a.onto.laid)
 
-  pub body-halts : b ≡ false → BodyIs (body_at edition pool rows i st) pool rows m at (bodied.Stuck k) m₁
-  body-halts q = body_stuck pool rows m at m₁ (whole q)
+  pub body_halts : b ≡ false → BodyIs (body_at edition pool rows i st) pool rows m at (bodied.Stuck k) m₁
+  body_halts q = body_stuck pool rows m at m₁ (whole q)

@@ -13,7 +13,7 @@ use Rattle.laws_steps.specs.Rows.{cells_at}
 use Rattle.write_rows.specs.Rooms.{ExtrasIn}
 use Rattle.write_rows.specs.Stages.{Onward, at_parameters}
 use Rattle.write_rows.specs.Among.{nothing_among}
-use Rattle.write_rows.specs.Onward.{close-on}
+use Rattle.write_rows.specs.Onward.{close_on}
 use Rattle.write_objects.proofs.Rooms.{received_ends, received_extras_lem}
 
 pub extras_when : {edition : Edition} → edition ≡ D → {code : ℕ} → code ≡ received_extra_code edition → ExtrasIn edition after_via 1 false code at_parameters
@@ -25,4 +25,4 @@ extra_small q c = let z = c ∙ ap received_extra_code q in omega arith
 pub received_closes : (edition : Edition) (pool rows : List ℕ) {i : ℕ} {before : List ℕ} {at : ℕ} {after : List ℕ} {p : ℕ} → edition ≡ B → i ≤ room_of rows → Laid before at (1 ∷ []) after p → Onward edition pool rows i (state after_via 1 false) i at_parameters before at after p
 received_closes edition pool rows {i} {before} {at} {after} {p} q h l =
     subst (λ (e : Edition). Onward e pool rows i (state after_via 1 false) i at_parameters before at after p) (sym q)
-    (close-on B pool rows (state after_via 1 false) received_ends.0 (nothing_among 1 (cells_at pool rows i)) received_ends.1 h l)
+    (close_on B pool rows (state after_via 1 false) received_ends.0 (nothing_among 1 (cells_at pool rows i)) received_ends.1 h l)

@@ -24,7 +24,7 @@ use Rattle.write_objects.specs.declared.agents.ListTurn.{ListTurn}
 use Rattle.write_objects.specs.declared.agents.ListTurn.TheVariants.{On, Done, Stuck}
 use Rattle.write_rows.specs.Among.{sole_move}
 use Rattle.write_objects.proofs.Rooms.{agent_extras_lem, agent_names_lem, list_closes, one_agent_lem}
-use Rattle.write_rows.specs.Onward.{leading, onward_then, onward-stuck, taken-on, taken-deep, close-on, lost-on}
+use Rattle.write_rows.specs.Onward.{leading, onward_then, onward_stuck, taken_on, taken_deep, close_on, lost_on}
 
 -- the code is what the edition says
 pub extras_coded : (edition : Edition) (level : ℕ) (single : Bool) {code : ℕ} → code ≡ extra_code edition → ExtrasIn edition after_resolvers level single code (go agent_ends (state after_resolvers level single))
@@ -43,11 +43,11 @@ ends_listed : (level : ℕ) (single : Bool) → (single && eqb level 1) ≡ fals
 ends_listed level single q = ap (λ (b : Bool). pick b (state parameters 0 false) (state agent_list level single)) q ∙ sym (ap (λ (b : Bool). state (pick b one_agent agent_list) level single) q)
 
 module _ {edition : Edition} {pool rows : List ℕ} {i : ℕ} {st : State} {k : ℕ} (level : ℕ) (single : Bool) {before : List ℕ} {at : ℕ} {after : List ℕ} {p : ℕ} (a : Onward edition pool rows i st k (go agent_ends (state after_resolvers level single)) before at after p) where
-  pub agent-done : (single && eqb level 1) ≡ true → Onward edition pool rows i st k (state parameters 0 false) before at after p
-  agent-done q = leading (ends_single level single q) a
+  pub agent_done : (single && eqb level 1) ≡ true → Onward edition pool rows i st k (state parameters 0 false) before at after p
+  agent_done q = leading (ends_single level single q) a
 
-  pub agent-listed : (single && eqb level 1) ≡ false → Onward edition pool rows i st k (agents_at level single) before at after p
-  agent-listed q = leading (ends_listed level single q) a
+  pub agent_listed : (single && eqb level 1) ≡ false → Onward edition pool rows i st k (agents_at level single) before at after p
+  agent_listed q = leading (ends_listed level single q) a
 
 -- resolvers stand one level deeper, in a list
 resolvers_at : (level : ℕ) (single : Bool) → 1 ≤ level → state agent_list (suc level) single ≡ agents_at (level + 1) single
@@ -78,23 +78,23 @@ not_one level false h = refl
 -- A name, and where none stands
 
 module _ (edition : Edition) (pool rows : List ℕ) {i : ℕ} (level : ℕ) (single : Bool) where
-  pub name-on : {before : List ℕ} {at : ℕ} {after : List ℕ} {p : ℕ} → level ≤ level_most → RowTaken agent_names level pool rows i before at after p → Onward edition pool rows i (agents_at level single) (i + 1) (state after_name level single) before at after p
-  name-on h t = taken-on edition pool rows (agents_at level single) t (stay after_name) (agent_names_lem edition (single && eqb level 1)) (refl, le-ltb level_most level h, tt)
+  pub name_on : {before : List ℕ} {at : ℕ} {after : List ℕ} {p : ℕ} → level ≤ level_most → RowTaken agent_names level pool rows i before at after p → Onward edition pool rows i (agents_at level single) (i + 1) (state after_name level single) before at after p
+  name_on h t = taken_on edition pool rows (agents_at level single) t (stay after_name) (agent_names_lem edition (single && eqb level 1)) (refl, le-ltb level_most level h, tt)
 
   pub name_deep : {before : List ℕ} {at : ℕ} {after : List ℕ} {p : ℕ} → level_most < level → RowTaken agent_names level pool rows i before at after p → body_at edition pool rows i (agents_at level single) ≡ halt i
   name_deep h t =
-      taken-deep edition pool rows (agents_at level single) t (agent_names_lem edition (single && eqb level 1))
+      taken_deep edition pool rows (agents_at level single) t (agent_names_lem edition (single && eqb level 1))
       (ap (λ (m : Move). too_deep m (agents_at level single)) (sym (sole_move _ level t.row t.stands)) ∙ lt-ltb level_most level h)
 
   module _ (x : NotAmong agent_names level (cells_at pool rows i)) where
     one_lost : (single && eqb level 1) ≡ true → body_at edition pool rows i (agents_at level single) ≡ halt i
-    one_lost q = lost-on edition pool rows (agents_at level single) (agent_names_lem edition (single && eqb level 1)) x (subst (λ (b : Bool). Closes edition (pick b one_agent agent_list) none) (sym q) (one_agent_lem edition))
+    one_lost q = lost_on edition pool rows (agents_at level single) (agent_names_lem edition (single && eqb level 1)) x (subst (λ (b : Bool). Closes edition (pick b one_agent agent_list) none) (sym q) (one_agent_lem edition))
 
-    pub one-missing : single ≡ true → level ≡ 1 → body_at edition pool rows i (agents_at level single) ≡ halt i
-    one-missing s e = one_lost (ap (λ (b : Bool). b && eqb level 1) s ∙ ap (λ (n : ℕ). eqb n 1) e)
+    pub one_missing : single ≡ true → level ≡ 1 → body_at edition pool rows i (agents_at level single) ≡ halt i
+    one_missing s e = one_lost (ap (λ (b : Bool). b && eqb level 1) s ∙ ap (λ (n : ℕ). eqb n 1) e)
 
     list_on : {before : List ℕ} {at : ℕ} {after : List ℕ} {p : ℕ} → (single && eqb level 1) ≡ false → i ≤ room_of rows → Laid before at (1 ∷ []) after p → Onward edition pool rows i (agents_at level single) i (go list_ends (state agent_list level single)) before at after p
-    list_on q h l = close-on edition pool rows (agents_at level single) (agent_names_lem edition (single && eqb level 1)) x (subst (λ (b : Bool). Closes edition (pick b one_agent agent_list) (hit (pass closing ▸ list_ends))) (sym q) (list_closes edition)) h l
+    list_on q h l = close_on edition pool rows (agents_at level single) (agent_names_lem edition (single && eqb level 1)) x (subst (λ (b : Bool). Closes edition (pick b one_agent agent_list) (hit (pass closing ▸ list_ends))) (sym q) (list_closes edition)) h l
 
     pub list_done : {before : List ℕ} {at : ℕ} {after : List ℕ} {p : ℕ} → single ≡ false → level ≡ 1 → i ≤ room_of rows → Laid before at (1 ∷ []) after p → Onward edition pool rows i (agents_at level single) i (state parameters 0 false) before at after p
     list_done s e h l = leading (first level single e) (list_on (ap (λ (b : Bool). b && eqb level 1) s) h l)
@@ -107,7 +107,7 @@ module _ (edition : Edition) (pool rows : List ℕ) {i : ℕ} (level : ℕ) (sin
 pub turn_then : {edition : Edition} (single : Bool) {pool rows : List ℕ} {i : ℕ} {st : State} {k : ℕ} {st₁ : State} {m : List ℕ} {at : ℕ} {m₁ : List ℕ} {p₁ : ℕ} (left left₁ : ℕ) (r : ListTurn) (m₂ : List ℕ) → length m ≤ envelope_most → left ≤ left₁ → Onward edition pool rows i st k st₁ m at m₁ p₁ → ListTurnIs edition single pool rows k st₁ left m₁ p₁ r m₂ → ListTurnIs edition single pool rows i st left₁ m at r m₂
 turn_then single left left₁ (On k level p) m₂ small h a t = (onward_then small a t.0, t.1, t.2, omega (arith, t.3))
 turn_then single left left₁ (Done k p) m₂ small h a t = onward_then small a t
-turn_then single left left₁ (Stuck j) m₂ small h a t = onward-stuck small a t
+turn_then single left left₁ (Stuck j) m₂ small h a t = onward_stuck small a t
 
 pub turn_as : (edition : Edition) (single : Bool) (pool rows : List ℕ) (i : ℕ) (st : State) (left : ℕ) (before : List ℕ) (at : ℕ) (after : List ℕ) {r r₁ : ListTurn} → r ≡ r₁ → ListTurnIs edition single pool rows i st left before at r after → ListTurnIs edition single pool rows i st left before at r₁ after
 turn_as edition single pool rows i st left before at after q t = subst (λ (x : ListTurn). ListTurnIs edition single pool rows i st left before at x after) q t

@@ -27,7 +27,7 @@ use Rattle.write_rows.specs.Stages.{SoughtIs, RowTaken}
 use Rattle.table.specs.declared.rows.Ahead.{Ahead}
 use Rattle.write_rows.proofs.Values.{date_length_lem, only_byte, only_other, empty_is}
 use Rattle.write_rows.specs.Openings.{opens_past}
-use Rattle.write_rows.specs.Among.{takes, find_kind, row_none, sought-row}
+use Rattle.write_rows.specs.Among.{takes, find_kind, row_none, sought_row}
 
 -- The bytes that a row views
 
@@ -36,8 +36,8 @@ module _ {pool rows : List ℕ} {i kind level : ℕ} {r : Ahead} (s : SoughtIs p
   unfolding from
   view_length = from_length pool r.start r.end s.ordered s.inside
 
-  pub view-short : length (viewed pool r) ≤ u32_most
-  view-short = omega (arith, view_length, s.short)
+  pub view_short : length (viewed pool r) ≤ u32_most
+  view_short = omega (arith, view_length, s.short)
 
   empty_by : {b : Bool} → eqb (r.end - r.start) 0 ≡ b → is_empty (viewed pool r) ≡ b
   empty_by q = empty_is (viewed pool r) ∙ ap (λ (n : ℕ). eqb n 0) view_length ∙ q
@@ -45,8 +45,8 @@ module _ {pool rows : List ℕ} {i kind level : ℕ} {r : Ahead} (s : SoughtIs p
   pub view_none : r.start ≡ r.end → is_empty (viewed pool r) ≡ true
   view_none q = empty_by (eq-eqb (r.end - r.start) 0 (omega arith))
 
-  pub view-some : (r.start ≡ r.end → ⊥) → is_empty (viewed pool r) ≡ false
-  view-some h = empty_by (ne_eqb (r.end - r.start) 0 (λ q. h (omega (arith, s.ordered))))
+  pub view_some : (r.start ≡ r.end → ⊥) → is_empty (viewed pool r) ≡ false
+  view_some h = empty_by (ne_eqb (r.end - r.start) 0 (λ q. h (omega (arith, s.ordered))))
 
   view_byte : r.start < r.end → get_or pool r.start 0 ≡ get_or (viewed pool r) 0 0
   view_byte l =
@@ -79,11 +79,11 @@ module _ (v : List ℕ) where
   pub block_one : length v < 256 → block_bytes v ≡ 0x16 ∷ (length v ∷ v)
   block_one h = rw (lt-ltb (length v) 256 h) refl
 
-  pub block-two : 256 ≤ length v → length v < 65536 → block_bytes v ≡ 0x17 ∷ (length_bytes two_bytes (length v) ++ v)
-  block-two h k = rw (le-ltb (length v) 256 h, lt-ltb (length v) 65536 k) refl
+  pub block_two : 256 ≤ length v → length v < 65536 → block_bytes v ≡ 0x17 ∷ (length_bytes two_bytes (length v) ++ v)
+  block_two h k = rw (le-ltb (length v) 256 h, lt-ltb (length v) 65536 k) refl
 
-  pub block-four : 65536 ≤ length v → block_bytes v ≡ 0x19 ∷ (length_bytes four_bytes (length v) ++ v)
-  block-four h = rw (le-ltb (length v) 256 (omega arith), le-ltb (length v) 65536 h) refl
+  pub block_four : 65536 ≤ length v → block_bytes v ≡ 0x19 ∷ (length_bytes four_bytes (length v) ++ v)
+  block_four h = rw (le-ltb (length v) 256 (omega arith), le-ltb (length v) 65536 h) refl
 
   pub block_taken : (n : Next) (level : ℕ) {pool rows : List ℕ} {i : ℕ} {before : List ℕ} {at : ℕ} {after : List ℕ} {p : ℕ} → RowAhead pool rows i (row_with any_bytes level v) → length v ≤ u32_most → Laid before at (block_bytes v) after p → RowTaken (any_values n) level pool rows i before at after p
   unfolding find valid block_ok write_value
@@ -96,10 +96,10 @@ module _ (v : List ℕ) where
       by true q y r = by_move (on 0x16 ▸ any_bytes ▸ block one_byte ▸ n) (rw (le-leb 0 (length v) (omega arith), q) refl) (block_one (ltb-true (length v) 256 q))
       by false q true r =
           let k = ltb-false (length v) 256 q in
-          by_move (on 0x17 ▸ any_bytes ▸ block two_bytes ▸ n) (rw (le-leb 0 (length v) (omega arith), q, le-leb 256 (length v) k, r) refl) (block-two k (ltb-true (length v) 65536 r))
+          by_move (on 0x17 ▸ any_bytes ▸ block two_bytes ▸ n) (rw (le-leb 0 (length v) (omega arith), q, le-leb 256 (length v) k, r) refl) (block_two k (ltb-true (length v) 65536 r))
       by false q false r =
           let k = ltb-false (length v) 65536 r in
-          by_move (on 0x19 ▸ any_bytes ▸ block four_bytes ▸ n) (rw (le-leb 0 (length v) (omega arith), q, le-leb 256 (length v) (omega arith), r, le-leb 65536 (length v) k, lt-ltb (length v) 4294967296 (omega arith)) refl) (block-four k)
+          by_move (on 0x19 ▸ any_bytes ▸ block four_bytes ▸ n) (rw (le-leb 0 (length v) (omega arith), q, le-leb 256 (length v) (omega arith), r, le-leb 65536 (length v) k, lt-ltb (length v) 4294967296 (omega arith)) refl) (block_four k)
 
 -- A standard representation is its byte
 
@@ -127,23 +127,23 @@ module _ (n : Next) (v : List ℕ) where
   unfolding find valid
   standard_found {b} k q = rw (sym (only_byte 0x10 v k q), sym (only_byte 0x11 v k q), sym (only_byte 0x12 v k q)) (by_byte n b)
 
-  pub standard-none : (length v ≡ 1 → ⊥) → find (takes v) (of_kind standard_representation (representations n)) ≡ none
+  pub standard_none : (length v ≡ 1 → ⊥) → find (takes v) (of_kind standard_representation (representations n)) ≡ none
   unfolding find valid
-  standard-none h = rw (sym (only_other 0x10 v h), sym (only_other 0x11 v h), sym (only_other 0x12 v h)) refl
+  standard_none h = rw (sym (only_other 0x10 v h), sym (only_other 0x11 v h), sym (only_other 0x12 v h)) refl
 
 module _ (n : Next) {pool rows : List ℕ} {i : ℕ} {r : Ahead} (s : SoughtIs pool rows i standard_representation 0 r) (h : r.kind ≡ 0 → ⊥) (k : r.end - r.start ≡ 1) where
   found_byte : CodeOf n (get_or pool r.start 0) (find (takes (viewed pool r)) (of_kind standard_representation (representations n)))
   found_byte = standard_found n (viewed pool r) (view_length s ∙ k) (view_byte s (omega arith))
 
-  pub standard-taken : {before : List ℕ} {at : ℕ} {after : List ℕ} {p : ℕ} → (leb 0x10 (get_or pool r.start 0) && leb (get_or pool r.start 0) 0x12) ≡ true → Laid before at (one (get_or pool r.start 0)) after p → RowTaken (standards n) 0 pool rows i before at after p
+  pub standard_taken : {before : List ℕ} {at : ℕ} {after : List ℕ} {p : ℕ} → (leb 0x10 (get_or pool r.start 0) && leb (get_or pool r.start 0) 0x12) ≡ true → Laid before at (one (get_or pool r.start 0)) after p → RowTaken (standards n) 0 pool rows i before at after p
   unfolding write_value
-  standard-taken t l =
+  standard_taken t l =
       let b : ℕ = get_or pool r.start 0 in
       let small = leb→le b 0x12 (right_of (leb 0x10 b) (leb b 0x12) (subst T (sym t) tt)) in
-      picked (standards n) 0 standard_representation 0 (viewed pool r) refl (sought-row s h) (standard n b) (omega arith) (found_byte ∙ ap (λ (x : Bool). pick x (hit (standard n b)) none) t) (laid_as l _ (sym (ap (λ (x : Bool). pick x [] (one b) ++ []) (ne_eqb b 256 (λ q. omega arith)))))
+      picked (standards n) 0 standard_representation 0 (viewed pool r) refl (sought_row s h) (standard n b) (omega arith) (found_byte ∙ ap (λ (x : Bool). pick x (hit (standard n b)) none) t) (laid_as l _ (sym (ap (λ (x : Bool). pick x [] (one b) ++ []) (ne_eqb b 256 (λ q. omega arith)))))
 
-  pub standard-other : (leb 0x10 (get_or pool r.start 0) && leb (get_or pool r.start 0) 0x12) ≡ false → NotAmong (standards n) 0 (cells_at pool rows i)
-  standard-other t = unpicked (standards n) 0 standard_representation 0 (viewed pool r) refl (sought-row s h) (found_byte ∙ ap (λ (x : Bool). pick x (hit (standard n (get_or pool r.start 0))) none) t)
+  pub standard_other : (leb 0x10 (get_or pool r.start 0) && leb (get_or pool r.start 0) 0x12) ≡ false → NotAmong (standards n) 0 (cells_at pool rows i)
+  standard_other t = unpicked (standards n) 0 standard_representation 0 (viewed pool r) refl (sought_row s h) (found_byte ∙ ap (λ (x : Bool). pick x (hit (standard n (get_or pool r.start 0))) none) t)
 
 -- "Length 9 or 10 picks the date code"
 
@@ -226,8 +226,8 @@ module _ (v : List ℕ) where
             no_date_lem edition kind x y z ∙ sym (ap (λ (c : ℕ). dated c kind d n) (code_none edition kind d x y z))
 
     module _ (edition : Edition) (kind : ℕ) where
-      pub date-unknown : date_code edition kind (eqb (length v) 10) ≡ 0 → find (takes v) (of_kind kind (dates_of edition n)) ≡ none
-      date-unknown q = date_found edition kind (eqb (length v) 10) refl ∙ ap (λ (c : ℕ). dated c kind (eqb (length v) 10) n) q
+      pub date_unknown : date_code edition kind (eqb (length v) 10) ≡ 0 → find (takes v) (of_kind kind (dates_of edition n)) ≡ none
+      date_unknown q = date_found edition kind (eqb (length v) 10) refl ∙ ap (λ (c : ℕ). dated c kind (eqb (length v) 10) n) q
 
       pub date_wrong : date_ok (date_checks (reaching (eqb kind 5)) (eqb (length v) 10)) [] v ≡ false → find (takes v) (of_kind kind (dates_of edition n)) ≡ none
       date_wrong q = date_found edition kind (eqb (length v) 10) refl ∙ rw q (at (eqb (date_code edition kind (eqb (length v) 10)) 0))

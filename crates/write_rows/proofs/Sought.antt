@@ -11,8 +11,8 @@ use Rattle.write_rows.specs.Stages.{NotOf, SoughtIs}
 use Rattle.table.specs.declared.rows.Ahead.{Ahead}
 
 module _ {pool rows : List ℕ} {i : ℕ} {r : Ahead} (kind level : ℕ) (a : AheadIs pool rows i r) where
-  pub not-sought : {x : Ahead} → (r.kind ≡ kind → r.level ≡ level → ⊥) → x ≡ no_row → SoughtIs pool rows i kind level x
-  not-sought {x} f q = subst (SoughtIs pool rows i kind level) (sym q) (record { ordered = omega arith; inside = omega arith; short = omega arith; is = inr (refl, ahead_cells (NotOf kind level) a tt (λ cs. tt) f) })
+  pub not_sought : {x : Ahead} → (r.kind ≡ kind → r.level ≡ level → ⊥) → x ≡ no_row → SoughtIs pool rows i kind level x
+  not_sought {x} f q = subst (SoughtIs pool rows i kind level) (sym q) (record { ordered = omega arith; inside = omega arith; short = omega arith; is = inr (refl, ahead_cells (NotOf kind level) a tt (λ cs. tt) f) })
 
   pub sought : r.kind ≡ kind → r.level ≡ level → SoughtIs pool rows i kind level r
   sought k l = record { ordered = a.ordered; inside = a.inside; short = a.short; is = at a.is }

@@ -18,7 +18,7 @@ use Rattle.values.specs.declared.Value.{Value}
 use Rattle.values.specs.declared.Value.TheVariants.{Is, Refused}
 use Rattle.values.specs.Stages.{Span, span, spans, misses, Valued, Run}
 use Rattle.date.specs.Dates.{date_length}
-use Rattle.values.specs.Answers.{valued-at, valued-refused}
+use Rattle.values.specs.Answers.{valued_at, valued_refused}
 
 -- A value that a stage takes whole, and no other
 
@@ -55,14 +55,14 @@ module _ (stage : List ℕ → Taken) (ok : List ℕ → Bool) (into : (v : List
     none_at (failed refusal₁ left₁) refusal left e q = not_ok v (λ p. let z : ◌≡◌ {A = ℕ} 0 1 = cc (e, p) in omega arith)
 
     value_whole : {kind back : ℕ} {r : Value} {kd start many after : ℕ} → Valued s end at kind back (stage v) r → r ≡ Is kd start many after → leb end after ≡ ok v
-    value_whole {many = many} {after = after} a q = by (leb end after) refl (valued-at a q).0
+    value_whole {many = many} {after = after} a q = by (leb end after) refl (valued_at a q).0
       where
         by : (b : Bool) → leb end after ≡ b → span 0 (stage v) ≡ spans many (from s after end) → leb end after ≡ ok v
         by true e p = e ∙ sym (whole_at (stage v) many after refl p (leb-true end after e))
         by false e p = e ∙ sym (part_at (stage v) many after refl p (leb-false end after e))
 
     value_refused : {kind back : ℕ} {r : Value} {refusal place : ℕ} → Valued s end at kind back (stage v) r → r ≡ Refused refusal place → false ≡ ok v
-    value_refused a q = sym (none_at (stage v) _ _ refl (valued-refused a q).0)
+    value_refused a q = sym (none_at (stage v) _ _ refl (valued_refused a q).0)
 
 from_all : (v : List ℕ) → from v 0 (length v) ≡ v
 unfolding from
@@ -112,18 +112,18 @@ abbrev number_here : List ℕ → Bool
 number_here v = number_ok 0 true v
 
 module _ (v : List ℕ) {kind back : ℕ} {r : Value} where
-  pub number-whole : {kd s n after : ℕ} → Valued v (length v) 0 kind back (take_number 0 true (from v 0 (length v))) r → r ≡ Is kd s n after → leb (length v) after ≡ number_ok 0 true v
-  number-whole a q = value_whole (take_number 0 true) number_here (λ v t. number_in 0 true v [] t) (number_out 0 true) v 0 (length v) (omega arith) (omega arith) a q ∙ ap number_here (from_all v)
+  pub number_whole : {kd s n after : ℕ} → Valued v (length v) 0 kind back (take_number 0 true (from v 0 (length v))) r → r ≡ Is kd s n after → leb (length v) after ≡ number_ok 0 true v
+  number_whole a q = value_whole (take_number 0 true) number_here (λ v t. number_in 0 true v [] t) (number_out 0 true) v 0 (length v) (omega arith) (omega arith) a q ∙ ap number_here (from_all v)
 
-  pub number-refused : {refusal place : ℕ} → Valued v (length v) 0 kind back (take_number 0 true (from v 0 (length v))) r → r ≡ Refused refusal place → false ≡ number_ok 0 true v
-  number-refused a q = value_refused (take_number 0 true) number_here (λ v t. number_in 0 true v [] t) (number_out 0 true) v 0 (length v) (omega arith) (omega arith) a q ∙ ap number_here (from_all v)
+  pub number_refused : {refusal place : ℕ} → Valued v (length v) 0 kind back (take_number 0 true (from v 0 (length v))) r → r ≡ Refused refusal place → false ≡ number_ok 0 true v
+  number_refused a q = value_refused (take_number 0 true) number_here (λ v t. number_in 0 true v [] t) (number_out 0 true) v 0 (length v) (omega arith) (omega arith) a q ∙ ap number_here (from_all v)
 
   module _ (cs : List Check) where
-    pub date-whole : {kd s n after : ℕ} → Valued v (length v) 0 kind back (take_date cs [] (from v 0 (length v))) r → r ≡ Is kd s n after → leb (length v) after ≡ date_ok cs [] v
-    date-whole a q = value_whole (take_date cs []) (date_ok cs []) (λ v t. date_in cs [] v [] t) (date_out cs []) v 0 (length v) (omega arith) (omega arith) a q ∙ ap (date_ok cs []) (from_all v)
+    pub date_whole : {kd s n after : ℕ} → Valued v (length v) 0 kind back (take_date cs [] (from v 0 (length v))) r → r ≡ Is kd s n after → leb (length v) after ≡ date_ok cs [] v
+    date_whole a q = value_whole (take_date cs []) (date_ok cs []) (λ v t. date_in cs [] v [] t) (date_out cs []) v 0 (length v) (omega arith) (omega arith) a q ∙ ap (date_ok cs []) (from_all v)
 
-    pub date-refused : {refusal place : ℕ} → Valued v (length v) 0 kind back (take_date cs [] (from v 0 (length v))) r → r ≡ Refused refusal place → false ≡ date_ok cs [] v
-    date-refused a q = value_refused (take_date cs []) (date_ok cs []) (λ v t. date_in cs [] v [] t) (date_out cs []) v 0 (length v) (omega arith) (omega arith) a q ∙ ap (date_ok cs []) (from_all v)
+    pub date_refused : {refusal place : ℕ} → Valued v (length v) 0 kind back (take_date cs [] (from v 0 (length v))) r → r ≡ Refused refusal place → false ≡ date_ok cs [] v
+    date_refused a q = value_refused (take_date cs []) (date_ok cs []) (λ v t. date_in cs [] v [] t) (date_out cs []) v 0 (length v) (omega arith) (omega arith) a q ∙ ap (date_ok cs []) (from_all v)
 
 -- a date has as many bytes as checks
 other_length : (cs : List Check) (earlier v : List ℕ) → (length v ≡ length cs → ⊥) → false ≡ date_ok cs earlier v

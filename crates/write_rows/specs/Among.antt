@@ -119,31 +119,31 @@ row_none l level a q = subst (NotAmong l level) (sym a.cells) q
 -- The row sought
 
 module _ {pool rows : List ℕ} {i kind level : ℕ} {r : Ahead} (s : SoughtIs pool rows i kind level r) where
-  pub sought-row : (r.kind ≡ 0 → ⊥) → RowAhead pool rows i (row_with kind level (viewed pool r))
-  sought-row h = ⊎_elim (λ x. x.1) (λ x. absurd (h x.0)) s.is
+  pub sought_row : (r.kind ≡ 0 → ⊥) → RowAhead pool rows i (row_with kind level (viewed pool r))
+  sought_row h = ⊎_elim (λ x. x.1) (λ x. absurd (h x.0)) s.is
 
-  pub sought-away : 3 ≤ kind → r.kind ≡ 0 → NotOf kind level (cells_at pool rows i)
-  sought-away h z = ⊎_elim (λ x. absurd (omega (arith, x.0))) (λ x. x.1) s.is
+  pub sought_away : 3 ≤ kind → r.kind ≡ 0 → NotOf kind level (cells_at pool rows i)
+  sought_away h z = ⊎_elim (λ x. absurd (omega (arith, x.0))) (λ x. x.1) s.is
 
 -- for one move
 module _ {pool rows : List ℕ} {i : ℕ} (m : Move) (level : ℕ) {r : Ahead} (q : is_quiet m.form ≡ false) (s : SoughtIs pool rows i m.kind level r) where
-  pub sought-taken : {before : List ℕ} {at : ℕ} {after : List ℕ} {p : ℕ} → 3 ≤ m.kind → (r.kind ≡ 0 → ⊥) → takes (viewed pool r) m ≡ true → Laid before at (lead m ++ write_value m.form (viewed pool r)) after p → RowTaken (m ∷ []) level pool rows i before at after p
-  sought-taken k h t l =
+  pub sought_taken : {before : List ℕ} {at : ℕ} {after : List ℕ} {p : ℕ} → 3 ≤ m.kind → (r.kind ≡ 0 → ⊥) → takes (viewed pool r) m ≡ true → Laid before at (lead m ++ write_value m.form (viewed pool r)) after p → RowTaken (m ∷ []) level pool rows i before at after p
+  sought_taken k h t l =
       record {
         row = row_with m.kind level (viewed pool r);
         move = m;
-        ahead = sought-row s h;
+        ahead = sought_row s h;
         inner = sym (opens_past m.kind level (viewed pool r) (omega arith));
         stands = sole_hit m level q (viewed pool r) t;
         laid = l;
       }
 
   -- nothing of the kind and level is ahead, or what is has other bytes
-  pub sought-none : (r.kind ≡ 0 → ⊥) → takes (viewed pool r) m ≡ false → NotAmong (m ∷ []) level (cells_at pool rows i)
-  sought-none h t = row_none (m ∷ []) level (sought-row s h) (sole_none m level q _ (λ k l. t))
+  pub sought_none : (r.kind ≡ 0 → ⊥) → takes (viewed pool r) m ≡ false → NotAmong (m ∷ []) level (cells_at pool rows i)
+  sought_none h t = row_none (m ∷ []) level (sought_row s h) (sole_none m level q _ (λ k l. t))
 
-  pub sought-not : 3 ≤ m.kind → r.kind ≡ 0 → NotAmong (m ∷ []) level (cells_at pool rows i)
-  sought-not h z = cells_none m level q (cells_at pool rows i) (sought-away s h z)
+  pub sought_not : 3 ≤ m.kind → r.kind ≡ 0 → NotAmong (m ∷ []) level (cells_at pool rows i)
+  sought_not h z = cells_none m level q (cells_at pool rows i) (sought_away s h z)
 
 -- Among none
 
@@ -215,10 +215,10 @@ module _ (l l₁ : List Move) (level : ℕ) where
   none_else (broken ∷ cs) x y = tt
   none_else (cell row ∷ cs) x y = own_else row x ∙ y
 
-  pub taken-first : {pool rows : List ℕ} {i : ℕ} {before : List ℕ} {at : ℕ} {after : List ℕ} {p : ℕ} → RowTaken l level pool rows i before at after p → RowTaken (l ++ l₁) level pool rows i before at after p
-  taken-first x = record { row = x.row; move = x.move; ahead = x.ahead; inner = x.inner; stands = own_else x.row x.stands; laid = x.laid }
+  pub taken_first : {pool rows : List ℕ} {i : ℕ} {before : List ℕ} {at : ℕ} {after : List ℕ} {p : ℕ} → RowTaken l level pool rows i before at after p → RowTaken (l ++ l₁) level pool rows i before at after p
+  taken_first x = record { row = x.row; move = x.move; ahead = x.ahead; inner = x.inner; stands = own_else x.row x.stands; laid = x.laid }
 
-  pub tried-else : (pool rows : List ℕ) (i : ℕ) → NotAmong l level (cells_at pool rows i) → (before : List ℕ) (at : ℕ) (after : List ℕ) (t : Tried) → TriedIs l₁ level pool rows i before at t after → TriedIs (l ++ l₁) level pool rows i before at t after
-  tried-else pool rows i none_there before at after (To p) x =
+  pub tried_else : (pool rows : List ℕ) (i : ℕ) → NotAmong l level (cells_at pool rows i) → (before : List ℕ) (at : ℕ) (after : List ℕ) (t : Tried) → TriedIs l₁ level pool rows i before at t after → TriedIs (l ++ l₁) level pool rows i before at t after
+  tried_else pool rows i none_there before at after (To p) x =
       record { row = x.row; move = x.move; ahead = x.ahead; inner = x.inner; stands = own_else x.row (subst (NotAmong l level) x.ahead.cells none_there) ∙ x.stands; laid = x.laid }
-  tried-else pool rows i none_there before at after Other x = (x.0, none_else (cells_at pool rows i) none_there x.1)
+  tried_else pool rows i none_there before at after Other x = (x.0, none_else (cells_at pool rows i) none_there x.1)

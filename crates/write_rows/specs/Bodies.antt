@@ -53,9 +53,9 @@ module _ (e : Edition) (i : ℕ) (st : State) where
   inner_cell row ds f (envelope_row true) h = absurd (omega arith)
   inner_cell row ds f (envelope_row false) h = absurd (omega arith)
 
-  pub body-row : {cs : List Cell} {row : Row} {ds : List Cell} → cs ≡ cell row ∷ ds → opens_number (opens_of row) ≡ 0 → body_of e cs i st ≡ row_body i (body_of e ds (i + 1)) (fit_row e st row)
+  pub body_row : {cs : List Cell} {row : Row} {ds : List Cell} → cs ≡ cell row ∷ ds → opens_number (opens_of row) ≡ 0 → body_of e cs i st ≡ row_body i (body_of e ds (i + 1)) (fit_row e st row)
   unfolding body_of
-  body-row {row = row} {ds = ds} q h =
+  body_row {row = row} {ds = ds} q h =
       ap (λ (x : List Cell). body_of e x i st) q ∙ inner_cell row ds (body_of e ds (suc i)) (opens_of row) h ∙ ap (λ (k : ℕ). row_body i (body_of e ds k) (fit_row e st row)) (sym (add-one i))
 
 -- Bytes so far

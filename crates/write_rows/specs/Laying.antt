@@ -90,11 +90,11 @@ module _ {m : List ℕ} {at : ℕ} {bs m₁ : List ℕ} {p₁ : ℕ} (l : Laid m
   laid_most : p₁ ≤ envelope_most
   laid_most = omega (arith, l.counted, capped_most (at + length bs))
 
-  pub laid-length : length m₁ ≡ length m
-  laid-length = ap length l.memory ∙ length-sets m at bs
+  pub laid_length : length m₁ ≡ length m
+  laid_length = ap length l.memory ∙ length-sets m at bs
 
-  pub laid-layable : Layable m at → Layable m₁ p₁
-  laid-layable a = record { counted = laid_most; small = omega (arith, laid-length, a.small) }
+  pub laid_layable : Layable m at → Layable m₁ p₁
+  laid_layable a = record { counted = laid_most; small = omega (arith, laid_length, a.small) }
 
   pub laid_as : (cs : List ℕ) → bs ≡ cs → Laid m at cs m₁ p₁
   laid_as cs q = subst (λ (x : List ℕ). Laid m at x m₁ p₁) q l
@@ -109,7 +109,7 @@ module _ {m : List ℕ} {at : ℕ} {bs m₁ : List ℕ} {p₁ : ℕ} (l : Laid m
       }
 
 pub laid_three : {m : List ℕ} {at : ℕ} {bs m₁ : List ℕ} {p₁ : ℕ} {cs m₂ : List ℕ} {p₂ : ℕ} {ds m₃ : List ℕ} {p₃ : ℕ} → Layable m at → Laid m at bs m₁ p₁ → Laid m₁ p₁ cs m₂ p₂ → Laid m₂ p₂ ds m₃ p₃ → Laid m at (bs ++ (cs ++ ds)) m₃ p₃
-laid_three a l k j = laid_then l a.small (laid_then k (laid-layable l a).small j)
+laid_three a l k j = laid_then l a.small (laid_then k (laid_layable l a).small j)
 
 -- Bytes laid one by one
 

@@ -8,8 +8,8 @@ use Rattle.meaning.specs.Reading.{too_deep, none, hit, find}
 use Rattle.meaning.specs.Writing.{unfit, fits, lead, at_level, stands_for, write_value, Cell, cell, broken}
 use Rattle.meaning.specs.Memory.{room_of}
 use Rattle.meaning.specs.Headers.{envelope_most}
-use Rattle.write_rows.specs.Laying.{Laid, Layable, laid_then, laid-layable}
-use Rattle.write_rows.specs.Bodies.{Body, halt, body, on_body, row_body, body_of, body-row, body_starts}
+use Rattle.write_rows.specs.Laying.{Laid, Layable, laid_then, laid_layable}
+use Rattle.write_rows.specs.Bodies.{Body, halt, body, on_body, row_body, body_of, body_row, body_starts}
 use Rattle.laws_steps.specs.Rows.{cells_at}
 use Rattle.write_rows.specs.Rooms.{rows_of, own_among, NotAmong, AllLead, Closes, Needs}
 use Rattle.write_rows.specs.Stages.{body_at, RowTaken, TriedIs, Onward, AdvanceIs, Beyond, after_needed}
@@ -18,7 +18,7 @@ use Rattle.write_rows.specs.declared.advance.Tried.TheVariants.{To, Other}
 use Rattle.write_rows.specs.declared.advance.Advance.{Advance}
 use Rattle.write_rows.specs.declared.advance.Advance.TheVariants.{Go, Stuck}
 use Rattle.write_rows.specs.Among.{find_rows, hit_leads, level_hit}
-use Rattle.write_rows.specs.Stands.{fits-own, body_closes, body_lost}
+use Rattle.write_rows.specs.Stands.{fits_own, body_closes, body_lost}
 
 on_on : (bs cs : List ℕ) (b : Body) → on_body bs (on_body cs b) ≡ on_body (bs ++ cs) b
 on_on bs cs (halt j) = refl
@@ -28,7 +28,7 @@ pub onward_none : (edition : Edition) (pool rows : List ℕ) {i : ℕ} (st : Sta
 onward_none edition pool rows {i} st h l = record { onto = body_starts (body_at edition pool rows i st) l; later = omega arith; inside = h }
 
 pub onward_layable : {edition : Edition} {pool rows : List ℕ} {i : ℕ} {st : State} {k : ℕ} {st₁ : State} {m : List ℕ} {at : ℕ} {m₁ : List ℕ} {p : ℕ} → Onward edition pool rows i st k st₁ m at m₁ p → Layable m at → Layable m₁ p
-onward_layable a l = laid-layable a.onto.laid l
+onward_layable a l = laid_layable a.onto.laid l
 
 module _ {edition : Edition} {pool rows : List ℕ} {i : ℕ} {st : State} {k : ℕ} {st₁ : State} {m : List ℕ} {at : ℕ} {m₁ : List ℕ} {p₁ : ℕ} (small : length m ≤ envelope_most) (a : Onward edition pool rows i st k st₁ m at m₁ p₁) where
   pub onward_then : {n : ℕ} {st₂ : State} {m₂ : List ℕ} {p₂ : ℕ} → Onward edition pool rows k st₁ n st₂ m₁ p₁ m₂ p₂ → Onward edition pool rows i st n st₂ m at m₂ p₂
@@ -43,12 +43,12 @@ module _ {edition : Edition} {pool rows : List ℕ} {i : ℕ} {st : State} {k : 
         inside = b.inside;
       }
 
-  pub onward-stuck : {j : ℕ} → body_at edition pool rows k st₁ ≡ halt j → body_at edition pool rows i st ≡ halt j
-  onward-stuck b = a.onto.is ∙ ap (on_body a.onto.bytes) b
+  pub onward_stuck : {j : ℕ} → body_at edition pool rows k st₁ ≡ halt j → body_at edition pool rows i st ≡ halt j
+  onward_stuck b = a.onto.is ∙ ap (on_body a.onto.bytes) b
 
-  pub advance-then : (st₂ : State) (m₂ : List ℕ) (r : Advance) → AdvanceIs edition pool rows k st₁ st₂ m₁ p₁ r m₂ → AdvanceIs edition pool rows i st st₂ m at r m₂
-  advance-then st₂ m₂ (Go n p) b = onward_then b
-  advance-then st₂ m₂ (Stuck j) b = onward-stuck b
+  pub advance_then : (st₂ : State) (m₂ : List ℕ) (r : Advance) → AdvanceIs edition pool rows k st₁ st₂ m₁ p₁ r m₂ → AdvanceIs edition pool rows i st st₂ m at r m₂
+  advance_then st₂ m₂ (Go n p) b = onward_then b
+  advance_then st₂ m₂ (Stuck j) b = onward_stuck b
 
 pub beyond : (edition : Edition) (pool rows : List ℕ) (k : ℕ) (st st₁ : State) (m : List ℕ) (at : ℕ) (r : Advance) (m₁ : List ℕ) {i : ℕ} → i < k → AdvanceIs edition pool rows k st st₁ m at r m₁ → Beyond i r
 beyond edition pool rows k st st₁ m at (Go n p) m₁ h s = omega (arith, s.later)
@@ -88,9 +88,9 @@ module _ (edition : Edition) (pool rows : List ℕ) {i : ℕ} (st : State) {l : 
         onto = record {
           bytes = lead t.move ++ write_value t.move.form t.row.view;
           is =
-              body-row edition i st t.ahead.cells t.inner
+              body_row edition i st t.ahead.cells t.inner
               ∙ ap (row_body i (body_of edition (cells_at pool rows (i + 1)) (i + 1)))
-              (fits-own edition st t.row q ∙ ap (λ (b : Bool). pick b unfit (fits (go t.move.next st) (lead t.move ++ write_value t.move.form t.row.view))) d);
+              (fits_own edition st t.row q ∙ ap (λ (b : Bool). pick b unfit (fits (go t.move.next st) (lead t.move ++ write_value t.move.form t.row.view))) d);
           laid = t.laid;
         };
         later = omega arith;
@@ -98,20 +98,20 @@ module _ (edition : Edition) (pool rows : List ℕ) {i : ℕ} (st : State) {l : 
       }
 
   -- the same, where the moves tried are all that the room has
-  pub taken-on : (n : Next) → rows_of (moves edition st.room) ≡ l → AllLead l n st → Onward edition pool rows i st (i + 1) (go n st) before at after p
-  taken-on n q a =
+  pub taken_on : (n : Next) → rows_of (moves edition st.room) ≡ l → AllLead l n st → Onward edition pool rows i st (i + 1) (go n st) before at after p
+  taken_on n q a =
       let own : find (stands_for t.row) (moves edition st.room) ≡ find (stands_for t.row) l = find_rows t.row (moves edition st.room) ∙ ap (find (stands_for t.row)) q in
       let leads = hit_leads (stands_for t.row) l st a (level_hit (eqb t.row.level st.level) _ t.stands) in
       subst (λ (x : Next). Onward edition pool rows i st (i + 1) (go x st) before at after p) leads.0
       (own_on (ap (at_level (eqb t.row.level st.level)) own ∙ t.stands) leads.1)
 
   -- "Level 9 is 15"
-  pub taken-deep : rows_of (moves edition st.room) ≡ l → too_deep t.move st ≡ true → body_at edition pool rows i st ≡ halt i
-  taken-deep q d =
+  pub taken_deep : rows_of (moves edition st.room) ≡ l → too_deep t.move st ≡ true → body_at edition pool rows i st ≡ halt i
+  taken_deep q d =
       let own : find (stands_for t.row) (moves edition st.room) ≡ find (stands_for t.row) l = find_rows t.row (moves edition st.room) ∙ ap (find (stands_for t.row)) q in
-      body-row edition i st t.ahead.cells t.inner
+      body_row edition i st t.ahead.cells t.inner
       ∙ ap (row_body i (body_of edition (cells_at pool rows (i + 1)) (i + 1)))
-      (fits-own edition st t.row (ap (at_level (eqb t.row.level st.level)) own ∙ t.stands) ∙ ap (λ (b : Bool). pick b unfit (fits (go t.move.next st) (lead t.move ++ write_value t.move.form t.row.view))) d)
+      (fits_own edition st t.row (ap (at_level (eqb t.row.level st.level)) own ∙ t.stands) ∙ ap (λ (b : Bool). pick b unfit (fits (go t.move.next st) (lead t.move ++ write_value t.move.form t.row.view))) d)
 
 -- A row that stands elsewhere
 
@@ -121,29 +121,29 @@ not_in_room e st l (broken ∷ cs) q x = tt
 not_in_room e st l (cell row ∷ cs) q x = ap (at_level (eqb row.level st.level)) (find_rows row (moves e st.room) ∙ ap (find (stands_for row)) q) ∙ x
 
 module _ (edition : Edition) (pool rows : List ℕ) {i : ℕ} (st : State) {l : List Move} (q : rows_of (moves edition st.room) ≡ l) (x : NotAmong l st.level (cells_at pool rows i)) where
-  pub close-on : {m : Move} {before : List ℕ} {at : ℕ} {after : List ℕ} {p : ℕ} → Closes edition st.room (hit m) → i ≤ room_of rows → Laid before at (m.code ∷ []) after p → Onward edition pool rows i st i (go m.next st) before at after p
-  close-on {m} c h d =
+  pub close_on : {m : Move} {before : List ℕ} {at : ℕ} {after : List ℕ} {p : ℕ} → Closes edition st.room (hit m) → i ≤ room_of rows → Laid before at (m.code ∷ []) after p → Onward edition pool rows i st i (go m.next st) before at after p
+  close_on {m} c h d =
       record {
         onto = record { bytes = m.code ∷ []; is = body_closes edition st c (cells_at pool rows i) i (not_in_room edition st l (cells_at pool rows i) q x); laid = d };
         later = omega arith;
         inside = h;
       }
 
-  pub lost-on : Closes edition st.room none → body_at edition pool rows i st ≡ halt i
-  lost-on c = body_lost edition st c (cells_at pool rows i) i (not_in_room edition st l (cells_at pool rows i) q x)
+  pub lost_on : Closes edition st.room none → body_at edition pool rows i st ≡ halt i
+  lost_on c = body_lost edition st c (cells_at pool rows i) i (not_in_room edition st l (cells_at pool rows i) q x)
 
 -- What has to stand here
 
 module _ (edition : Edition) (pool rows : List ℕ) {i : ℕ} (st : State) {l : List Move} {n : Next} (w : Needs edition st l n) where
-  pub needed-on : {before : List ℕ} {at : ℕ} {after : List ℕ} {p : ℕ} → RowTaken l st.level pool rows i before at after p → Onward edition pool rows i st (i + 1) (go n st) before at after p
-  needed-on t = taken-on edition pool rows st t n w.rows w.lead
+  pub needed_on : {before : List ℕ} {at : ℕ} {after : List ℕ} {p : ℕ} → RowTaken l st.level pool rows i before at after p → Onward edition pool rows i st (i + 1) (go n st) before at after p
+  needed_on t = taken_on edition pool rows st t n w.rows w.lead
 
-  pub needed-lost : NotAmong l st.level (cells_at pool rows i) → body_at edition pool rows i st ≡ halt i
-  needed-lost x = lost-on edition pool rows st w.rows x w.lost
+  pub needed_lost : NotAmong l st.level (cells_at pool rows i) → body_at edition pool rows i st ≡ halt i
+  needed_lost x = lost_on edition pool rows st w.rows x w.lost
 
 pub needed_is : (edition : Edition) (pool rows : List ℕ) (i : ℕ) (st : State) {l : List Move} {n : Next} → Needs edition st l n → (before : List ℕ) (at : ℕ) (t : Tried) (after : List ℕ) {r : Advance} → TriedIs l st.level pool rows i before at t after → r ≡ after_needed i t → AdvanceIs edition pool rows i st (go n st) before at r after
 needed_is edition pool rows i st {l} {n} w before at t after x q = advance_as edition pool rows i st (go n st) before at after (sym q) (by t x)
   where
     by : (t : Tried) → TriedIs l st.level pool rows i before at t after → AdvanceIs edition pool rows i st (go n st) before at (after_needed i t) after
-    by (To p) y = needed-on edition pool rows st w y
-    by Other y = needed-lost edition pool rows st w y.1
+    by (To p) y = needed_on edition pool rows st w y
+    by Other y = needed_lost edition pool rows st w y.1

@@ -19,7 +19,7 @@ use Rattle.write_rows.specs.Rooms.{own_among, NotAmong}
 use Rattle.write_rows.specs.Stages.{body_at, RowTaken, Onward}
 use Rattle.write_rows.specs.Among.{level_hit, not_hit, sole_move}
 use Rattle.write_rows.specs.Onward.{own_on}
-use Rattle.write_rows.specs.Stands.{passMove}
+use Rattle.write_rows.specs.Stands.{pass_move}
 
 same_go : (n : Next) (r r₁ : Room) (level : ℕ) (single : Bool) → go n (state r level single) ≡ go n (state r₁ level single)
 same_go (outer t) r r₁ level single = refl
@@ -52,9 +52,9 @@ module _ (e : Edition) (r r₁ : Room) (m : Move) (is : moves e r ≡ m ∷ move
   same_row row x =
       fit_once e (state r level single) row
       ∙ ap (fit_by (state r level single) row (fit_row e))
-      (ap (λ (y : Found). ways y (passMove e (state r level single) row)) (same_own row x)
+      (ap (λ (y : Found). ways y (pass_move e (state r level single) row)) (same_own row x)
       ∙ ap (ways (own_among (moves e r₁) level row)) (ap (λ (y : Found). or_else y (find (is_pass closing) (moves e r))) (same_pass (way_to row.kind)) ∙ ap (or_else (find (is_pass (way_to row.kind)) (moves e r₁))) (same_pass closing)))
-      ∙ by (ways (own_among (moves e r₁) level row) (passMove e (state r₁ level single) row)) ∙ sym (fit_once e (state r₁ level single) row)
+      ∙ by (ways (own_among (moves e r₁) level row) (pass_move e (state r₁ level single) row)) ∙ sym (fit_once e (state r₁ level single) row)
     where
       by : (w : Way) → fit_by (state r level single) row (fit_row e) w ≡ fit_by (state r₁ level single) row (fit_row e) w
       by nowhere = refl
@@ -83,9 +83,9 @@ module _ (e : Edition) (r r₁ : Room) (m : Move) (is : moves e r ≡ m ∷ move
 
 module _ (edition : Edition) (pool rows : List ℕ) {i : ℕ} (r r₁ : Room) {m : Move} (is : moves edition r ≡ m ∷ moves edition r₁) (level : ℕ) (single : Bool) {before : List ℕ} {at : ℕ} where
   -- the part is there
-  pub part-on : {after : List ℕ} {p : ℕ} → RowTaken (m ∷ []) level pool rows i before at after p → too_deep m (state r level single) ≡ false → Onward edition pool rows i (state r level single) (i + 1) (go m.next (state r level single)) before at after p
+  pub part_on : {after : List ℕ} {p : ℕ} → RowTaken (m ∷ []) level pool rows i before at after p → too_deep m (state r level single) ≡ false → Onward edition pool rows i (state r level single) (i + 1) (go m.next (state r level single)) before at after p
   unfolding find
-  part-on {after} {p} t d =
+  part_on {after} {p} t d =
       let own = level_hit (eqb t.row.level level) (find (stands_for t.row) (m ∷ [])) t.stands in
       let same = sole_move m level t.row t.stands in
       let there : own_among (moves edition r) level t.row ≡ hit t.move = at_level_lem (eqb t.row.level level) _ _ t.stands (ap (find (stands_for t.row)) is ∙ first (stands_for t.row m) (find (stands_for t.row) (moves edition r₁)) own) in

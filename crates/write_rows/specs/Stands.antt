@@ -13,24 +13,24 @@ use Rattle.write_rows.specs.Rooms.{own_among, NotAmong, Passes, Closes}
 use Rattle.write_rows.specs.Bodies.{Body, halt, body, on_body, seal_body, row_body, cell_body, body_of}
 
 module _ (e : Edition) (st : State) (row : Row) where
-  abbrev ownMove : Found
-  ownMove = own_among (moves e st.room) st.level row
+  abbrev own_move : Found
+  own_move = own_among (moves e st.room) st.level row
 
-  abbrev pub passMove : Found
-  passMove = or_else (find (is_pass (way_to row.kind)) (moves e st.room)) (find (is_pass closing) (moves e st.room))
+  abbrev pub pass_move : Found
+  pass_move = or_else (find (is_pass (way_to row.kind)) (moves e st.room)) (find (is_pass closing) (moves e st.room))
 
-  by_way : {w : Way} → ways ownMove passMove ≡ w → fit_row e st row ≡ fit_by st row (fit_row e) w
+  by_way : {w : Way} → ways own_move pass_move ≡ w → fit_row e st row ≡ fit_by st row (fit_row e) w
   unfolding way_of
   by_way q = fit_once e st row ∙ ap (fit_by st row (fit_row e)) q
 
-  pub fits-own : {m : Move} → ownMove ≡ hit m → fit_row e st row ≡ place st row m
-  fits-own q = by_way (ap (λ (o : Found). ways o passMove) q)
+  pub fits_own : {m : Move} → own_move ≡ hit m → fit_row e st row ≡ place st row m
+  fits_own q = by_way (ap (λ (o : Found). ways o pass_move) q)
 
-  pub fits-pass : {m : Move} → ownMove ≡ none → passMove ≡ hit m → fit_row e st row ≡ led (m.code ∷ []) (fit_row e (go m.next st) row)
-  fits-pass q p = by_way (ap (λ (o : Found). ways o passMove) q ∙ ap (ways none) p)
+  pub fits_pass : {m : Move} → own_move ≡ none → pass_move ≡ hit m → fit_row e st row ≡ led (m.code ∷ []) (fit_row e (go m.next st) row)
+  fits_pass q p = by_way (ap (λ (o : Found). ways o pass_move) q ∙ ap (ways none) p)
 
-  fits_none : ownMove ≡ none → passMove ≡ none → fit_row e st row ≡ unfit
-  fits_none q p = by_way (ap (λ (o : Found). ways o passMove) q ∙ ap (ways none) p)
+  fits_none : own_move ≡ none → pass_move ≡ none → fit_row e st row ≡ unfit
+  fits_none q p = by_way (ap (λ (o : Found). ways o pass_move) q ∙ ap (ways none) p)
 
 -- in a room whose only pass is a closing, every row is led on by it
 one_pass : (l : List Move) {o : Found} → find (is_pass 0x04) l ≡ none → find (is_pass 0x0a) l ≡ none → find (is_pass closing) l ≡ o → (kind : ℕ) → or_else (find (is_pass (way_to kind)) l) (find (is_pass closing) l) ≡ o
@@ -66,20 +66,20 @@ module _ (e : Edition) (st : State) (within : is_closed st.room ≡ false) where
   abbrev pub LedBy : Found → List Cell → Type 0
   LedBy o [] = Unit {0}
   LedBy o (broken ∷ cs) = Unit {0}
-  LedBy o (cell row ∷ cs) = passMove e st row ≡ o
+  LedBy o (cell row ∷ cs) = pass_move e st row ≡ o
 
   closes_by : {o : Found} → find (is_pass closing) (moves e st.room) ≡ o → close e st ≡ close_by st (close e) o
   closes_by r = close_once e st ∙ ap (λ (b : Bool). pick b (fits st []) (close_by st (close e) (find (is_pass closing) (moves e st.room)))) within ∙ ap (close_by st (close e)) r
 
   -- where the row ahead stands elsewhere, the room is closed before it
-  pub closing-first : {m : Move} → find (is_pass closing) (moves e st.room) ≡ hit m → (cs : List Cell) (i : ℕ) → LedBy (hit m) cs → NotAmong (moves e st.room) st.level cs → body_of e cs i st ≡ on_body (m.code ∷ []) (body_of e cs i (go m.next st))
+  pub closing_first : {m : Move} → find (is_pass closing) (moves e st.room) ≡ hit m → (cs : List Cell) (i : ℕ) → LedBy (hit m) cs → NotAmong (moves e st.room) st.level cs → body_of e cs i st ≡ on_body (m.code ∷ []) (body_of e cs i (go m.next st))
   unfolding body_of
-  closing-first {m} r [] i b h = ap (seal_body i []) (closes_by r) ∙ led_seal i [] (m.code ∷ []) (close e (go m.next st))
-  closing-first r (broken ∷ cs) i b h = refl
-  closing-first {m} r (cell row ∷ cs) i b h = at (opens_of row)
+  closing_first {m} r [] i b h = ap (seal_body i []) (closes_by r) ∙ led_seal i [] (m.code ∷ []) (close e (go m.next st))
+  closing_first r (broken ∷ cs) i b h = refl
+  closing_first {m} r (cell row ∷ cs) i b h = at (opens_of row)
     where
       at : (o : Opens) → cell_body e st i row cs (body_of e cs (suc i)) o ≡ on_body (m.code ∷ []) (cell_body e (go m.next st) i row cs (body_of e cs (suc i)) o)
-      at inner_row = ap (row_body i (body_of e cs (suc i))) (fits-pass e st row h b) ∙ led_row i (body_of e cs (suc i)) (m.code ∷ []) (fit_row e (go m.next st) row)
+      at inner_row = ap (row_body i (body_of e cs (suc i))) (fits_pass e st row h b) ∙ led_row i (body_of e cs (suc i)) (m.code ∷ []) (fit_row e (go m.next st) row)
       at (envelope_row c) = ap (seal_body i (cell row ∷ cs)) (closes_by r) ∙ led_seal i (cell row ∷ cs) (m.code ∷ []) (close e (go m.next st))
 
   -- where the room has no pass, nothing fits
@@ -107,7 +107,7 @@ module _ (e : Edition) (st : State) {o : Found} (c : Closes e st.room o) where
   led_all (cell row ∷ cs) = one_pass (moves e st.room) (ap (λ (p : Passes). p.represents) c) (ap (λ (p : Passes). p.receives) c) by row.kind
 
 pub body_closes : (e : Edition) (st : State) {m : Move} → Closes e st.room (hit m) → (cs : List Cell) (i : ℕ) → NotAmong (moves e st.room) st.level cs → body_of e cs i st ≡ on_body (m.code ∷ []) (body_of e cs i (go m.next st))
-body_closes e st c cs i = closing-first e st (within e st c) (by e st c) cs i (led_all e st c cs)
+body_closes e st c cs i = closing_first e st (within e st c) (by e st c) cs i (led_all e st c cs)
 
 pub body_lost : (e : Edition) (st : State) → Closes e st.room none → (cs : List Cell) (i : ℕ) → NotAmong (moves e st.room) st.level cs → body_of e cs i st ≡ halt i
 body_lost e st c cs i = nothing_fits e st (within e st c) (by e st c) cs i (led_all e st c cs)

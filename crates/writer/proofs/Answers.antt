@@ -115,9 +115,9 @@ module _ (number : ℕ) (rows pool before : List ℕ) (t : T (are_bytes pool)) {
   unfolding write_answer write_output write
   in_edition q x = record { bytes = t; answers = x.answers ∙ rw q refl; leaves = x.leaves ∙ rw q refl }
 
-  pub in-none : label_of number ≡ unknown → reply_of answer ≡ reply 1 0 0 → after ≡ before → WritePromise number rows pool before answer after
+  pub in_none : label_of number ≡ unknown → reply_of answer ≡ reply 1 0 0 → after ≡ before → WritePromise number rows pool before answer after
   unfolding write_answer write_output write
-  in-none q e m = record { bytes = t; answers = e ∙ rw q refl; leaves = rw q m }
+  in_none q e m = record { bytes = t; answers = e ∙ rw q refl; leaves = rw q m }
 
 -- The check alone
 

@@ -59,8 +59,8 @@ module _ (p : Plan) (skips : Skips) {c : Checked} {lengths : List ℕ} (k : Chec
 
 -- what the lowest wrong row says
 module _ (rows : List ℕ) (c : Checked) (wrong n : ℕ) (h : skips_held rows ≡ held_as (room_of rows) wrong) (r : n ≡ room_of rows) where
-  pub wrong-there : wrong < n → Bad 15 wrong ≡ unless_wrong (skips_held rows) c
-  wrong-there l = ap (λ (b : Bool). unless_wrong (pick b (wrong_at wrong) right) c) (sym (lt-ltb wrong (room_of rows) (omega arith))) ∙ ap (λ (x : Skips). unless_wrong x c) (sym h)
+  pub wrong_there : wrong < n → Bad 15 wrong ≡ unless_wrong (skips_held rows) c
+  wrong_there l = ap (λ (b : Bool). unless_wrong (pick b (wrong_at wrong) right) c) (sym (lt-ltb wrong (room_of rows) (omega arith))) ∙ ap (λ (x : Skips). unless_wrong x c) (sym h)
 
   pub none_there : n ≤ wrong → c ≡ unless_wrong (skips_held rows) c
   none_there l = ap (λ (b : Bool). unless_wrong (pick b (wrong_at wrong) right) c) (sym (le-ltb wrong (room_of rows) (omega arith))) ∙ ap (λ (x : Skips). unless_wrong x c) (sym h)

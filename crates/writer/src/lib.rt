@@ -1,4 +1,6 @@
 // The writer: "takes edition, rows, a pool of bytes that they view, and output".
+#![tactic(auto)]
+
 ghost use Rattle.std.specs.Prelude.{◌≡◌, length};
 ghost use Rattle.meaning.specs.Headers.{envelopes_most};
 ghost use Rattle.meaning.specs.Writing.{whole_plan, write_rows};

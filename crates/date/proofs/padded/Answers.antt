@@ -1,0 +1,9 @@
+-- `padded` is its check.
+use mathlib.Core.Path.{refl}
+use borrow.Author.Rules.{rules}
+use Rattle.meaning.specs.Bytes.{passes}
+use Rattle.date.proofs.padded.Goals as goal
+
+pub returns : goal.returns
+unfolding passes
+returns c before = rw c.is_digit.ensures refl

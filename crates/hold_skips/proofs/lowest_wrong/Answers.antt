@@ -1,0 +1,24 @@
+-- `lowest_wrong`: the invariant says that the skip numbers before row i are right.
+use Prim.Native.Nat.{◌-◌, ◌≤◌}
+use mathlib.Core.Path.{◌≡◌, refl}
+use native.Mathlib.Omega.{arith}
+use borrow.Author.Rules.{rules}
+use Rattle.laws_steps.specs.Hopping.{held_at}
+use Rattle.skips.specs.Passes.{held_ends, held_on, held_stops}
+use Rattle.hold_skips.proofs.lowest_wrong.Goals as goal
+
+pub returns-then-skip_at-right : goal.returns-then-skip_at-right
+returns-then-skip_at-right c =
+    let a = c.args in
+    let l = c.loop-i in
+    held_stops a.rows.now a.n l.i l.invariant.1 c.loop-i-test.true c.skip_at.ensures c.walked_end-right.ensures c.if-skip_at-right.true
+
+pub loop-i-preserved : goal.loop-i-preserved
+loop-i-preserved c =
+    let a = c.args in
+    let l = c.loop-i in
+    let t = c.loop-i-test.true in
+    (omega (arith, t), held_on a.rows.now a.n l.i l.invariant.1 t c.skip_at.ensures c.walked_end-right.ensures c.if-skip_at-right.false)
+
+pub returns : goal.returns
+returns c = let a = c.args in held_ends a.rows.now a.n c.loop-i.i c.loop-i.invariant.1 c.loop-i-test.false

@@ -1,0 +1,19 @@
+-- `lines` is its definition, test by test.
+use mathlib.Core.Path.{refl}
+use native.Mathlib.Omega.{arith}
+use borrow.Author.Rules.{rules}
+use borrow.Author.Tests.{eq-eqb, ne_eqb}
+use Rattle.listing.specs.Text.{lines_of}
+use Rattle.listing.proofs.lines.Goals as goal
+
+pub returns-then-answer-ne0 : goal.returns-then-answer-ne0
+unfolding lines_of
+returns-then-answer-ne0 c = rw (ne_eqb c.args.answer 0 c.if-answer-ne0.true) refl
+
+pub returns-then-count-most : goal.returns-then-count-most
+unfolding lines_of
+returns-then-count-most c = rw (eq-eqb c.args.answer 0 c.if-answer-ne0.false) (omega (arith, c.room-most.ensures))
+
+pub returns : goal.returns
+unfolding lines_of
+returns c = rw (eq-eqb c.args.answer 0 c.if-answer-ne0.false) (omega (arith, c.room-most.ensures))

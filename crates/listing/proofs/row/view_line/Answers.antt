@@ -1,0 +1,8 @@
+-- `row::view_line`: what the bytes hold of a view is the view that `meaning` takes.
+use borrow.Author.Rules.{rules}
+use Rattle.listing.proofs.Pieces.{view_held}
+use Rattle.listing.proofs.row.view_line.Goals as goal
+
+pub returns : goal.returns
+returns c =
+    view_held c.args.row.now c.args.bytes.now c.least-start.ensures c.least.ensures c.view_piece.ensures

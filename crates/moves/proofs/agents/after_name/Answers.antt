@@ -1,0 +1,15 @@
+-- `agents::after_name`: its own move, or those of the next room.
+use mathlib.Core.Path.{◌∙◌, refl, sym}
+use Rattle.meaning.specs.Reading.{look, find}
+use Rattle.meaning.specs.Editions.{shared}
+use Rattle.moves.proofs.Looks.{past}
+use borrow.Author.Rules.{rules}
+use Rattle.moves.proofs.agents.after_name.Goals as goal
+
+pub returns-in-2 : goal.returns-in-2
+unfolding look find shared
+returns-in-2 c = rw c.in-2.is refl
+
+pub returns-in_default : goal.returns-in_default
+unfolding shared
+returns-in_default c = c.after_addresses.ensures ∙ sym (past _ _ _ c.in_default.in_default-own.rest.1 refl)

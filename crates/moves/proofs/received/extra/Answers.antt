@@ -1,0 +1,9 @@
+-- `received::extra`: by the edition.
+use mathlib.Core.Path.{◌∙◌, refl}
+use Rattle.meaning.specs.Reading.{look, find}
+use borrow.Author.Rules.{rules}
+use Rattle.moves.proofs.received.extra.Goals as goal
+
+pub returns-in-B : goal.returns-in-B
+unfolding look find
+returns-in-B c = let q = c.in-B.is in rw q refl

@@ -1,0 +1,5 @@
+-- `pen::number`: the number falls at each call.
+use Rattle.pen.proofs.+number.Given as goal
+
+abbrev pub decreases-number : goal.decreases-number
+decreases-number l = l.value

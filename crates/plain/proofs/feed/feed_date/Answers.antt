@@ -1,0 +1,26 @@
+-- `feed::feed_date`: a byte that passes, the last one among them, or one that does not.
+use Prim.Native.Nat.{◌<◌, ◌≤◌}
+use mathlib.Core.Path.{◌≡◌, sym}
+use native.Mathlib.Omega.{arith}
+use Rattle.date.specs.Dates.{date_length}
+use Rattle.plain.specs.Values.{Valid}
+use Rattle.plain.proofs.Feeding.{date_further, date_ended, date_refused}
+use borrow.Author.Rules.{rules}
+use Rattle.plain.proofs.feed.feed_date.Goals as goal
+
+pub overflow_sub-j : goal.overflow_sub-j
+unfolding Valid
+overflow_sub-j c = c.requires.0.0
+
+pub byte_passes-requires : goal.byte_passes-requires
+unfolding Valid
+byte_passes-requires c = omega (arith, c.requires.0.0, c.requires.1)
+
+pub returns-then-more-length_of : goal.returns-then-more-length_of
+returns-then-more-length_of c = λ t. date_further t c.args.s.now c.args.at c.args.absolute c.args.designated c.args.of c.requires.0 c.byte_passes.ensures c.if-byte_passes.true (omega (arith, c.if-more-length_of.true, c.length_of.ensures))
+
+pub returns-then-byte_passes : goal.returns-then-byte_passes
+returns-then-byte_passes c = λ t. date_ended t c.args.s.now c.args.at c.args.absolute c.args.designated c.args.of c.requires.0 c.byte_passes.ensures c.if-byte_passes.true (omega (arith, c.if-more-length_of.false, c.length_of.ensures))
+
+pub returns : goal.returns
+returns c = λ t. date_refused t c.args.s.now c.args.at c.args.absolute c.args.designated c.args.of c.requires.0 c.byte_passes.ensures c.if-byte_passes.false

@@ -1,0 +1,21 @@
+-- `run::run_inside`: reading from the inside's first byte is what the engine comes to, turn after turn.
+use Prim.Native.Nat.{◌+◌, ◌-◌, ◌≤◌}
+use mathlib.Core.Path.{◌≡◌, refl, ◌∙◌}
+use native.Mathlib.Omega.{arith}
+use lib.ListN.{length}
+use Rattle.meaning.specs.Headers.{start}
+use Rattle.laws_steps.specs.Pouring.{source, run_at}
+use Rattle.table.specs.Told.{told_of}
+use Rattle.plain.specs.Steps.{comes, Holds}
+use Rattle.plain.proofs.Landing.{doing_nested}
+use Rattle.plain.proofs.Running.{begins_comes, begins_holds, run_ended, run_refused, run_over, run_goes, moves_lead, run_moves, ends_lead, row_fits, run_ends}
+use borrow.Author.Rules.{rules}
+use Rattle.plain.proofs.run.run_inside.Given as goal
+
+abbrev pub invariant-loop-told : goal.invariant-loop-told
+invariant-loop-told l =
+    (length l.rows ≡ length l.initial.rows) × (l.at ≤ l.here) × (l.here ≤ l.end) × (l.count ≤ l.here) × Holds l.engine l.here
+    × (run_at (source (told_of l.told) l.s l.end) (start l.base) l.at l.n l.initial.rows ≡ comes (source (told_of l.told) l.s l.end) l.engine l.here l.count l.rows)
+
+abbrev pub decreases-loop-told : goal.decreases-loop-told
+decreases-loop-told l = l.end - l.here

@@ -1,0 +1,12 @@
+-- `envelope::read_opened`: the law of an envelope.
+use native.Mathlib.Omega.{arith}
+use borrow.Author.Rules.{rules}
+use Rattle.table.specs.Told.{told_of}
+use Rattle.read_envelopes.proofs.Envelopes.{enveloped}
+use Rattle.read_envelopes.proofs.envelope.read_opened.Goals as goal
+
+pub returns : goal.returns
+returns c =
+    let a = c.args in
+    let f = c.requires.1 in
+    enveloped (told_of a.told) a.s.now a.at a.first a.end a.base a.n a.rows.now (omega (arith, f.before)) f.whole (rw (← c.opening_kind.ensures) c.put_row.ensures) c.read_inside-r.ensures c.ended.ensures

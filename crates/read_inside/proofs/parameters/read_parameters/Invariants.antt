@@ -1,0 +1,24 @@
+-- `parameters::read_parameters`: each turn reads one parameter and is among the parameters again; the 01 closes the envelope.
+use Prim.Native.Nat.{◌-◌, ◌<◌, ◌≤◌}
+use mathlib.Core.Bool.{false}
+use mathlib.Core.Path.{◌∙◌, ◌≡◌, refl}
+use native.Mathlib.Nat.{le_refl}
+use native.Mathlib.Omega.{arith}
+use lib.ListN.{length}
+use borrow.Author.Rules.{rules}
+use Rattle.meaning.specs.Editions.{closed, outer, parameters, state}
+use Rattle.meaning.specs.Told.{told}
+use Rattle.laws_steps.specs.Pouring.{run_at, source}
+use Rattle.laws_steps.specs.ReadAt.{passed_at}
+use Rattle.laws_steps.specs.Rooms.{parameters_stop}
+use Rattle.table.specs.Told.{told_of}
+use Rattle.read_rows.specs.Joining.{begun, going, handed, moved_to, went}
+use Rattle.read_inside.proofs.parameters.read_parameters.Given as goal
+
+abbrev pub invariant-loop-told : goal.invariant-loop-told
+invariant-loop-told l =
+    (l.at ≤ l.here) × (l.here ≤ l.end) × (l.count ≤ l.here) × (length l.rows ≡ length l.initial.rows)
+    × (run_at (source (told_of l.told) l.s l.end) (state parameters 0 false) l.at l.n l.initial.rows ≡ run_at (source (told_of l.told) l.s l.end) (state parameters 0 false) l.here l.count l.rows)
+
+abbrev pub decreases-loop-told : goal.decreases-loop-told
+decreases-loop-told l = l.end - l.here

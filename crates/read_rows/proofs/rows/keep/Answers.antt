@@ -1,0 +1,12 @@
+-- `rows::keep`: by the value's case.
+use mathlib.Core.Path.{◌∙◌, refl}
+use native.Mathlib.Omega.{arith}
+use borrow.Author.Rules.{rules}
+use Rattle.read_rows.specs.Stages.{Fits}
+use Rattle.read_rows.proofs.rows.keep.Goals as goal
+
+pub put_row-requires : goal.put_row-requires
+unfolding Fits
+put_row-requires c =
+    let f = rw c.in-Is.is at c.requires.0 in
+    (omega (arith, c.requires.1), omega (arith, f.0), omega (arith, f.1))

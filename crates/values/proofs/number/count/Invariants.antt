@@ -1,0 +1,17 @@
+-- `number::count`: the invariant says that what is left is tallied behind what was read, and each turn is one law.
+use Prim.Native.Nat.{ℕ, ◌-◌, ◌≤◌}
+use mathlib.Core.Bool.{true}
+use mathlib.Core.Path.{◌≡◌, ap, ◌∙◌}
+use native.Mathlib.Omega.{arith}
+use borrow.Author.Rules.{rules}
+use Rattle.meaning.specs.Bytes.{take_number, number_most}
+use Rattle.laws_steps.specs.From.{from}
+use Rattle.values.specs.Numbers.{tally, tallied, Ends}
+use Rattle.values.proofs.Numbers.{more_fits, number_ends, number_wrong, number_stops, number_goes}
+use Rattle.values.proofs.number.count.Given as goal
+
+abbrev pub invariant-loop-i : goal.invariant-loop-i
+invariant-loop-i l = (l.at ≤ l.i) × (l.i ≤ l.end) × (l.number ≤ number_most) × (tally 0 0 (take_number 0 true (from l.s l.at l.end)) ≡ tally (l.i - l.at) l.number (take_number l.number l.first (from l.s l.i l.end)))
+
+abbrev pub decreases-loop-i : goal.decreases-loop-i
+decreases-loop-i l = l.end - l.i

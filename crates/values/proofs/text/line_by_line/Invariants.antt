@@ -1,0 +1,17 @@
+-- `text::line_by_line`: all before the place reached is allowed, and what stands there is of no line.
+use Prim.Native.Nat.{◌-◌, ◌<◌}
+use mathlib.Core.Bool.{false}
+use mathlib.Core.Path.{◌≡◌, sym, ◌∙◌}
+use native.Mathlib.Omega.{arith}
+use borrow.Author.Rules.{rules}
+use lib.ListN.{get_or}
+use Rattle.meaning.specs.Bytes.{line, note, text_byte}
+use Rattle.values.specs.Stages.{Skipped}
+use Rattle.values.proofs.Texts.{note_is, byte_skipped, skipped_on}
+use Rattle.values.proofs.text.line_by_line.Given as goal
+
+abbrev pub invariant-loop-i : goal.invariant-loop-i
+invariant-loop-i l = Skipped note l.s l.end l.at l.i × (l.i < l.end → text_byte line (get_or l.s l.i 0) ≡ false)
+
+abbrev pub decreases-loop-i : goal.decreases-loop-i
+decreases-loop-i l = l.end - l.i

@@ -1,0 +1,17 @@
+-- `text::note_run`: all before the place reached a note allows.
+use Prim.Native.Nat.{◌-◌}
+use mathlib.Core.Path.{sym, ◌∙◌}
+use native.Mathlib.Omega.{arith}
+use Rattle.meaning.specs.Bytes.{note}
+use Rattle.values.specs.Stages.{Skipped}
+use Rattle.values.proofs.Texts.{note_skipped, skipped_on, run_on}
+use Rattle.values.proofs.text.note_run.Goals as goal
+
+pub loop-i-init : goal.loop-i-init
+loop-i-init c = c.sixteens-i.ensures note
+
+pub loop-i-preserved : goal.loop-i-preserved
+loop-i-preserved c =
+    let a = c.args in
+    let past = note_skipped a.s.now a.end c.requires.whole c.loop-i.i 15 (omega (arith, c.loop-i-test.true, c.loop-i.invariant.before)) (sym c.sixteen_in_note.ensures ∙ c.if-sixteen_in_note.true) in
+    skipped_on c.loop-i.invariant (skipped_on past (c.sixteens-i-then-sixteen_in_note.ensures note))

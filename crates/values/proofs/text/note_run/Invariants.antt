@@ -1,0 +1,14 @@
+-- `text::note_run`: all before the place reached a note allows.
+use Prim.Native.Nat.{◌-◌}
+use mathlib.Core.Path.{sym, ◌∙◌}
+use native.Mathlib.Omega.{arith}
+use Rattle.meaning.specs.Bytes.{note}
+use Rattle.values.specs.Stages.{Skipped}
+use Rattle.values.proofs.Texts.{note_skipped, skipped_on, run_on}
+use Rattle.values.proofs.text.note_run.Given as goal
+
+abbrev pub invariant-loop-i : goal.invariant-loop-i
+invariant-loop-i l = Skipped note l.s l.end l.at l.i
+
+abbrev pub decreases-loop-i : goal.decreases-loop-i
+decreases-loop-i l = l.end - l.i

@@ -1,0 +1,18 @@
+-- `envelope::put_all`: the bytes so far, in front of the output as it was; the check rules out what is not written.
+use Prim.Native.Nat.{◌-◌, ◌≤◌}
+use Rattle.meaning.specs.Memory.{room_of}
+use Rattle.table.specs.Told.{edition_of}
+use Rattle.write_envelopes.proofs.Checking.{ends_later, here, measured_ended, measured_stuck, row_inside}
+use Rattle.write_envelopes.proofs.Writing.{WritingAt, writing_ends, writing_length, writing_none, writing_noted, writing_on, writing_starts, writing_stuck}
+use Rattle.write_envelopes.specs.Whole.{Writable}
+use borrow.Author.Rules.{rules}
+use mathlib.Core.Bool.{false}
+use mathlib.Core.Path.{◌∙◌}
+use native.Mathlib.Omega.{arith}
+use Rattle.write_envelopes.proofs.envelope.put_all.Given as goal
+
+abbrev pub invariant-loop-edition : goal.invariant-loop-edition
+invariant-loop-edition l = (l.i ≤ room_of l.rows) × ((w : Writable (edition_of l.edition) l.rows l.pool l.lengths l.initial.output) → WritingAt (edition_of l.edition) l.pool l.rows l.lengths l.initial.output w.bytes_needed l.i l.k l.at l.output)
+
+abbrev pub decreases-loop-edition : goal.decreases-loop-edition
+decreases-loop-edition l = room_of l.rows - l.i

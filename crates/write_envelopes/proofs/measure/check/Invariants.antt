@@ -1,0 +1,22 @@
+-- `measure::check`: envelope by envelope, what the sizes says of the rest is the verdict over all; and the lengths are noted.
+use Prim.Native.Nat.{ℕ, ◌+◌, ◌-◌, ◌*◌, ◌≤◌}
+use Rattle.meaning.specs.Writing.{fine, whole_plan}
+use Rattle.meaning.specs.Memory.{room_of}
+use Rattle.meaning.specs.Headers.{envelope_most, envelopes_most}
+use Rattle.write_envelopes.proofs.Checking.{check_base, check_extension, check_none, check_stuck, ends_later, ends_small, here, measured_ended, measured_stuck, rest, row_inside}
+use Rattle.write_envelopes.proofs.Noting.{Noting, checked_bad, noting_ends, noting_on, noting_starts}
+use Rattle.write_envelopes.proofs.Wholes.{whole_edge}
+use Rattle.laws_steps.specs.Rows.{cells_at}
+use Rattle.table.specs.Told.{edition_of}
+use Rattle.write_envelopes.specs.Whole.{Begins, checked_of, insides_of, limit_of, needs as needed, verdict}
+use borrow.Author.Rules.{rules}
+use mathlib.Core.List.{List}
+use mathlib.Core.Path.{◌∙◌, ◌≡◌, ap, subst, sym}
+use native.Mathlib.Omega.{arith}
+use Rattle.write_envelopes.proofs.measure.check.Given as goal
+
+abbrev pub invariant-loop-edition : goal.invariant-loop-edition
+invariant-loop-edition l = (l.t.total + l.t.left * envelope_most ≤ envelopes_most * envelope_most) × (verdict envelopes_most 0 fine (whole_plan (edition_of l.edition) (cells_at l.pool l.rows 0)) ≡ verdict l.t.left l.t.total (limit_of l.t.over l.t.first) (rest (edition_of l.edition) l.pool l.rows l.i)) × Noting (edition_of l.edition) l.pool l.rows l.t.left l.i l.lengths × (l.i ≤ room_of l.rows)
+
+abbrev pub decreases-loop-edition : goal.decreases-loop-edition
+decreases-loop-edition l = room_of l.rows - l.i

@@ -1,0 +1,26 @@
+-- `parameter::own_parameter`: a key, and the value that it needs.
+use Rattle.meaning.specs.Memory.{room_of}
+use Rattle.write_rows.specs.Onward.{tried_as, needed_is}
+use Rattle.write_rows.specs.Laying.{laid_layable}
+use Rattle.write_inside.proofs.Choosing.{after_first, parameter_row}
+use Rattle.meaning.specs.Bytes.{line}
+use Rattle.meaning.specs.Editions.{state, parameters, own_text, outer, text, on◌▸◌▸◌▸◌}
+use Rattle.meaning.specs.Kinds.{own_key}
+use Rattle.write_inside.proofs.Rooms.{own_first, own_text_lem}
+use borrow.Author.Rules.{rules}
+use mathlib.Core.Bool.{false}
+use mathlib.Core.Path.{refl}
+use Prim.Native.Nat.{◌+◌, ◌≤◌}
+use native.Mathlib.Omega.{arith}
+use Rattle.write_inside.proofs.parameter.own_parameter.Goals as goal
+
+pub text-requires : goal.text-requires
+text-requires c =
+    let first = tried_as _ _ _ _ _ _ _ _ c.in-To.is (c.text-t.ensures (outer own_text)) in
+    record { inside = omega (arith, first.ahead.within); inner = omega arith; coded = omega arith; layable = laid_layable first.laid c.requires.layable }
+
+pub returns : goal.returns
+returns c edition =
+    let first = tried_as _ _ _ _ _ _ _ _ c.in-To.is (c.text-t.ensures (outer own_text)) in
+    after_first edition _ c.requires.layable.small (parameter_row edition _ _ (on 0x00 ▸ own_key ▸ text line ▸ outer own_text) (own_first edition) refl first) c.needed.result _
+    (needed_is edition _ _ _ (state own_text 0 false) (own_text_lem edition) _ _ c.text.result _ (c.text.ensures (outer parameters)) c.needed.ensures) c.begun.ensures

@@ -1,0 +1,24 @@
+-- `extras::some_extras`: the extras from the first to where the code stands, for every room that has them.
+use Prim.Native.Nat.{◌-◌, ◌≤◌}
+use Rattle.meaning.specs.Editions.{Room, State, state, stay, list_ends}
+use Rattle.meaning.specs.Told.{Edition}
+use Rattle.meaning.specs.Memory.{room_of}
+use Rattle.write_rows.specs.Onward.{tried_as, laid_from, layable_from, onward_none, onward_stuck, onward_then}
+use Rattle.write_rows.specs.Laying.{laid_layable, laid_length, Layable}
+use Rattle.write_rows.proofs.Lists.{extras_end, key_on, value_lost, value_on}
+use Rattle.write_rows.specs.Rooms.{ExtrasIn}
+use Rattle.write_rows.specs.Stages.{Onward}
+use borrow.Author.Rules.{rules}
+use lib.ListN.{length}
+use mathlib.Core.Bool.{Bool}
+use mathlib.Core.Path.{◌≡◌, refl, ◌∙◌}
+use native.Mathlib.Omega.{arith}
+use Rattle.write_rows.proofs.extras.some_extras.Given as goal
+
+abbrev pub invariant-loop-q : goal.invariant-loop-q
+invariant-loop-q l =
+    (l.i ≤ room_of l.rows) × Layable l.output l.p × (length l.output ≡ length l.initial.output)
+    × ((edition : Edition) (room : Room) (single : Bool) (st₁ : State) → ExtrasIn edition room l.level single l.code st₁ → Onward edition l.pool l.rows l.from (state room l.level single) l.i (state room l.level single) l.initial.output l.at l.output l.p)
+
+abbrev pub decreases-loop-q : goal.decreases-loop-q
+decreases-loop-q l = room_of l.rows - l.i
