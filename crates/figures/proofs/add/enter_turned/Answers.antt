@@ -1,0 +1,13 @@
+-- `enter_turned`: one number raised, by the refusal.
+use native.Mathlib.Omega.{arith}
+use Prim.Native.Nat.{◌+◌, ◌-◌}
+use mathlib.Core.Path.{◌≡◌, ap, ◌∙◌}
+use Rattle.figures.specs.Stages.{raised}
+use Rattle.figures.proofs.Raising.{turned_raised}
+use borrow.Author.Rules.{rules}
+use Rattle.figures.proofs.add.enter_turned.Goals as goal
+
+pub returns : goal.returns
+returns c =
+    let a = c.args in
+    λ e q. ap (λ f. raised a.figures.now (f + a.refusal - 1) 1) q ∙ turned_raised a.figures.now c.requires.0.long e a.refusal c.requires.2 c.requires.3

@@ -1,0 +1,16 @@
+-- `sum_all`: the invariant says that the first i numbers are sums.
+use Prim.Native.Nat.{◌+◌, ◌-◌, ◌≤◌}
+use mathlib.Core.Path.{◌≡◌, refl, ap, sym, ◌∙◌}
+use native.Mathlib.Numerals.{add-one}
+use native.Mathlib.Omega.{arith}
+use borrow.Author.Rules.{rules}
+use lib.ListN.{length, get_or, set}
+use Rattle.meaning.specs.Figures.{figures_borrowed, sums}
+use Rattle.figures.proofs.Raising.{first_sums, next_stays, next_sum, all_sums, sums_long}
+use Rattle.figures.proofs.join.sum_all.Given as goal
+
+abbrev pub invariant-loop-i : goal.invariant-loop-i
+invariant-loop-i l = (l.i ≤ figures_borrowed) × (length l.figures ≡ figures_borrowed) × (l.figures ≡ first_sums l.i l.initial.figures l.others)
+
+abbrev pub decreases-loop-i : goal.decreases-loop-i
+decreases-loop-i l = figures_borrowed - l.i

@@ -1,0 +1,23 @@
+-- `fields`: the invariant says that the first j numbers are printed.
+use Prim.Native.Nat.{◌+◌, ◌-◌, ◌*◌, ◌≤◌}
+use mathlib.Core.List.{[], ◌∷◌, ◌++◌}
+use mathlib.Core.Path.{◌≡◌, refl, ◌∙◌}
+use native.Mathlib.Omega.{arith}
+use lib.ListN.{length}
+use Rattle.meaning.specs.Listing.{decimal}
+use Rattle.pen.specs.Written.{Printing, printing_begins, printing_goes, printing_ends}
+use Rattle.pen.specs.Fields.{fields_of, fields_next, fields_none}
+use Rattle.figures.specs.Stages.{field_most}
+use Rattle.figures.proofs.report.fields.Goals as goal
+
+pub loop-j-preserved : goal.loop-j-preserved
+loop-j-preserved c =
+    let l = c.loop-j in
+    let test = c.loop-j-test in
+    let w = c.print_field-end.ensures in
+    (omega arith, omega (arith, w.few, l.invariant.1), c.print_field-end.auto.out ∙ l.invariant.2, printing_goes (λ n. decimal n ++ (0x09 ∷ [])) fields_next l.invariant.3 test.true w.wrote)
+
+pub returns : goal.returns
+returns c =
+    let l = c.loop-j in
+    record { wrote = printing_ends fields_none l.invariant.3 c.loop-j-test.false; few = omega (arith, l.invariant.1) }
