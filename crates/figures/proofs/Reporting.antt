@@ -1,6 +1,6 @@
 -- The report's text, field by field; and a text laid over an output.
 use Prim.Native.Nat.{ℕ, ◌+◌, ◌*◌, ◌/◌, ◌%◌, ◌≤◌, ◌<◌}
-use mathlib.Core.List.{List, [], ◌∷◌, ◌++◌, append_assoc, append-nil, map, map_append}
+use mathlib.Core.List.{List, [], ◌∷◌, ◌++◌, append_assoc, append-nil, map, map-append}
 use mathlib.Core.Bool.{Bool, true, false}
 use mathlib.Core.Path.{◌≡◌, refl, ap, sym, ◌∙◌}
 use native.Mathlib.Omega.{arith}
@@ -52,7 +52,7 @@ line_fields edition mean remainder xs =
     fields_next edition (xs ++ (mean ∷ [])) ∙ ap (λ (x : List ℕ). (decimal edition ++ (0x09 ∷ [])) ++ x) (fields_append xs (mean ∷ []) ∙ ap (λ (x : List ℕ). fields_of xs ++ x) one)
     ∙ sym (append_assoc (decimal edition ++ (0x09 ∷ [])) (fields_of xs) (decimal mean ++ (0x09 ∷ []))) in
     let list : edition ∷ (xs ++ (mean ∷ remainder ∷ [])) ≡ row ++ (remainder ∷ []) = ap (λ (x : List ℕ). edition ∷ x) (sym (append_assoc xs (mean ∷ []) (remainder ∷ []))) in
-    ap (λ (x : List ℕ). x ++ (decimal remainder ++ (0x0a ∷ []))) (sym all) ∙ sym (line_of_fields row (decimal remainder)) ∙ ap line_of (sym (map_append decimal row (remainder ∷ []))) ∙ ap (λ (x : List ℕ). line_of (map decimal x)) (sym list)
+    ap (λ (x : List ℕ). x ++ (decimal remainder ++ (0x0a ∷ []))) (sym all) ∙ sym (line_of_fields row (decimal remainder)) ∙ ap line_of (sym (map-append decimal row (remainder ∷ []))) ∙ ap (λ (x : List ℕ). line_of (map decimal x)) (sym list)
 
 -- .. and where the numbers stand in the figures
 pub line_at : (ns : List ℕ) (first edition : ℕ) {mean remainder : ℕ} → mean ≡ mean_of (get_or ns (first + 14) 0) (get_or ns first 0) → remainder ≡ remainder_of (get_or ns (first + 14) 0) (get_or ns first 0)
