@@ -1,0 +1,23 @@
+-- `present`: the edition by its number, then the code.
+use Rattle.present.proofs.Answers.{can_be_asked, cannot_be_asked, in_none}
+use Rattle.table.specs.Told.{label_is}
+use Rattle.laws_steps.specs.Logic.{slice_of_bytes}
+use mathlib.Core.Path.{◌∙◌, ap, sym}
+use native.Mathlib.Omega.{arith}
+use borrow.Author.Rules.{rules}
+use Rattle.present.proofs.present.Goals as goal
+
+pub returns-in_default : goal.returns-in_default
+returns-in_default c =
+    let a = c.args in
+    in_none a.edition a.rows.now a.pool.now a.code (slice_of_bytes a.pool.now (λ i. omega (arith, c.shared_slice_known-2-1.given i))) (sym c.label_of-label.ensures ∙ ap label_is c.in_default.is) c.refused.ensures
+
+pub returns-then-can_ask : goal.returns-then-can_ask
+returns-then-can_ask c =
+    let a = c.args in
+    can_be_asked a.edition a.rows.now a.pool.now a.code (slice_of_bytes a.pool.now (λ i. omega (arith, c.shared_slice_known-2-1.given i))) (sym c.label_of-label.ensures ∙ ap label_is c.in-Known.is) c.can_ask.ensures c.if-can_ask.true c.present_in.ensures
+
+pub returns : goal.returns
+returns c =
+    let a = c.args in
+    cannot_be_asked a.edition a.rows.now a.pool.now a.code (slice_of_bytes a.pool.now (λ i. omega (arith, c.shared_slice_known-2-1.given i))) (sym c.label_of-label.ensures ∙ ap label_is c.in-Known.is) c.can_ask.ensures c.if-can_ask.false c.refused-2.ensures

@@ -1,0 +1,13 @@
+-- `present_in`: what the check refuses, else the walk's row.
+use Rattle.table.specs.Told.{edition_of}
+use Rattle.present.proofs.Answers.{answers, refuses, walkable}
+use borrow.Author.Rules.{rules}
+use Rattle.present.proofs.present_in.Goals as goal
+
+pub first_value-requires : goal.first_value-requires
+first_value-requires c =
+    (walkable (edition_of c.args.edition) c.args.rows.now c.args.pool.now c.args.code c.check_rows-c.ensures c.in-Needs.is, c.requires)
+
+pub returns-in-Needs : goal.returns-in-Needs
+returns-in-Needs c =
+    answers (edition_of c.args.edition) c.args.rows.now c.args.pool.now c.args.code c.check_rows-c.ensures c.in-Needs.is c.requires c.first_value.ensures c.room.ensures
