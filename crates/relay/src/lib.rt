@@ -1,10 +1,10 @@
 // Document 02, order 2: the relay. "The gateway may not alter an envelope it received; it puts a new one in front."
 #![tactic(auto)]
 
-ghost use Rattle.std.specs.Prelude.{◌≡◌, ◌≤◌};
+ghost use Rattle.std.specs.Prelude.{◌≡◌, ◌≤◌, length};
 ghost use Rattle.meaning.specs.Told as told;
 ghost use Rattle.meaning.specs.Headers.{envelope_most};
-ghost use Rattle.meaning.specs.Memory.{skips_held};
+ghost use Rattle.meaning.specs.Memory.{laid_over, skips_held};
 ghost use Rattle.meaning.specs.Relay.{extension_plan};
 ghost use Rattle.laws_steps.specs.Rows.{cells_at};
 ghost use Rattle.table.specs.Told.{edition_of};
@@ -144,7 +144,7 @@ fn join(
         return refused(OUTPUT_SHORT, long);
     }
     put_extension(known, table, pool, many, output);
-    output[size..long].copy_from_slice(&input[..place]);
+    lay(&input[..place], &mut output[size..]);
     fill(
         edition,
         Strictness::Strict,
@@ -154,4 +154,12 @@ fn join(
         long,
         count,
     )
+}
+
+// Over the front of `output`; nothing behind it changes.
+fn lay(bytes: &[u8], output: &mut [u8])
+    requires { length bytes.now ≤ length output.old }
+    ensures { output.new ≡ laid_over output.old bytes.now }
+{
+    output[..bytes.len()].copy_from_slice(bytes);
 }
