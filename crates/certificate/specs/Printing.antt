@@ -21,7 +21,7 @@ pub data Calls (answer place count : ℕ) (rows bytes : List ℕ) : ℕ → ℕ 
       → Calls answer place count rows bytes line byte (take piece.length after ++ joined)
 
 -- they write the text from their cursor on
-pub pieces_joined : {answer place count line byte : ℕ} {rows bytes joined : List ℕ} → Calls answer place count rows bytes line byte joined → joined ≡ text_at answer place count rows bytes line byte
+pub pieces_joined : {answer place count : ℕ} {rows bytes : List ℕ} {line byte : ℕ} {joined : List ℕ} → Calls answer place count rows bytes line byte joined → joined ≡ text_at answer place count rows bytes line byte
 pieces_joined (last p room none) = sym (p.goes room none)
 pieces_joined {answer} {place} {count} {rows = rows} {bytes = bytes} (further {before = before} {after = after} {joined = joined} {piece = piece} p c) =
     ap (λ (x : List ℕ). take piece.length x ++ joined) p.lays ∙ ap (λ (x : List ℕ). x ++ joined) (laid_front before p.piece (sym p.long)) ∙ ap (λ (x : List ℕ). p.piece ++ x) (pieces_joined c) ∙ sym p.is
@@ -33,7 +33,7 @@ pub data Going (answer place count : ℕ) (rows bytes : List ℕ) : ℕ → ℕ 
       → Going answer place count rows bytes (suc n) line byte
 
 -- they are no more than the text from their cursor on has bytes
-pub calls_few : {answer place count n line byte : ℕ} {rows bytes : List ℕ} → Going answer place count rows bytes n line byte → n ≤ length (text_at answer place count rows bytes line byte)
+pub calls_few : {answer place count : ℕ} {rows bytes : List ℕ} {n line byte : ℕ} → Going answer place count rows bytes n line byte → n ≤ length (text_at answer place count rows bytes line byte)
 calls_few begun = omega arith
 calls_few {answer} {place} {count} {rows = rows} {bytes = bytes} (again {piece = piece} p some g) =
     let few = calls_few g in
