@@ -54,7 +54,7 @@ pub extern "C" fn gamulisyan_read_plain(
     rows: &mut [u32],
     words: &mut [u32],
 ) -> Reply
-    ensures { ReadPromise edition input.now rows.old words.old result rows.new words.new }
+    ensures as_read { ReadPromise edition input.now rows.old words.old result rows.new words.new }
 {
     plain::read::read_plain(edition, input, rows, words)
 }
@@ -66,7 +66,7 @@ pub extern "C" fn gamulisyan_read_plain_tolerant(
     rows: &mut [u32],
     words: &mut [u32],
 ) -> Reply
-    ensures { TolerantPromise edition input.now rows.old words.old result rows.new words.new }
+    ensures as_read_tolerant { TolerantPromise edition input.now rows.old words.old result rows.new words.new }
 {
     plain::read::read_plain_tolerant(edition, input, rows, words)
 }
