@@ -8,16 +8,16 @@ use Rattle.meaning.specs.Headers.{Placed, accepted, read_by}
 use Rattle.meaning.specs.Memory.{read_reply, room_with, laid_over}
 use Rattle.meaning.specs.Which.{Sorted, editions_of, read_either, which_answer}
 use Rattle.papers.specs.Notation.{Trees, flat, size, laid}
-use Rattle.papers.specs.OneTree.{flat_size}
-use Rattle.papers.specs.Same.{Message, accepts_messages, message_laid}
-use Rattle.papers.specs.WritesTrees.{WritesTrees, writes_trees}
-use Rattle.papers.specs.Children.{tree_words}
-use Rattle.papers.specs.ByTrees.{words_read_by_trees}
-use Rattle.papers.specs.PresentTrees.{PresentIn, present_in_trees}
+use Rattle.papers.proofs.OneTree.{flat_size}
+use Rattle.papers.proofs.Same.{Message, accepts_messages, message_laid}
+use Rattle.papers.proofs.WritesTrees.{WritesTrees, writes_trees}
+use Rattle.papers.proofs.Children.{tree_words}
+use Rattle.papers.proofs.ByTrees.{words_read_by_trees}
+use Rattle.papers.proofs.PresentTrees.{PresentIn, present_in_trees}
 use Rattle.table.specs.declared.reply.Reply as declared
 use Rattle.reader.specs.Promises.{ReadsBy, ReadPromise, TolerantPromise}
 use Rattle.writer.specs.Promise.{WritePromise}
-use Rattle.papers.specs.BothPapers.{AllowedAs, editions_are_papers}
+use Rattle.papers.proofs.BothPapers.{AllowedAs, editions_are_papers}
 use Rattle.present.specs.Promise.{PresentPromise}
 use Rattle.which.specs.declared.Sorted as which
 use Rattle.which.specs.Promise.{WhichPromise}

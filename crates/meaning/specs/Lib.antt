@@ -24,7 +24,6 @@ pub mod Listing
 pub mod Figures
 -- Instances, which are theorems: how a case is held against the definitions, document 01's own, then our own, each file named after what it tries.
 pub mod Cases
-pub mod Instances
 pub mod AcceptedCases
 pub mod RefusedCases
 pub mod CodingCases
@@ -43,7 +42,4 @@ pub mod FurtherCases
 pub mod DigitCases
 pub mod FittingCases
 pub mod LongCases
-pub mod LimitCases
 pub mod QuickCases
-pub mod Bounds
-pub mod Between

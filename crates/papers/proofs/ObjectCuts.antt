@@ -12,9 +12,9 @@ use Rattle.meaning.specs.Grammar.{standing, start_in}
 use Rattle.papers.specs.Notation.{Trees, end, tree, ◌⨾◌, ◌then◌, first, other, present, many, byte, only, met, shows, holds, coded}
 use Rattle.laws_steps.specs.Values.{allowed}
 use Rattle.papers.specs.Papers.{Any, UserDefinedParameter}
-use Rattle.papers.specs.Texts.{textual, block_in}
-use Rattle.papers.specs.Pieces.{skip, one_again, again, first_of, no_more, agent_extra_lem, extra_move, extra_value, received_extras_lem, itself_as}
-use Rattle.papers.specs.Chains.{Back, row_alone, row_before, row_around, row_beside, pass_alone, dated, parameter, encrypted, received_date_lem, from_over, id_over, via_over, received_extra_lem}
+use Rattle.papers.proofs.Texts.{textual, block_in}
+use Rattle.papers.proofs.Pieces.{skip, one_again, again, first_of, no_more, agent_extra_lem, extra_move, extra_value, received_extras_lem, itself_as}
+use Rattle.papers.proofs.Chains.{Back, row_alone, row_before, row_around, row_beside, pass_alone, dated, parameter, encrypted, received_date_lem, from_over, id_over, via_over, received_extra_lem}
 
 module _ (t : Told) where
   -- a representation, or an any-value: each move is all of it

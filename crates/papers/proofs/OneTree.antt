@@ -7,9 +7,9 @@ use Rattle.meaning.specs.Headers.{Placed, placed_row, accepted, header}
 use Rattle.papers.specs.Notation.{Trees, end, tree, flat, size, skip_numbers}
 use Rattle.papers.specs.Papers.{Header}
 use Rattle.papers.specs.TreeSkips.{ranks}
-use Rattle.papers.specs.Header.{papers_in}
+use Rattle.papers.proofs.Header.{papers_in}
 use Rattle.papers.specs.Reads.{envelopes_read}
-use Rattle.papers.specs.Nested.{header_skips}
+use Rattle.papers.proofs.Nested.{header_skips}
 
 pub flat_size : (ts : Trees) → length (flat ts) ≡ size ts
 flat_size end = refl

@@ -10,8 +10,8 @@ use Rattle.laws_steps.specs.Logic.{are_bytes}
 use Rattle.laws_tables.specs.Ties.{read_as}
 use Rattle.laws_demands.specs.BothEditions.{one_table}
 use Rattle.papers.specs.Notation.{Trees}
-use Rattle.papers.specs.OneTree.{one_nesting}
-use Rattle.papers.specs.Same.{Message, message_read, accepts_messages}
+use Rattle.papers.proofs.OneTree.{one_nesting}
+use Rattle.papers.proofs.Same.{Message, message_read, accepts_messages}
 
 -- the paper of this edition allows the input: it is a message of it
 abbrev pub AllowedBy : ℕ → List ℕ → Type 0

@@ -18,7 +18,7 @@ use Rattle.papers.specs.Notation.{Trees, end, tree, ◌⊕◌, flat, Syntax, Val
 use Rattle.papers.specs.Values.{NullTerminatedString, string}
 use Rattle.papers.specs.Papers.{ByteSequence, Any, UserDefinedParameter, Addresses, AgentIdentifier, Resolvers}
 use Rattle.papers.specs.Moves.{Steps, still, row, silent, re_place, re_byte, re_row, re_end, join, from_wider}
-use Rattle.papers.specs.Texts.{string_ok, LenOf, block_out}
+use Rattle.papers.proofs.Texts.{string_ok, LenOf, block_out}
 
 pub flat_⊕ : (ts us : Trees) → flat (ts ⊕ us) ≡ flat ts ++ flat us
 flat_⊕ end us = refl

@@ -15,8 +15,8 @@ use Rattle.papers.specs.Notation.{Trees, end, tree, ◌⊕◌, flat, Syntax, ◌
 use Rattle.laws_steps.specs.Values.{allowed}
 use Rattle.papers.specs.Values.{NullTerminatedString}
 use Rattle.papers.specs.Papers.{Any, UserDefinedParameter, UrlSequence, Addresses, AgentIdentifier, AgentIdentifierSequence, Resolvers, EndOfCollection, ReceivedObject, ACLRepresentation, Date, Parameter, StringSequence}
-use Rattle.papers.specs.Walks.{flat_⊕, and_false}
-use Rattle.papers.specs.Walked.{AfterDate, AfterFrom, AfterId}
+use Rattle.papers.proofs.Walks.{flat_⊕, and_false}
+use Rattle.papers.proofs.Walked.{AfterDate, AfterFrom, AfterId}
 
 -- where a run stands behind that
 abbrev pub behind : Room → ℕ → Bool → State

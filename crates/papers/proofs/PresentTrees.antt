@@ -9,9 +9,9 @@ use Rattle.laws_tables.specs.Ties.{write_as}
 use Rattle.laws_demands.specs.PresentAnswers.{AllWell}
 use Rattle.laws_tables.specs.PresentValues.{passed_written, can_ask_open}
 use Rattle.papers.specs.Notation.{size}
-use Rattle.papers.specs.WritesTrees.{WritesTrees, writes_trees, written_ranks}
-use Rattle.papers.specs.Children.{first_value}
-use Rattle.papers.specs.ByTrees.{present_by_trees}
+use Rattle.papers.proofs.WritesTrees.{WritesTrees, writes_trees, written_ranks}
+use Rattle.papers.proofs.Children.{first_value}
+use Rattle.papers.proofs.ByTrees.{present_by_trees}
 
 -- the rows as a header's trees, with the bytes that the writer gives for them, and the answer
 pub record PresentIn (edition : ℕ) (rows pool : List ℕ) (code place : ℕ) : Type 0 where

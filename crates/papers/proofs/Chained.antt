@@ -13,12 +13,12 @@ use Rattle.meaning.specs.Headers.{Placed}
 use Rattle.meaning.specs.Writing.{valid, write_value}
 use Rattle.papers.specs.Notation.{end, tree, ◌then◌, first, other, many, byte, met, shows, holds, coded}
 use Rattle.laws_steps.specs.Values.{allowed}
-use Rattle.papers.specs.Texts.{textual, number_in}
-use Rattle.papers.specs.Dates.{plain_coded, lettered_coded}
-use Rattle.papers.specs.Pieces.{one_again, again, first_of, no_more, own_parameters_lem, own_dates_lem, opened_as}
-use Rattle.papers.specs.Chains.{Chain, over, Fine, Back, row_alone, row_before, row_beside, pass_alone, pass_before, list, one, name, texts, addresses, resolvers, extra, Begins, representation, dated, parameter, own_text_lem, own_representation_lem, behaviour, encrypted, received_date_lem, date_over, from_over, id_over, via_over, received_extra_lem, shut}
-use Rattle.papers.specs.AgentCuts.{moved_extra, moved_resolvers, moved_addresses, moved_name, moved_texts, moved_list, moved_one}
-use Rattle.papers.specs.ObjectCuts.{moved_representation, moved_own_representation, moved_behaviour, moved_received_extra, moved_own_text, moved_encrypted, moved_begins, moved_date_over, moved_from_over, moved_id_over, moved_via_over}
+use Rattle.papers.proofs.Texts.{textual, number_in}
+use Rattle.papers.proofs.Dates.{plain_coded, lettered_coded}
+use Rattle.papers.proofs.Pieces.{one_again, again, first_of, no_more, own_parameters_lem, own_dates_lem, opened_as}
+use Rattle.papers.proofs.Chains.{Chain, over, Fine, Back, row_alone, row_before, row_beside, pass_alone, pass_before, list, one, name, texts, addresses, resolvers, extra, Begins, representation, dated, parameter, own_text_lem, own_representation_lem, behaviour, encrypted, received_date_lem, date_over, from_over, id_over, via_over, received_extra_lem, shut}
+use Rattle.papers.proofs.AgentCuts.{moved_extra, moved_resolvers, moved_addresses, moved_name, moved_texts, moved_list, moved_one}
+use Rattle.papers.proofs.ObjectCuts.{moved_representation, moved_own_representation, moved_behaviour, moved_received_extra, moved_own_text, moved_encrypted, moved_begins, moved_date_over, moved_from_over, moved_id_over, moved_via_over}
 use Rattle.papers.specs.Moves.{Steps, still, row, silent}
 
 module _ (t : Told) where

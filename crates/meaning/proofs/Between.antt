@@ -21,7 +21,7 @@ use Rattle.meaning.specs.FurtherCases.{further}
 use Rattle.meaning.specs.DigitCases.{ranges}
 use Rattle.meaning.specs.FittingCases.{fitting}
 use Rattle.meaning.specs.LongCases.{long}
-use Rattle.meaning.specs.Bounds.{and_then, bounds}
+use Rattle.meaning.proofs.Bounds.{and_then, bounds}
 
 pub between : T (and_then further (λ _. and_then ranges (λ _. and_then fitting (λ _. and_then strange (λ _. long)))))
 unfolding text_byte take_text text_ok turn take_number number_ok last_day passes take_date date_ok high_first too_wide take_bytes block_of take_block block_ok shared own moves take_value find look step_move step run inside envelope header read_by valid write_value way_of fit fit_row close_within close plan_of write_rows belongs belonging held_against cells_of ranks_of skips_of skips_held laid_over write occurs word_of words_of ones_within ones_of answer_by rows_by words_by write_answer write_output payload_start payload_end payload_bytes number_value digits_within digits_of packed decode_number number_decoded number_plain number_bytes number_encoded number_output decode_date date_decoded date_plain date_in_range date_encoded date_output decimal viewed line_of listing_of listing copy_all look_on all_envelopes looked_up present checked present_answer lookup editions_of read_either which_answer which_rows which_words moved_table relay relay_answer relay_rows relay_words relay_output

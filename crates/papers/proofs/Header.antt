@@ -12,14 +12,14 @@ use Rattle.meaning.specs.Grammar.{head_size}
 use Rattle.laws_steps.specs.Envelopes.{wrap_length}
 use Rattle.papers.specs.Notation.{Trees, end, tree, ◌⊕◌, flat, Syntax, ◌⨾◌, ◌then◌, many, up_to, byte}
 use Rattle.papers.specs.Papers.{ACLRepresentation, Date, ReceivedObject, Parameter, BaseEnvelope, ExtEnvelope, Header}
-use Rattle.papers.specs.Walks.{flat_⊕}
-use Rattle.papers.specs.Walked.{base_walks, extension_walks}
-use Rattle.papers.specs.Pieces.{⊕_assoc}
-use Rattle.papers.specs.Chains.{rest, follow, Chain, over, link, Begins, representation}
-use Rattle.papers.specs.Chained.{chained}
+use Rattle.papers.proofs.Walks.{flat_⊕}
+use Rattle.papers.proofs.Walked.{base_walks, extension_walks}
+use Rattle.papers.proofs.Pieces.{⊕_assoc}
+use Rattle.papers.proofs.Chains.{rest, follow, Chain, over, link, Begins, representation}
+use Rattle.papers.proofs.Chained.{chained}
 use Rattle.papers.specs.Envelopes.{Inside, Envelopes, the_base, extension}
-use Rattle.papers.specs.Headed.{to_right, to_left, opened}
-use Rattle.papers.specs.Headed
+use Rattle.papers.proofs.Headed.{to_right, to_left, opened}
+use Rattle.papers.proofs.Headed
 
 module _ (t : Told) where
   -- what the envelopes hold

@@ -17,9 +17,9 @@ use Rattle.meaning.specs.Editions.{representations, any_values}
 use Rattle.laws_steps.specs.Values.{allowed}
 use Rattle.papers.specs.Values.{BinDate, designated, BinNumber}
 use Rattle.papers.specs.Papers.{Any, UserDefinedParameter, AgentIdentifier, AgentIdentifierSequence, agent, Via, Id, From, ReceivedObject, ACLRepresentation, Date, Parameter, StringSequence, PredefinedParameter, UserDefinedSlot}
-use Rattle.papers.specs.Texts.{number_out}
-use Rattle.papers.specs.Dates.{plain_passes, lettered_passes}
-use Rattle.papers.specs.Walks.{not_agent, ends_moving, more_moving, optional_moving, B≢D, Walk, Stands, walk_then, walk_either, walk_many, walk_node, walk_leaf, walk_byte, walk_optional, coded_text, bare_text, opening, coded_block, agent_walks}
+use Rattle.papers.proofs.Texts.{number_out}
+use Rattle.papers.proofs.Dates.{plain_passes, lettered_passes}
+use Rattle.papers.proofs.Walks.{not_agent, ends_moving, more_moving, optional_moving, B≢D, Walk, Stands, walk_then, walk_either, walk_many, walk_node, walk_leaf, walk_byte, walk_optional, coded_text, bare_text, opening, coded_block, agent_walks}
 
 module _ (t : Told) where
   -- what may follow in a received object

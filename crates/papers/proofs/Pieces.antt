@@ -11,7 +11,7 @@ use Rattle.meaning.specs.Grammar.{standing, start_in}
 use Rattle.papers.specs.Notation.{Trees, end, tree, ◌⊕◌, Syntax, ◌⨾◌, ◌then◌, first, other, optional, absent, present, many, met, leaf, shows, node, holds, opens, itself, ◌⊳◌, coded}
 use Rattle.papers.specs.Values.{NullTerminatedString}
 use Rattle.papers.specs.Papers.{Any, UserDefinedParameter}
-use Rattle.papers.specs.Texts.{textual}
+use Rattle.papers.proofs.Texts.{textual}
 
 pub ⊕_assoc : (ts us vs : Trees) → (ts ⊕ us) ⊕ vs ≡ ts ⊕ (us ⊕ vs)
 ⊕_assoc end us vs = refl

@@ -9,8 +9,8 @@ use Rattle.meaning.specs.Kinds.{extension_opens, base_opens, standard_representa
 use Rattle.papers.specs.Notation.{Trees, end, tree, laid, ◌then◌, first, other, absent, present, many, up_to, byte, these, met, shows, holds, opens, itself, coded}
 use Rattle.papers.specs.Values.{short}
 use Rattle.papers.specs.Papers.{of, Header}
-use Rattle.papers.specs.Texts.{textual, block_in, number_in}
-use Rattle.papers.specs.Dates.{plain_coded, lettered_coded}
+use Rattle.papers.proofs.Texts.{textual, block_in, number_in}
+use Rattle.papers.proofs.Dates.{plain_coded, lettered_coded}
 use Rattle.papers.specs.ExampleTexts.{may_date}
 
 abbrev whole_extension : List ℕ

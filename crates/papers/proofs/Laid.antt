@@ -8,7 +8,7 @@ use Rattle.meaning.specs.Memory.{skips_of, Numbers, row, rank_of, numbers_in, ro
 use Rattle.papers.specs.Notation.{Trees, end, tree, flat, size, skip_numbers, laid}
 use Rattle.papers.specs.Papers.{Header}
 use Rattle.papers.specs.TreeSkips.{ranks, Nested, belonging_is, size_is}
-use Rattle.papers.specs.Nested.{header_nested}
+use Rattle.papers.proofs.Nested.{header_nested}
 
 -- the rows of trees, as numbers
 abbrev numbers : Trees → List Numbers

@@ -17,11 +17,11 @@ use Rattle.laws_steps.specs.Logic.{left_of, right_of, is_true}
 use Rattle.papers.specs.Notation.{Trees, end, tree, flat, size}
 use Rattle.papers.specs.Papers.{Header}
 use Rattle.papers.specs.TreeSkips.{ranks, NotNext, Nested, belonging_is, size_is}
-use Rattle.papers.specs.Nested.{header_nested}
-use Rattle.papers.specs.Laid.{ranks_flat}
+use Rattle.papers.proofs.Nested.{header_nested}
+use Rattle.papers.proofs.Laid.{ranks_flat}
 use Rattle.papers.specs.Holding.{lists_agents, kind_in, level_in, may_hold, Tops, Each}
-use Rattle.papers.specs.Held.{opens_envelope, header_holding}
-use Rattle.papers.specs.Children.{has, NoValues, Children, children_of, children_occur, child_bits, tree_words, first_child, first_value}
+use Rattle.papers.proofs.Held.{opens_envelope, header_holding}
+use Rattle.papers.proofs.Children.{has, NoValues, Children, children_of, children_occur, child_bits, tree_words, first_child, first_value}
 
 -- No envelope stands inside another row
 

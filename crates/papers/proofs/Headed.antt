@@ -10,7 +10,7 @@ use Rattle.meaning.specs.Grammar.{head_size}
 use Rattle.papers.specs.Notation.{Trees, end, tree, ◌⊕◌, Syntax, ◌⨾◌, ◌then◌, first, other, byte, these, met}
 use Rattle.papers.specs.Values.{short, long}
 use Rattle.papers.specs.Papers.{EnvLen, envelope, of}
-use Rattle.papers.specs.Pieces.{⊕_assoc}
+use Rattle.papers.proofs.Pieces.{⊕_assoc}
 
 -- "Parentheses are used to group expansions": grouping changes nothing
 module _ {P Q R : Syntax} where

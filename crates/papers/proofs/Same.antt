@@ -11,12 +11,12 @@ use Rattle.laws_tables.specs.Ties.{accepted_known, read_as, from_zero}
 use Rattle.papers.specs.Notation.{Trees, end, tree, ◌⊕◌, flat, laid, ◌then◌}
 use Rattle.papers.specs.Papers.{Header, MessageEnvelope, any}
 use Rattle.papers.specs.Envelopes.{table_of_lem, of_table}
-use Rattle.papers.specs.Header.{papers_in, header_out}
+use Rattle.papers.proofs.Header.{papers_in, header_out}
 use Rattle.papers.specs.Reads.{envelopes_read}
 use Rattle.papers.specs.HeaderBack.{header_found}
 use Rattle.papers.specs.HeaderBack
-use Rattle.papers.specs.Laid.{laid_flat}
-use Rattle.papers.specs.OneTree.{one_tree}
+use Rattle.papers.proofs.Laid.{laid_flat}
+use Rattle.papers.proofs.OneTree.{one_tree}
 
 -- Strictly, for all bytes: a table of the edition is a header of the papers, with its rows in trees
 

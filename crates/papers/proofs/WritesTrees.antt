@@ -15,8 +15,8 @@ use Rattle.laws_demands.specs.Demands.{writes_exactly}
 use Rattle.papers.specs.Notation.{Trees, end, tree, flat, skip_numbers}
 use Rattle.papers.specs.Papers.{Header}
 use Rattle.papers.specs.TreeSkips.{ranks}
-use Rattle.papers.specs.Nested.{header_skips}
-use Rattle.papers.specs.Same.{same}
+use Rattle.papers.proofs.Nested.{header_skips}
+use Rattle.papers.proofs.Same.{same}
 
 -- when rows are written, and as which bytes
 pub record WritesTrees (edition : ℕ) (rows pool : List ℕ) (room : ℕ) (bytes : List ℕ) : Type 0 where

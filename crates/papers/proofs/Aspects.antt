@@ -8,8 +8,8 @@ use Rattle.meaning.specs.Kinds.{base_opens, standard_representation, date_absolu
 use Rattle.papers.specs.Notation.{Trees, end, tree, laid, ◌then◌, first, other, absent, present, many, up_to, byte, these, met, shows, holds, opens, itself, coded}
 use Rattle.papers.specs.Values.{short}
 use Rattle.papers.specs.Papers.{of, Header}
-use Rattle.papers.specs.Texts.{textual}
-use Rattle.papers.specs.Dates.{plain_coded}
+use Rattle.papers.proofs.Texts.{textual}
+use Rattle.papers.proofs.Dates.{plain_coded}
 use Rattle.papers.specs.ExampleTexts.{an_id, bar_acc, bar_acc_one, bar_acc_three, bar_acc_two, bar_resolver, foo_acc, foobar_acc, foobar_acc_one, foobar_acc_three, foobar_acc_two, foobar_resolver, intended, no_comments, no_encryption, receiver, sender, us_ascii, may_date}
 
 -- 002's second example, edition D, in which all aspects occur: samples/all-aspects.envelope

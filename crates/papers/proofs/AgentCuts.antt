@@ -14,9 +14,9 @@ use Rattle.meaning.specs.Grammar.{standing, start_in}
 use Rattle.papers.specs.Notation.{Trees, end, tree, ◌then◌, first, other, many, byte, shows, node, holds, ◌⊳◌, coded}
 use Rattle.laws_steps.specs.Values.{allowed}
 use Rattle.papers.specs.Papers.{AgentName, AgentIdentifier}
-use Rattle.papers.specs.Texts.{textual, block_in}
-use Rattle.papers.specs.Pieces.{skip, taken, one_again, again, first_of, no_more, agent_extra_lem, extra_move, extra_value, opened_as}
-use Rattle.papers.specs.Chains.{Agent, Extras, FromResolvers, FromAddresses, left, behind, Back, row_alone, row_before, row_around, row_beside, pass_alone, agent_ends_lem, deep_list, list_ends_lem, list, name, texts, addresses, resolvers, extra}
+use Rattle.papers.proofs.Texts.{textual, block_in}
+use Rattle.papers.proofs.Pieces.{skip, taken, one_again, again, first_of, no_more, agent_extra_lem, extra_move, extra_value, opened_as}
+use Rattle.papers.proofs.Chains.{Agent, Extras, FromResolvers, FromAddresses, left, behind, Back, row_alone, row_before, row_around, row_beside, pass_alone, agent_ends_lem, deep_list, list_ends_lem, list, name, texts, addresses, resolvers, extra}
 
 module _ (t : Told) where
   pub moved_extra : (n : ℕ) (o : Bool) (m : Move) → In m (moves t.edition agent_extra) → Back t (state agent_extra (suc n) o) m

@@ -9,7 +9,7 @@ use Rattle.laws_steps.specs.Nesting.{false_not, value_is, Belongs, deeper_belong
 use Rattle.papers.specs.Notation.{Trees, flat, skip_numbers, Syntax, Value, ◌⨾◌, ◌then◌, many, leaf, node, itself}
 use Rattle.papers.specs.Papers.{EnvLen, EndOfCollection, Any, ACLRepresentation, Date, UserDefinedParameter, Addresses, Resolvers, AgentIdentifier, AgentIdentifierSequence, agent, ReceivedObject, PredefinedParameter, UserDefinedSlot, Parameter, BaseEnvelope, ExtEnvelope, Header}
 use Rattle.papers.specs.TreeSkips.{ranks, Nested, skips_are}
-use Rattle.papers.specs.Nesting.{Class, Every, Own, Up, Good, good_then, good_either, good_byte, good_unseen, good_optional, good_many, good_up_to, good_when, good_node, good_leaf, good_envelope}
+use Rattle.papers.proofs.Nesting.{Class, Every, Own, Up, Good, good_then, good_either, good_byte, good_unseen, good_optional, good_many, good_up_to, good_when, good_node, good_leaf, good_envelope}
 
 -- What follows
 

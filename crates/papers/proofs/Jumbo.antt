@@ -13,8 +13,8 @@ use Rattle.papers.specs.Notation.{Trees, end, tree, ◌⨾◌, ◌then◌, first
 use Rattle.papers.specs.Values.{plain, String, empty, character, string}
 use Rattle.papers.specs.Papers.{ACLRepresentation, Date, Parameter, BaseEnvelope, Header}
 use Rattle.papers.specs.ExampleTexts.{may_date}
-use Rattle.papers.specs.Examples.{the_date}
-use Rattle.papers.specs.Headed
+use Rattle.papers.proofs.Examples.{the_date}
+use Rattle.papers.proofs.Headed
 
 -- n times the letter a
 abbrev pub letters : ℕ → List ℕ

@@ -9,7 +9,7 @@ use Rattle.laws_steps.specs.Logic.{left_of}
 use Rattle.papers.specs.Notation.{Trees, end, tree, size}
 use Rattle.papers.specs.Papers.{Header}
 use Rattle.papers.specs.Holding.{kind_in, level_in, may_hold, holds_one, Tops, Each}
-use Rattle.papers.specs.Held.{opens_envelope, header_holding}
+use Rattle.papers.proofs.Held.{opens_envelope, header_holding}
 
 -- "For an envelope that is the next envelope's row, or the row count": from row i on, each row here opens an envelope, its skip number is the next one's row, and the last one's the count
 abbrev pub EnvelopesSkip : ℕ → ℕ → Trees → Type 0

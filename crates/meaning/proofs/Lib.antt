@@ -1,0 +1,4 @@
+pub mod Instances
+pub mod LimitCases
+pub mod Bounds
+pub mod Between
