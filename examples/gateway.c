@@ -4,7 +4,7 @@
    that is refused only because a length stands too wide is read tolerantly, and then written with its shortest lengths.
 
    Build it at the top of the repository, on x86-64:
-       rt staticlib gamulisyan
+       sh tools/archive
        cc -std=c11 -O2 -I include -o gateway examples/gateway.c target/staticlib/libgamulisyan.a
 
    A line for the editions that allow the header. A line for each envelope, as a monitor prints it: how many different parameters it has, and which. A line for each agent of `to` and of

@@ -3,7 +3,7 @@
    each hop, the last first, and the present values that a delivery desk asks for. The payload would travel behind it, unchanged.
 
    Build it at the top of the repository, on x86-64:
-       rt staticlib gamulisyan
+       sh tools/archive
        cc -std=c11 -O2 -I include -o relay examples/relay.c target/staticlib/libgamulisyan.a
 
    Status: 0 if all went well; 1 for a header, a name or a date that is refused; 2 for wrong use, a file that cannot be read, no memory. */

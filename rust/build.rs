@@ -1,5 +1,5 @@
 //! Says where the archive is: in the folder that GAMULISYAN_LIB_DIR names; else beside the crate in `lib`, as a release's bundle has it;
-//! else where `rt staticlib gamulisyan` leaves it in the repository.
+//! else where `sh tools/archive` leaves it in the repository.
 
 use std::path::{Path, PathBuf};
 

@@ -20,10 +20,20 @@ function defined(name, where,  f, list, n, i) {
   return 0
 }
 
+# a name of several words that no code has is a definition's or a theorem's: it stands where the row says
+function is_lemma(name) { return name ~ /_/ && places[name] !~ /\.rt( |$)/ }
+
+# the file of a basename in a crate, among its definitions or its proofs
+function in_crate(c, b) {
+  if (("crates/" c "/specs/" b) in file) return " crates/" c "/specs/" b
+  if (("crates/" c "/proofs/" b) in file) return " crates/" c "/proofs/" b
+  return ""
+}
+
 # the files of a basename, in the layers that the documents speak of
 function specs(b,  out, i, n, list) {
   n = split("meaning papers laws_steps laws_tables laws_demands certificate", list, " ")
-  for (i = 1; i <= n; i++) if (("crates/" list[i] "/specs/" b) in file) out = out " crates/" list[i] "/specs/" b
+  for (i = 1; i <= n; i++) out = out in_crate(list[i], b)
   return out
 }
 
@@ -61,9 +71,9 @@ skip || /^\|---/ { next }
       if (meaning) {
         k = split(part[i], w, /[^A-Za-z]+/)
         for (j = 1; j <= k; j++) {
-          if (j > 1 && w[j - 1] == "papers" && ("crates/papers/specs/" w[j] ".antt") in file) module = " crates/papers/specs/" w[j] ".antt "
+          if (j > 1 && w[j - 1] == "papers" && in_crate("papers", w[j] ".antt") != "") module = in_crate("papers", w[j] ".antt") " "
           else if (j > 1 && w[j - 1] == "laws" && specs(w[j] ".antt") != "") module = specs(w[j] ".antt") " "
-          else if (("crates/meaning/specs/" w[j] ".antt") in file) module = " crates/meaning/specs/" w[j] ".antt "
+          else if (in_crate("meaning", w[j] ".antt") != "") module = in_crate("meaning", w[j] ".antt") " "
         }
       }
       continue
@@ -74,7 +84,7 @@ skip || /^\|---/ { next }
     else if (token ~ /^[A-Za-z_]+::[a-z_]+$/) { split(token, w, "::"); if (w[1] in crate) report(defined(w[2], " " w[1] " "), "no function " token) }
     else if (token ~ /^[A-Za-z][A-Za-z0-9_-]*$/) {
       if (meaning) report(defined(token, module), token " is not in" module)
-      else if (token !~ /^(requires|else|match|list|check|release)$/) report(defined(token, token ~ /-/ || forms ? where : ""), token " is not in" where)
+      else if (token !~ /^(requires|else|match|list|check|release)$/) report(defined(token, is_lemma(token) || forms ? where : ""), token " is not in" where)
     }
   }
 }

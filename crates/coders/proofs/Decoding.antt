@@ -1,5 +1,5 @@
 -- A slice that must hold exactly one value: what a decoder answers, from the span of the value at its front.
-use Prim.Native.Nat.{ℕ, suc, ◌+◌, ◌-◌, ◌*◌, ◌/◌, ◌≤◌, ◌<◌}
+use Prim.Native.Nat.{ℕ, suc, ◌+◌, ◌-◌, ◌≤◌, ◌<◌}
 use mathlib.Core.List.{List, [], ◌∷◌, ◌++◌, append-nil}
 use mathlib.Core.Bool.{Bool, true, false, not, ◌||◌}
 use mathlib.Core.Logic.{◌⊎◌, inl, inr}
@@ -11,16 +11,14 @@ use lib.Dec.{eqb}
 use lib.ListN.{length, get_or, length-append}
 use lib.Seq.{take_all}
 use Rattle.meaning.specs.Basics.{pick}
-use Rattle.meaning.specs.Bytes.{Taken, took, failed, prefixed, Check, passes, absolute, relative, date_checks, take_date, take_number, digit_of}
+use Rattle.meaning.specs.Bytes.{Taken, took, failed, prefixed, Check, passes, absolute, relative, date_checks, take_date, take_number}
 use Rattle.meaning.specs.Plain.{decoded, undecoded, exactly, Reached, no_reach, reach_of, number_value, decode_number, number_decoded, number_plain, Date as PlainDate, date_of, dated, decode_date, date_decoded, date_plain}
 use Rattle.meaning.specs.Kinds.{date_absolute, date_forward, date_backward}
 use Rattle.laws_steps.specs.From.{from, from_length, from_end, from_cons}
-use Rattle.values.specs.declared.Value.{Value}
-use Rattle.values.specs.declared.Value.TheVariants.{Is, Refused}
 use Rattle.values.specs.declared.number.Number.{Number}
 use Rattle.values.specs.declared.number.Number.TheVariants.{Counts, Fails}
 use Rattle.coders.specs.declared.Date.{Date}
-use Rattle.values.specs.Stages.{span, spans, misses, Valued}
+use Rattle.values.specs.Stages.{span, spans, misses}
 use Rattle.values.specs.Answers.{valued_at, valued_refused}
 use Rattle.values.specs.Numbers.{counts, tally, tallied, Counted}
 use Rattle.date.specs.Dates.{reaching, date_length, check_at, earlier}

@@ -1,7 +1,6 @@
 -- What the coding of numbers and dates to and from plain values promises: document 01's outcome and value, for any input at all.
-use Rattle.std.specs.Prelude.{ℕ, ◌+◌, ◌*◌, ◌/◌, ◌%◌, ◌≤◌, List, [], ◌∷◌, Bool, ◌&&◌, ◌||◌, ◌≡◌, leb, eqb, length, get_or}
+use Rattle.std.specs.Prelude.{ℕ, ◌+◌, ◌*◌, ◌/◌, ◌%◌, List, [], ◌∷◌, Bool, ◌&&◌, ◌||◌, ◌≡◌, leb, eqb, length}
 use Rattle.meaning.specs.Kinds.{date_absolute, date_forward, date_backward}
-use Rattle.meaning.specs.Bytes.{two_digits}
 use Rattle.meaning.specs.Plain.{outcome, decode_outcome, number_decoded, number_plain, number_encoded, number_output, Date as PlainDate, Reached, decode_reach, components_of, date_decoded, date_plain, encode_outcome, encode_memory, date_bytes, pair_byte, fits_digits, reach_allows, date_encoded, date_output}
 use Rattle.coders.specs.declared.decode.DecodedNumber.{DecodedNumber}
 use Rattle.coders.specs.declared.encode.Encoded.{Encoded}

@@ -1,5 +1,5 @@
 -- A date decoded byte by byte: what is known where each part of it is behind.
-use Rattle.std.specs.Prelude.{ℕ, ◌+◌, ◌-◌, ◌*◌, ◌/◌, ◌≤◌, ◌<◌, List, [], Bool, true, false, ◌⊎◌, ◌≡◌, ltb, length, get_or}
+use Rattle.std.specs.Prelude.{ℕ, ◌+◌, ◌*◌, ◌/◌, ◌≤◌, ◌<◌, List, [], Bool, true, false, ◌⊎◌, ◌≡◌, ltb, length, get_or}
 use Rattle.meaning.specs.Bytes.{digit_of, two_digits, passes, date_checks, take_date}
 use Rattle.meaning.specs.Plain.{Date}
 use Rattle.laws_steps.specs.From.{from}

@@ -1,6 +1,7 @@
 // Numbers and dates to and from plain values: "Number and date decoders answer 9 or 10 with the place in their own slice";
 // "Encoders answer 9 or 10, place 0, for a value out of range, and then 16 for room."
 #![tactic(auto)]
+
 mod decimal;
 pub mod decode;
 pub mod encode;

@@ -2,13 +2,12 @@
 use Prim.Native.Nat.{ℕ, suc, ◌+◌, ◌≤◌, ◌<◌}
 use mathlib.Core.List.{List}
 use mathlib.Core.Bool.{Bool, true, false}
-use mathlib.Core.Path.{◌≡◌, refl, ap, sym, ◌∙◌}
+use mathlib.Core.Path.{◌≡◌, refl, ◌∙◌}
 use native.Mathlib.Omega.{arith}
 use borrow.Author.Tests.{le-leb, lt-leb, lt-ltb, le-ltb}
 use lib.Dec.{T}
 use Rattle.meaning.specs.Basics.{pick}
-use Rattle.meaning.specs.Plain.{Outcome, outcome}
-use Rattle.meaning.specs.Figures.{Message, messages_in, messages_most, are_figures, sums, adds_of, entry_of, takes_more, add_answer, add_figures, joinable, join_answer, join_figures}
+use Rattle.meaning.specs.Figures.{messages_in, messages_most, are_figures, sums, adds_of, entry_of, takes_more, add_answer, add_figures, joinable, join_answer, join_figures}
 use Rattle.laws_steps.specs.Logic.{are_bytes}
 use Rattle.figures.specs.Stages.{judged}
 use Rattle.figures.specs.Promises.{message, AddPromise, JoinPromise}

@@ -2,17 +2,16 @@
 use Prim.Native.Nat.{ℕ, zero, suc, ◌+◌, ◌-◌, ◌*◌, ◌≤◌, ◌<◌}
 use mathlib.Core.List.{List, [], ◌∷◌}
 use mathlib.Core.Bool.{Bool, true, false, ◌&&◌}
-use mathlib.Core.Path.{◌≡◌, refl, ap, sym, ◌∙◌}
+use mathlib.Core.Path.{◌≡◌, refl, ap, ◌∙◌}
 use native.Mathlib.Omega.{arith}
 use borrow.Author.Tests.{leb-true, ltb-true, ltb-false, eqb-true, eqb-false}
 use lib.Dec.{leb, ltb, eqb}
-use lib.ListN.{length, take, drop, get_or, drop_of_length-le}
+use lib.ListN.{length, take, drop, get_or}
 use lib.Seq.{get_or-drop}
 use Rattle.meaning.specs.Headers.{envelope_most, envelopes_most}
 use Rattle.meaning.specs.Figures.{sum_of, messages_in, messages_most, edition_width, figures_borrowed, edition_fits, are_figures}
 use Rattle.laws_steps.specs.Logic.{both_hold}
 use Rattle.figures.specs.Stages.{number_bound, Bounded}
-use Rattle.figures.proofs.Judging.{part, sum_next}
 
 -- a number is no more than the sum that it stands in
 in_sum : (n : ℕ) (ns : List ℕ) (i : ℕ) → i < n → get_or ns i 0 ≤ sum_of (take n ns)

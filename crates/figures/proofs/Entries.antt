@@ -1,17 +1,16 @@
 -- What a message counts as, by its label and its strict reading.
-use Prim.Native.Nat.{ℕ, ◌*◌, ◌≤◌}
+use Prim.Native.Nat.{ℕ, ◌≤◌}
 use mathlib.Core.List.{List}
 use mathlib.Core.Bool.{◌&&◌, ◌||◌, not}
 use mathlib.Core.Path.{◌≡◌, refl, ap, sym, ◌∙◌}
 use native.Mathlib.Omega.{arith}
 use lib.Dec.{T, leb, eqb, leb→le}
-use lib.ListN.{length}
-use Rattle.meaning.specs.Told.{Edition, Label, known, unknown, label_of, strict, told}
-use Rattle.meaning.specs.Headers.{Placed, refused, accepted, header, envelope_most, envelopes_most, labelled, read_by, read}
+use Rattle.meaning.specs.Told.{Edition, known, unknown, label_of, strict, told}
+use Rattle.meaning.specs.Headers.{Placed, refused, accepted, header, envelopes_most, labelled, read_by, read}
 use Rattle.meaning.specs.Bytes.{shortest_only}
 use Rattle.meaning.specs.Figures.{apart, taken, turned, entry_in, entry_by, entry_of}
 use Rattle.laws_steps.specs.Logic.{are_bytes, left_of, right_of}
-use Rattle.laws_tables.specs.Refusals.{may_refuse, refused_shape}
+use Rattle.laws_tables.specs.Refusals.{refused_shape}
 use Rattle.laws_tables.specs.EnvelopeCounts.{place_most}
 use Rattle.frames.specs.Counts.{EnvelopesCounted}
 use Rattle.figures.specs.Stages.{number_bound}

@@ -1,16 +1,15 @@
 -- Sums of lent numbers, part by part, and when they are figures.
 use Prim.Native.Nat.{ℕ, suc, ◌+◌, ◌-◌, ◌*◌, ◌≤◌, ◌<◌}
-use mathlib.Core.List.{List, [], ◌∷◌}
+use mathlib.Core.List.{List, ◌∷◌}
 use mathlib.Core.Bool.{Bool, true, false, ◌&&◌}
 use mathlib.Core.Path.{◌≡◌, refl, ap, sym, ◌∙◌}
 use native.Mathlib.Numerals.{add-one}
 use native.Mathlib.Omega.{arith}
-use borrow.Author.Tests.{leb-true, leb-false, le-leb, lt-leb, eqb-true}
+use borrow.Author.Tests.{leb-true, leb-false, lt-leb}
 use lib.Dec.{leb, eqb}
 use lib.ListN.{length, take, drop, get_or}
 use lib.Seq.{drop-cons, get_or-drop}
 use Rattle.meaning.specs.Basics.{pick}
-use Rattle.meaning.specs.Headers.{envelope_most, envelopes_most}
 use Rattle.meaning.specs.Figures.{sum_of, messages_in, messages_most, edition_width, figures_borrowed, edition_fits, are_figures}
 use Rattle.figures.specs.Stages.{capped, judged}
 

@@ -1,18 +1,18 @@
 -- Numbers raised one by one are sums with what an entry adds.
 use Prim.Native.Nat.{ℕ, zero, suc, ◌+◌, ◌-◌, ◌≤◌, ◌<◌}
 use mathlib.Core.List.{List, [], ◌∷◌}
-use mathlib.Core.Bool.{Bool, true, false, ◌&&◌}
+use mathlib.Core.Bool.{Bool, true, false}
 use mathlib.Core.Path.{◌≡◌, refl, ap, sym, ◌∙◌}
 use native.Mathlib.Omega.{arith}
 use borrow.Author.Tests.{eqb-true, eqb-false}
 use lib.Dec.{T, eqb, eqb→eq}
 use lib.ListN.{length, set, get_or, replicate}
 use lib.Seq.{get_or-set_other}
-use Rattle.meaning.specs.Basics.{pick, every}
+use Rattle.meaning.specs.Basics.{every}
 use Rattle.meaning.specs.Told.{Edition, B, D}
 use Rattle.meaning.specs.Cases.{same, up_from}
 use Rattle.meaning.specs.Figures.{apart, taken, turned, adds_of, sums, figures_borrowed}
-use Rattle.laws_steps.specs.Logic.{left_of, right_of, both_hold}
+use Rattle.laws_steps.specs.Logic.{left_of, right_of}
 use Rattle.figures.specs.Stages.{first_of, raised}
 
 abbrev pub zeros : List ℕ

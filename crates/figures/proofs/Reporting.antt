@@ -1,7 +1,7 @@
 -- The report's text, field by field; and a text laid over an output.
 use Prim.Native.Nat.{ℕ, ◌+◌, ◌*◌, ◌/◌, ◌%◌, ◌≤◌, ◌<◌}
 use mathlib.Core.List.{List, [], ◌∷◌, ◌++◌, append_assoc, append-nil, map, map-append}
-use mathlib.Core.Bool.{Bool, true, false}
+use mathlib.Core.Bool.{true, false}
 use mathlib.Core.Path.{◌≡◌, refl, ap, sym, ◌∙◌}
 use native.Mathlib.Omega.{arith}
 use borrow.Author.Tests.{eq-eqb, ne_eqb, le-leb, lt-leb}
@@ -10,7 +10,6 @@ use lib.Seq.{take-append_seam, get_or-drop}
 use Rattle.meaning.specs.Listing.{decimal, line_of}
 use Rattle.meaning.specs.Memory.{laid_over}
 use Rattle.meaning.specs.Figures.{edition_width, mean_of, remainder_of, report_line, report, are_figures, report_answer, report_output}
-use Rattle.pen.specs.Wrote.{Wrote}
 use Rattle.pen.specs.Written.{wrote_then, wrote_as}
 use Rattle.pen.specs.Fields.{fields_of, fields_next, fields_none, line_of_fields}
 use Rattle.figures.specs.declared.Figured.{Figured}

@@ -1,6 +1,7 @@
 // The entries under the names that C and Rust programs link, each with its whole promise; nothing else. `include/gamulisyan.h` declares them
 // and says what each takes, answers, refuses and leaves.
 #![tactic(auto)]
+
 mod callers;
 
 ghost use Rattle.meaning.specs.Words.{ones_of};

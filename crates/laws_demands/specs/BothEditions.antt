@@ -1,18 +1,18 @@
 -- Order 9: "no bytes are allowed by both with different tables, tables meaning rows with starts included". Where both editions accept, the table is plain; and over a
 -- plain table the two readers go the same steps.
-use Rattle.std.specs.Prelude.{ℕ, zero, suc, ◌+◌, ◌≤◌, List, [], ◌∷◌, ◌++◌, map, Bool, true, false, ◌&&◌, ◌⊎◌, ◌≡◌, refl, T, length}
+use Rattle.std.specs.Prelude.{ℕ, zero, suc, ◌+◌, ◌≤◌, List, [], ◌∷◌, ◌++◌, map, Bool, true, false, ◌⊎◌, ◌≡◌, refl, T, length}
 use Rattle.std.proofs.Common.{append_assoc, inl, inr, ap, sym, ◌∙◌, subst, arith, length-append}
 use Rattle.meaning.specs.Told.{Edition, told}
 use Rattle.meaning.specs.Editions.{State}
 use Rattle.meaning.specs.Reading.{Row, Seen, done, with_rows, inside}
-use Rattle.meaning.specs.Headers.{Placed, meant, Answer, refused, accepted, behind, envelopes_most, start, header}
+use Rattle.meaning.specs.Headers.{Placed, meant, refused, accepted, behind, envelopes_most, start, header}
 use Rattle.meaning.specs.Writing.{fits, fit_row, envelope_size, within_limit, wrap}
 use Rattle.laws_steps.specs.Logic.{are_bytes, both_hold}
 use Rattle.laws_steps.specs.Steps.{inside_path, inside_over, step_over}
 use Rattle.laws_steps.specs.WrittenRead.{seen_before, fit_all, then_inv, row_written_read, closing_read, Closes}
 use Rattle.laws_steps.specs.PlainRows.{Crosses, other, is_plain, all_plain, row_crosses}
 use Rattle.laws_steps.specs.Crossing.{closing_crosses}
-use Rattle.laws_steps.specs.Envelopes.{opening_row, Writes, the_base, before, wrap_length, rows_of, base_step, extension_step, plain_behind, plain_append, RefusesHeader, CrossHeader, header_crosses}
+use Rattle.laws_steps.specs.Envelopes.{Writes, the_base, before, wrap_length, rows_of, base_step, extension_step, plain_behind, plain_append, RefusesHeader, CrossHeader, header_crosses}
 use Rattle.laws_tables.specs.Ties.{whole_of, whole_written}
 
 bad : {A : Type 0} → false ≡ true → A

@@ -1,6 +1,6 @@
 -- Order 3: "Absolute dates now have the days of their month by the Gregorian rule": a date that is in range for an absolute kind has such a day.
-use Rattle.std.specs.Prelude.{ℕ, ◌+◌, ◌*◌, ◌/◌, ◌%◌, ◌≤◌, List, [], ◌∷◌, Bool, true, false, ◌&&◌, ◌≡◌, leb}
-use Rattle.std.proofs.Common.{ap, subst, leb-true}
+use Rattle.std.specs.Prelude.{ℕ, ◌/◌, ◌%◌, ◌≤◌, List, [], ◌∷◌, Bool, true, false, ◌&&◌, ◌≡◌, leb}
+use Rattle.std.proofs.Common.{subst, leb-true}
 use Rattle.meaning.specs.Bytes.{Check, is_digit, two_digits, pair_within, passes, day, absolute, last_day, date_checks, date_ok}
 use Rattle.meaning.specs.Plain.{Date, pair_byte, date_bytes, designated, fits_digits, date_in_range}
 use Rattle.meaning.specs.Kinds.{date_absolute}

@@ -11,7 +11,7 @@ use Rattle.meaning.specs.Bytes.{Count, counted, short, high_first}
 use Rattle.meaning.specs.Told.{Edition, Told, told}
 use Rattle.meaning.specs.Editions.{State}
 use Rattle.meaning.specs.Reading.{Out, dry, fault, done, inside}
-use Rattle.meaning.specs.Headers.{Placed, placed_row, placed, Answer, refused, accepted, behind, envelope_most, opening, start, Onward, ends, envelope, short_least, long_least, long_form, sized, base, header}
+use Rattle.meaning.specs.Headers.{Placed, placed_row, placed, Answer, refused, accepted, behind, envelope_most, opening, start, Onward, ends, envelope, short_least, long_least, long_form, sized, header}
 use Rattle.laws_steps.specs.Logic.{are_bytes, other_bytes, bytes_front, bytes_behind}
 use Rattle.laws_steps.specs.Steps.{Wet, never_dry}
 use Rattle.laws_tables.specs.Refusals.{OutNumbered, run_numbered}

@@ -69,13 +69,13 @@ ends_next e row xs i false st f n (envelope_row c) r q ih =
     subst (λ (x : Row). Ends e (cell x ∷ xs) i false st) (sym r) (ends_turn e c xs i st (f c) n (close e st) refl q (ih c (start c) (start_sound c)))
 
 -- rows before the one that fits nowhere begin a table
-Begins : (e : Edition) (xs zs : List Cell) (i : ℕ) (b : Bool) (st : State) → Sound st → plan_of e (xs ++ zs) i b st ≡ stuck (i + length xs) → Ends e xs i b st
+begins : (e : Edition) (xs zs : List Cell) (i : ℕ) (b : Bool) (st : State) → Sound st → plan_of e (xs ++ zs) i b st ≡ stuck (i + length xs) → Ends e xs i b st
 unfolding plan_of
-Begins e [] zs i b st s q = ends_here e i b st s
-Begins e (broken ∷ xs) zs i b st s q = absurd (same_index i (length xs) q)
-Begins e (cell row ∷ xs) zs i b st s q =
+begins e [] zs i b st s q = ends_here e i b st s
+begins e (broken ∷ xs) zs i b st s q = absurd (same_index i (length xs) q)
+begins e (cell row ∷ xs) zs i b st s q =
     ends_next e row xs i b st (plan_of e (xs ++ zs) (suc i)) (length xs) (opens_of row) (opens_is row) q
-    (λ c st₁ s₁ p. Begins e xs zs (suc i) c st₁ s₁ (p ∙ ap stuck (omega arith)))
+    (λ c st₁ s₁ p. begins e xs zs (suc i) c st₁ s₁ (p ∙ ap stuck (omega arith)))
 
 -- A row that fits nowhere
 
@@ -174,7 +174,7 @@ stuck_means e cs j q =
     let h = stuck_between e cs 0 false (state closed 0 false) j q in
     let (xs, zs, p, l) = split_at cs j (omega arith) in
     let r : plan_of e (xs ++ zs) 0 false (state closed 0 false) ≡ stuck (0 + length xs) = ap (λ (x : List Cell). whole_plan e x) (sym p) ∙ q ∙ ap stuck (omega arith) in
-    let (more, bs, (vs, b, _)) = Begins e xs zs 0 false (state closed 0 false) closed_sound r in
+    let (more, bs, (vs, b, _)) = begins e xs zs 0 false (state closed 0 false) closed_sound r in
     (xs, zs, p, l, (map cell more, (bs, vs, b)), none_with xs zs r)
   where
     none_with : (xs zs : List Cell) → plan_of e (xs ++ zs) 0 false (state closed 0 false) ≡ stuck (0 + length xs) → NoneWith e xs zs

@@ -1,6 +1,6 @@
 -- Order 2, over the definitions: "Demands 2 and 3 hold for the joined header". The joined rows with the joined header as their pool are a table that the writer
 -- takes, and gives that header for. And what the lent memory holds after a relay is what the reader would lay there from the output.
-use Rattle.std.specs.Prelude.{ℕ, ◌+◌, ◌≤◌, List, [], ◌∷◌, ◌++◌, map, true, false, ◌⊎◌, ◌≡◌, refl, T, length, take}
+use Rattle.std.specs.Prelude.{ℕ, ◌≤◌, List, [], ◌∷◌, ◌++◌, map, true, false, ◌⊎◌, ◌≡◌, refl, T, length, take}
 use Rattle.std.proofs.Common.{append-nil, ap, sym, ◌∙◌, arith}
 use Rattle.std.proofs.Math.Seq.{take-append_seam}
 use Rattle.meaning.specs.Told.{strict, told}

@@ -1,9 +1,9 @@
 -- A bit of an envelope's word: it is set where its code occurs.
-use Rattle.std.specs.Prelude.{ℕ, zero, suc, ◌+◌, ◌*◌, ◌/◌, ◌%◌, ◌≤◌, List, Bool, true, false, ◌≡◌, refl, eqb}
-use Rattle.std.proofs.Common.{ap, sym, ◌∙◌, arith, ne_eqb}
+use Rattle.std.specs.Prelude.{ℕ, zero, suc, ◌+◌, ◌*◌, ◌/◌, ◌%◌, ◌≤◌, List, Bool, true, false, ◌≡◌, eqb}
+use Rattle.std.proofs.Common.{ap, ◌∙◌, arith, ne_eqb}
 use Rattle.meaning.specs.Basics.{pick}
 use Rattle.meaning.specs.Skips.{Rank}
-use Rattle.meaning.specs.Words.{occurs, bits_of, word_of}
+use Rattle.meaning.specs.Words.{occurs, word_of}
 use Rattle.meaning.specs.Lookup.{lacks}
 
 -- the codes from 02 to 0B, one by one

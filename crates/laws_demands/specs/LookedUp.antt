@@ -1,6 +1,6 @@
 -- Order 8, of tables that the writer accepts and of those that were read: "lent with their true words, the answer equals order 1's and the count is at
 -- most sixteen plus the number of level 0 rows".
-use Rattle.std.specs.Prelude.{ℕ, suc, ◌+◌, ◌%◌, ◌*◌, ◌≤◌, List, [], ◌∷◌, map, true, ◌≡◌, refl, T, eqb, length, take}
+use Rattle.std.specs.Prelude.{ℕ, suc, ◌+◌, ◌%◌, ◌≤◌, List, [], ◌∷◌, map, true, ◌≡◌, T, length, take}
 use Rattle.std.proofs.Common.{ap, sym, ◌∙◌, subst, arith, eq-eqb, le-leb}
 use Rattle.meaning.specs.Told.{Edition, Strictness, told_by}
 use Rattle.meaning.specs.Reading.{Row}
@@ -9,14 +9,14 @@ use Rattle.meaning.specs.Codes.{can_ask}
 use Rattle.meaning.specs.Words.{words_of}
 use Rattle.meaning.specs.Headers.{Placed, meant, accepted, read_by, envelopes_most}
 use Rattle.meaning.specs.Writing.{cell, written}
-use Rattle.meaning.specs.Memory.{row_width, table_of, room_of, cells_of, ranks_of, skips_held, reply, write}
+use Rattle.meaning.specs.Memory.{row_width, table_of, cells_of, ranks_of, skips_held, reply, write}
 use Rattle.meaning.specs.Present.{passed, checked, present}
-use Rattle.meaning.specs.Lookup.{looked_reply, looked_up, lookup}
+use Rattle.meaning.specs.Lookup.{looked_reply, lookup}
 use Rattle.laws_steps.specs.Logic.{are_bytes}
 use Rattle.laws_steps.specs.Rows.{rows_whole}
 use Rattle.laws_tables.specs.Firsts.{first_from}
 use Rattle.laws_steps.specs.Hopping.{ranks_are}
-use Rattle.laws_tables.specs.RightSkips.{standing, cells_ranks, table_right, right_means}
+use Rattle.laws_tables.specs.RightSkips.{cells_ranks, table_right, right_means}
 use Rattle.laws_steps.specs.Envelopes.{Writes}
 use Rattle.laws_steps.specs.Plans.{written_writes}
 use Rattle.laws_tables.specs.Ties.{written_right, accepted_known, written_known, whole_of, cells_placed}

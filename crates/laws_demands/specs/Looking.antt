@@ -2,7 +2,7 @@
 -- of level 0 rows." Hops over such rows stand on level 0 only, and pass over no value.
 use Prim.Native.Nat.{ℕ, zero, suc, ◌+◌, ◌-◌, ◌≤◌, ◌<◌}
 use mathlib.Core.List.{List, [], ◌∷◌}
-use Rattle.std.specs.Prelude.{Bool, ◌&&◌, ◌||◌, not, ◌≡◌, eqb, leb, length, get_or, take, drop}
+use Rattle.std.specs.Prelude.{Bool, ◌&&◌, ◌||◌, not, ◌≡◌, eqb, leb, get_or, take, drop}
 use Rattle.std.proofs.Math.Bool.{true, false}
 use Rattle.std.proofs.Common.{inl, inr, ◌∙◌}
 use Rattle.std.proofs.Math.Path.{refl, ap, sym, subst}
@@ -10,18 +10,18 @@ use native.Mathlib.Omega.{arith}
 use Rattle.std.proofs.Math.Dec.{ltb}
 use borrow.Author.Tests.{eqb-true, eqb-false, eq-eqb, ne_eqb, ltb-true, ltb-false, lt-ltb, le-leb, lt-leb, leb-true}
 use Rattle.meaning.specs.Basics.{pick}
-use Rattle.meaning.specs.Kinds.{extension_opens, agent_name}
+use Rattle.meaning.specs.Kinds.{extension_opens}
 use Rattle.meaning.specs.Skips.{Rank, is_envelope, belonging}
 use Rattle.meaning.specs.Codes.{code_of, has_value, can_ask, date_code}
 use Rattle.meaning.specs.Words.{occurs, word_of, words_of}
 use Rattle.meaning.specs.Headers.{envelopes_most}
 use Rattle.meaning.specs.Memory.{room_of}
-use Rattle.meaning.specs.Lookup.{kind_lent, skip_lent, lacks, left_out, hops_on, Looked, answers_at, wrong_skip, look_on, looked_up}
+use Rattle.meaning.specs.Lookup.{kind_lent, skip_lent, lacks, left_out, hops_on, Looked, answers_at, look_on, looked_up}
 use Rattle.laws_steps.specs.Nesting.{belonging_most}
 use Rattle.laws_tables.specs.Firsts.{first_from}
 use Rattle.laws_steps.specs.Hopping.{rank_at, ranks_at, ranks_for, ranks_length, ranks_next, ranks_drop, given_at, skip_at, skip_forward, skip_most, AllRight}
 use Rattle.laws_tables.specs.Levels.{bad}
-use Rattle.laws_tables.specs.Ranked.{Fair, Ranked, next}
+use Rattle.laws_tables.specs.Ranked.{Ranked, next}
 use Rattle.laws_demands.specs.PassedOver.{level_zero, none_and, first_over_lem, fewer, row_valueless, no_word, words_over, lands, lacking, dateless}
 
 -- words for the envelopes from this number on

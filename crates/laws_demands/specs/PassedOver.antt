@@ -4,7 +4,7 @@ use Rattle.std.proofs.Common.{inl, inr, ap, sym, ◌∙◌, subst, arith, eqb-tr
 use Rattle.std.proofs.Math.Path.{refl}
 use Rattle.std.proofs.lemmas.Bool.{eqb-false}
 use Rattle.meaning.specs.Basics.{pick}
-use Rattle.meaning.specs.Kinds.{extension_opens, agent_name}
+use Rattle.meaning.specs.Kinds.{agent_name}
 use Rattle.meaning.specs.Skips.{Rank, is_envelope, holds_deeper, beside, belongs, belonging}
 use Rattle.meaning.specs.Codes.{code_of, has_value, date_code, is_date, is_representation}
 use Rattle.meaning.specs.Words.{occurs, word_of, words_of}

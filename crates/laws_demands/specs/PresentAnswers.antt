@@ -1,5 +1,5 @@
 -- Order 1, over the definitions: what the entry answers: 1, 17, what the writer refuses, or the row.
-use Rattle.std.specs.Prelude.{ℕ, ◌+◌, ◌-◌, List, [], ◌++◌, Bool, true, false, ◌⊎◌, ◌≡◌, T, leb, length}
+use Rattle.std.specs.Prelude.{ℕ, List, [], ◌++◌, Bool, true, false, ◌⊎◌, ◌≡◌, T, leb, length}
 use Rattle.std.proofs.Common.{append-nil, inl, inr, sym, ◌∙◌, subst, arith, ne_eqb}
 use Rattle.std.proofs.Math.Path.{refl, ap}
 use Rattle.meaning.specs.Basics.{pick}

@@ -1,16 +1,15 @@
 -- Order 9, of the reading that is told no edition: whichever editions allow the bytes, the rows are theirs, starts included; both do exactly if the table is plain; and a
 -- table written under one edition, with any payload, is never answered with the other edition alone.
-use Rattle.std.specs.Prelude.{ℕ, List, ◌++◌, map, Bool, true, false, ◌⊎◌, ◌≡◌, refl, T}
+use Rattle.std.specs.Prelude.{ℕ, List, ◌++◌, map, true, false, ◌⊎◌, ◌≡◌, refl, T}
 use Rattle.std.proofs.Common.{inl, inr, ap, sym, ◌∙◌, arith}
 use Rattle.meaning.specs.Basics.{every}
 use Rattle.meaning.specs.Told.{Edition, B, D, strict, told}
-use Rattle.meaning.specs.Headers.{Placed, meant, Answer, refused, accepted, envelopes_most, header, read}
+use Rattle.meaning.specs.Headers.{Placed, meant, Answer, refused, accepted, read}
 use Rattle.meaning.specs.Writing.{cell, written}
 use Rattle.meaning.specs.Memory.{table_of, cells_of, write}
 use Rattle.meaning.specs.Which.{allowing, either, editions_of, read_either}
 use Rattle.laws_steps.specs.Logic.{are_bytes}
 use Rattle.laws_steps.specs.PlainRows.{other, all_plain}
-use Rattle.laws_steps.specs.Envelopes.{RefusesHeader}
 use Rattle.laws_tables.specs.Ties.{number_of, plain_cell, plain_table, plain_cells, read_known, whole_of, cells_placed}
 use Rattle.laws_demands.specs.BothEditions.{OtherReads, other_reads}
 use Rattle.laws_demands.specs.Demands.{written_then_read}

@@ -9,7 +9,7 @@ use Rattle.meaning.specs.Editions.{closed, state}
 use Rattle.meaning.specs.Headers.{envelopes_most}
 use Rattle.meaning.specs.Writing.{Cell, cell, Envelope, Plan, stuck, plan, whole_plan, header_of, Limit, fine, exceeds, limits, Written, written, unwritten, limited, planned, write_rows, written_under}
 use Rattle.meaning.specs.Skips.{Skips, right, wrong_at}
-use Rattle.meaning.specs.Memory.{room_of, cells_of, skips_held, write}
+use Rattle.meaning.specs.Memory.{cells_of, skips_held, write}
 use Rattle.laws_tables.specs.Ties.{write_as}
 use Rattle.laws_demands.specs.Completing.{Sound}
 use Rattle.laws_demands.specs.Fifteen.{stuck_between}
@@ -49,7 +49,7 @@ stuck_stops e cs i q =
     let count : length front ≡ i = omega (arith, length-take i cs, within.1) in
     let here : whole_plan e (front ++ rest) ≡ stuck (0 + length front) = ap (whole_plan e) (sym parts) ∙ q ∙ ap stuck (omega (arith, count)) in
     let (more, bs, vs, p) = begins_plan e 0 false (state closed 0 false) closed_sound front rest here in
-    record { front = front; rest = rest; parts = parts; count = count; Begins = record { more = map cell more; table = plan_is_table e (front ++ map cell more) bs vs p }; none = none_with e front rest here }
+    record { front = front; rest = rest; parts = parts; count = count; begins = record { more = map cell more; table = plan_is_table e (front ++ map cell more) bs vs p }; none = none_with e front rest here }
 
 -- of two fronts of one list the longer begins with the other and one more
 record Longer (xs zs ys : List Cell) : Type 0 where
@@ -57,24 +57,24 @@ record Longer (xs zs ys : List Cell) : Type 0 where
   rest : List Cell
   more : List Cell
   behind : zs ≡ next ∷ rest
-  Begins : ys ≡ (xs ++ (next ∷ [])) ++ more
+  begins : ys ≡ (xs ++ (next ∷ [])) ++ more
 
 longer : (xs zs ys ws : List Cell) → xs ++ zs ≡ ys ++ ws → length xs < length ys → Longer xs zs ys
 longer [] zs [] ws q h = absurd (omega arith)
-longer [] zs (y ∷ ys) ws q h = record { next = y; rest = ys ++ ws; more = ys; behind = q; Begins = refl }
+longer [] zs (y ∷ ys) ws q h = record { next = y; rest = ys ++ ws; more = ys; behind = q; begins = refl }
 longer (x ∷ xs) zs [] ws q h = absurd (omega arith)
 longer (x ∷ xs) zs (y ∷ ys) ws q h =
     let l = longer xs zs ys ws (cc q) (omega arith) in
     let same : y ≡ x = sym (cc q) in
-    record { next = l.next; rest = l.rest; more = l.more; behind = l.behind; Begins = ap (λ (z : Cell). z ∷ ys) same ∙ ap (λ (z : List Cell). x ∷ z) l.Begins }
+    record { next = l.next; rest = l.rest; more = l.more; behind = l.behind; begins = ap (λ (z : Cell). z ∷ ys) same ∙ ap (λ (z : List Cell). x ∷ z) l.begins }
 
 -- rows that begin a table do not stop before their end
 not_before : (e : Edition) (cs : List Cell) (i j : ℕ) → StopsAt e cs i → StopsAt e cs j → i < j → ⊥
 not_before e cs i j s t h =
     let l = longer s.front s.rest t.front t.rest (sym s.parts ∙ t.parts) (omega (arith, s.count, t.count)) in
     let none : NoneWithNext e s.front (l.next ∷ l.rest) = subst (NoneWithNext e s.front) l.behind s.none in
-    let whole : t.front ++ t.Begins.more ≡ (s.front ++ (l.next ∷ [])) ++ (l.more ++ t.Begins.more) = ap (λ (x : List Cell). x ++ t.Begins.more) l.Begins ∙ append_assoc (s.front ++ (l.next ∷ [])) l.more t.Begins.more in
-    none (record { more = l.more ++ t.Begins.more; table = subst (AreTable e) whole t.Begins.table })
+    let whole : t.front ++ t.begins.more ≡ (s.front ++ (l.next ∷ [])) ++ (l.more ++ t.begins.more) = ap (λ (x : List Cell). x ++ t.begins.more) l.begins ∙ append_assoc (s.front ++ (l.next ∷ [])) l.more t.begins.more in
+    none (record { more = l.more ++ t.begins.more; table = subst (AreTable e) whole t.begins.table })
 
 -- a table does not stop
 table_goes_on : (e : Edition) (cs : List Cell) (i : ℕ) → StopsAt e cs i → AreTable e cs → ⊥

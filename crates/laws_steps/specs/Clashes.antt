@@ -8,7 +8,7 @@ use Rattle.meaning.specs.Bytes.{Taken, took, failed, prefixed, is_digit, two_dig
 use Rattle.meaning.specs.Kinds.{agent_name}
 use Rattle.meaning.specs.Told.{Edition, B, D, Told, told}
 use Rattle.meaning.specs.Editions.{Room, State, Next, outer, inner, inner_one, stay, deeper, list_ends, agent_ends, go, Form, text, date, number, block, itself, opens, quiet, Move, no_code, moves}
-use Rattle.meaning.specs.Reading.{Row, take_value, Found, none, hit, find, has_code, look, is_closed, strange, too_deep, fails, next, step, step_move, fault, with_rows, inside}
+use Rattle.meaning.specs.Reading.{Row, take_value, Found, none, hit, find, has_code, look, is_closed, strange, too_deep, fails, step, step_move, fault, with_rows, inside}
 use Rattle.meaning.specs.Writing.{valid, write_value}
 use Rattle.laws_steps.specs.Logic.{left_of, right_of, both, either, is_false}
 use Rattle.laws_steps.specs.Values.{date_in}

@@ -3,7 +3,7 @@ use Rattle.std.specs.Prelude.{ℕ, zero, suc, ◌+◌, ◌*◌, ◌≤◌, ◌<�
 use Rattle.std.proofs.Common.{append_assoc, ap, sym, ◌∙◌, arith, length-append, eqb-true}
 use Rattle.meaning.specs.Basics.{pick, In}
 use Rattle.meaning.specs.Bytes.{Taken, took, failed, Rule, take_text, text_ok, take_date, date_ok, date_checks, take_number, number_ok, Count, counted, short, high_first, Width, bytes_of, too_wide, take_bytes, block_of, take_block}
-use Rattle.meaning.specs.Told.{known, Told}
+use Rattle.meaning.specs.Told.{Told}
 use Rattle.meaning.specs.Editions.{Room, State, go, Form, text, date, number, block, itself, opens, quiet, is_quiet, Move, no_code, moves}
 use Rattle.meaning.specs.Reading.{Seen, seen, take_value, reach_back, seen_by, Found, none, hit, has_code, look, is_closed, strange, too_deep, Step, fails, over, next, step_taken, value_from, step_move, step, Out, dry, fault, done, with_rows, onward, run, inside}
 use Rattle.laws_steps.specs.Values.{Was, ended, text_out, date_out, number_out, Took, bytes_out}

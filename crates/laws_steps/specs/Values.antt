@@ -2,7 +2,7 @@
 use Rattle.std.specs.Prelude.{ℕ, zero, suc, ◌+◌, ◌*◌, ◌/◌, ◌%◌, ◌≤◌, ◌<◌, List, [], ◌∷◌, ◌++◌, Bool, true, false, ◌&&◌, not, ◌≡◌, refl, T, eqb, leb, ltb, length}
 use Rattle.std.proofs.Common.{append_assoc, ap, sym, subst, arith, leb→le, ltb→lt, lt→ltb, eqb→eq, ne_eqb, le-ltb, eqb-true}
 use Rattle.std.proofs.Math.Dec.{eqb_refl}
-use Rattle.meaning.specs.Told.{known, Told}
+use Rattle.meaning.specs.Told.{Told}
 use Rattle.meaning.specs.Basics.{pick, is_empty}
 use Rattle.meaning.specs.Bytes.{Taken, took, failed, prefixed, Rule, line, note, text_byte, take_text, text_ok, Check, passes, take_date, date_ok, date_checks, Turn, stop, more, wrong, turn, after_turn, ok_turn, take_number, number_ok, take_bytes, high_first, counted, Width, one_byte, two_bytes, four_bytes, bytes_of, fewest, past, shortest_only, too_wide, length_bytes, block_of, take_block, block_ok}
 use Rattle.meaning.specs.Editions.{Form, text, date, number, block, itself, opens, quiet}

@@ -6,7 +6,7 @@ use Rattle.std.proofs.Math.Dec.{eqb_refl}
 use Rattle.meaning.specs.Basics.{pick, every, In, here, there}
 use Rattle.meaning.specs.Told.{Edition}
 use Rattle.meaning.specs.Editions.{Room, parameters, agent_list, after_resolvers, State, state, Next, outer, inner, inner_one, stay, deeper, list_ends, agent_ends, list_end, go, is_quiet, Move, closing, moves, shared, own}
-use Rattle.meaning.specs.Reading.{Row, Found, none, hit, find, or_else, has_code, is_closed, next}
+use Rattle.meaning.specs.Reading.{Row, Found, none, hit, find, or_else, has_code, is_closed}
 use Rattle.meaning.specs.Writing.{stands_for, is_pass, way_to, by_pass, at_level, way_of, unfit, fits, led, fit_by, fit_row, close}
 use Rattle.laws_steps.specs.Logic.{left_of, right_of, either, or_left, or_right, is_false, not_both}
 use Rattle.laws_steps.specs.Tables.{every_in, Hits, find_hits, finds_none, all_rooms, each_room}

@@ -1,6 +1,6 @@
 -- Order 2, over the definitions: what is behind a relay that is not refused. The joined header is a table that the edition writes, and the joined rows and
 -- words are the reader's for it, with any payload behind it.
-use Rattle.std.specs.Prelude.{ℕ, suc, ◌+◌, ◌≤◌, ◌<◌, List, [], ◌∷◌, ◌++◌, map, Bool, true, false, ◌≡◌, T, ltb, length, take}
+use Rattle.std.specs.Prelude.{ℕ, suc, ◌≤◌, ◌<◌, List, [], ◌∷◌, ◌++◌, map, Bool, true, false, ◌≡◌, T, ltb, length, take}
 use Rattle.std.proofs.Common.{append-nil, ap, sym, ◌∙◌, subst, arith, ltb-true, ne_eqb}
 use Rattle.std.proofs.Math.Path.{refl}
 use Rattle.meaning.specs.Basics.{pick}

@@ -1,24 +1,19 @@
 -- Levels in a table: a row stands deeper than the one before it only where that one opens a list or a received object; agents, and what is read of
 -- a received object, never stand at level 0; and dates at level 0 are the base's own. By the moves of each room.
-use Rattle.std.specs.Prelude.{ℕ, zero, suc, ◌≤◌, ◌<◌, List, [], ◌∷◌, ◌++◌, map, Bool, true, false, ◌&&◌, ◌||◌, not, ◌⊎◌, ◌≡◌, refl, T, eqb, ltb}
+use Rattle.std.specs.Prelude.{ℕ, zero, suc, ◌≤◌, ◌<◌, List, Bool, true, false, ◌&&◌, ◌||◌, not, ◌⊎◌, ◌≡◌, refl, T, eqb, ltb}
 use Rattle.std.proofs.Common.{inl, inr, ap, sym, ◌∙◌, subst, arith, lt-ltb, ltb-true}
 use Rattle.std.proofs.lemmas.Bool.{eqb-false}
 use Rattle.meaning.specs.Basics.{pick, every, In}
-use Rattle.meaning.specs.Kinds.{extension_opens, agent_name}
+use Rattle.meaning.specs.Kinds.{agent_name}
 use Rattle.meaning.specs.Told.{Edition}
 use Rattle.meaning.specs.Editions.{Room, received_begins, head_representation, head_date, parameters, own_text, parameter_representation, behaviour_value, encrypted_texts, received_date, after_date, after_from, after_id, after_via, received_extra, agent_list, one_agent, after_name, address_texts, after_addresses, after_resolvers, agent_extra, closed, State, state, Next, outer, inner, inner_one, stay, deeper, list_ends, agent_ends, list_end, go, is_quiet, Move, moves, shared, own}
 use Rattle.meaning.specs.Reading.{Row}
-use Rattle.meaning.specs.Skips.{Rank, is_envelope, holds_deeper}
+use Rattle.meaning.specs.Skips.{is_envelope, holds_deeper}
 use Rattle.meaning.specs.Codes.{is_date}
-use Rattle.meaning.specs.Headers.{start}
 use Rattle.meaning.specs.Writing.{fits, fit_row}
 use Rattle.laws_steps.specs.Logic.{left_of, right_of, is_true, is_false, either}
 use Rattle.laws_steps.specs.Tables.{every_in, all_rooms, each_room}
 use Rattle.laws_steps.specs.Fits.{Placing, fit_holds}
-use Rattle.laws_steps.specs.WrittenRead.{fit_all, then_inv}
-use Rattle.laws_steps.specs.Envelopes.{opening_row, Writes, the_base, before}
-use Rattle.laws_tables.specs.RightSkips.{standing}
-use Rattle.laws_steps.specs.Plans.{inner_kind}
 
 -- Rooms
 

@@ -1,7 +1,7 @@
 -- The ranks of a table: a row stands deeper than the one before it only where that one opens a list or a received object; an agent never stands at
 -- level 0, an envelope always does; and a date at level 0 is the base's own.
-use Rattle.std.specs.Prelude.{ℕ, suc, ◌≤◌, ◌<◌, List, [], ◌∷◌, ◌++◌, map, Bool, true, false, ◌||◌, ◌⊎◌, ◌≡◌, refl, eqb}
-use Rattle.std.proofs.Common.{append-nil, inl, inr, ap, sym, ◌∙◌, subst, arith, ne_eqb, eqb-true}
+use Rattle.std.specs.Prelude.{ℕ, ◌≤◌, ◌<◌, List, [], ◌∷◌, ◌++◌, map, Bool, true, false, ◌||◌, ◌⊎◌, ◌≡◌, refl, eqb}
+use Rattle.std.proofs.Common.{append-nil, inl, ap, sym, ◌∙◌, subst, arith, ne_eqb, eqb-true}
 use Rattle.meaning.specs.Kinds.{extension_opens, agent_name}
 use Rattle.meaning.specs.Told.{Edition}
 use Rattle.meaning.specs.Editions.{State}

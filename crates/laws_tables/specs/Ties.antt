@@ -3,7 +3,7 @@ use Rattle.std.specs.Prelude.{ℕ, suc, ◌+◌, List, [], ◌∷◌, ◌++◌, 
 use Rattle.std.proofs.Common.{append-nil, inl, inr, ap, sym, ◌∙◌, subst, arith, eqb→eq, length-append, le-leb}
 use Rattle.std.proofs.Math.Seq.{take-append_seam}
 use Rattle.meaning.specs.Basics.{pick, every}
-use Rattle.meaning.specs.Told.{Edition, Label, B, D, known, unknown, label_of, Strictness, strict, Told, told_by, told}
+use Rattle.meaning.specs.Told.{Edition, Label, B, D, known, unknown, label_of, Strictness, Told, told_by, told}
 use Rattle.meaning.specs.Reading.{Row}
 use Rattle.meaning.specs.Headers.{Placed, meant, accepted, header, envelopes_most, labelled, read_by}
 use Rattle.meaning.specs.Writing.{Cell, cell, broken, Envelope, header_of, Plan, stuck, plan, Limit, fine, exceeds, limits, written, unwritten, limited, planned, whole_plan, write_rows, written_under}

@@ -8,10 +8,9 @@ ghost use Rattle.std.specs.Prelude.{◌≡◌, ◌≤◌, ltb, length, IfOk};
 ghost use Rattle.meaning.specs.Listing.{input_most};
 ghost use Rattle.lister.specs.Promise.{TablePromise, PrintPromise, LongPromise, Turned};
 
+use listing::Piece;
 use std::io;
 use std::io::{ErrorKind, Read, Write};
-
-use listing::Piece;
 use table::limits::WORDS_BORROWED;
 use table::reply::Reply;
 use table::rows::ROW_NUMBERS;

@@ -1,5 +1,6 @@
 // Document 01, the listing program's text, piece by piece into lent memory: answer, place and rows, then a line for each row.
 #![tactic(auto)]
+
 mod row;
 
 ghost use Rattle.std.specs.Prelude.{◌≡◌, ◌≤◌, length};

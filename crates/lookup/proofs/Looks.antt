@@ -4,7 +4,7 @@ use mathlib.Core.List.{List}
 use mathlib.Core.Bool.{Bool, true, false, ◌&&◌, ◌||◌, not}
 use mathlib.Core.Path.{◌≡◌, refl, ap, sym, ◌∙◌, subst}
 use native.Mathlib.Omega.{arith}
-use lib.Dec.{eqb, ltb, leb}
+use lib.Dec.{eqb, leb}
 use lib.ListN.{length, get_or}
 use borrow.Author.Tests.{lt-ltb, le-ltb, le-leb, lt-leb, leb-true, eq-eqb, ne_eqb, eqb-true}
 use Rattle.meaning.specs.Basics.{pick}
@@ -23,9 +23,9 @@ module _ (rows words : List ℕ) (code : ℕ) where
     pub few : looked ≤ i
     pub met : envelopes ≤ i
 
-  pub Begins : Standing 0 0 0
+  pub begins : Standing 0 0 0
   unfolding looked_up
-  Begins = record { hops = room_of rows; is = refl; enough = omega arith; within = omega arith; few = omega arith; met = omega arith }
+  begins = record { hops = room_of rows; is = refl; enough = omega arith; within = omega arith; few = omega arith; met = omega arith }
 
   -- at the row count, none
   pub none_left : {looked envelopes i : ℕ} → Standing looked envelopes i → room_of rows ≤ i → looked_up rows words code ≡ answers_at i looked

@@ -1,6 +1,6 @@
 -- Our own table between the bounds: every byte in every room and at every place of a value, later envelopes, the long form, lent memory after each refusal.
 -- It stands on `bounds`: where that does not hold, this is not computed.
-use Rattle.std.specs.Prelude.{Bool, T}
+use Rattle.std.specs.Prelude.{T}
 use Rattle.meaning.specs.Bytes.{text_byte, take_text, text_ok, turn, take_number, number_ok, last_day, passes, take_date, date_ok, high_first, too_wide, take_bytes, block_of, take_block, block_ok}
 use Rattle.meaning.specs.Editions.{shared, own, moves}
 use Rattle.meaning.specs.Reading.{take_value, find, look, step_move, step, run, inside}

@@ -5,9 +5,9 @@ use Rattle.std.proofs.Common.{ap}
 use Rattle.meaning.specs.Basics.{pick}
 use Rattle.meaning.specs.Told.{Edition}
 use Rattle.meaning.specs.Headers.{Placed, envelopes_most}
-use Rattle.meaning.specs.Writing.{Envelope, envelope_at, within_limit, Limit, fine, exceeds, limits}
+use Rattle.meaning.specs.Writing.{Envelope, envelope_at, within_limit, exceeds, limits}
 use Rattle.meaning.specs.Memory.{words_read}
-use Rattle.meaning.specs.Relay.{Relayed, relayed, unrelayed, joint_of, joined_limits}
+use Rattle.meaning.specs.Relay.{relayed, unrelayed, joint_of, joined_limits}
 
 -- the writer: "5 (place: the envelope's row)", wherever it stands and whatever follows; one within the limit leaves it to those behind it
 pub over_limit : (n at : ℕ) (base : Bool) (bs : List ℕ) (vs : List Envelope) → within_limit (length bs) ≡ false → limits (suc n) (envelope_at at base bs ∷ vs) ≡ exceeds at

@@ -1,9 +1,9 @@
 -- Order 3: which days exist, the same in a base's date and a received object's, with a designator and without, in reader, writer and coders.
 use Rattle.std.specs.Prelude.{ℕ, ◌+◌, List, [], ◌∷◌, ◌++◌, Bool, true, false, ◌&&◌, length, replicate}
 use Rattle.meaning.specs.Basics.{pick, every}
-use Rattle.meaning.specs.Memory.{Numbers, row}
+use Rattle.meaning.specs.Memory.{Numbers}
 use Rattle.meaning.specs.Plain.{Date, date_bytes}
-use Rattle.meaning.specs.Cases.{hex, base_rows, Reading, accepts, refuses, reads, writing, unwriting, writes, dates_read, dates_written}
+use Rattle.meaning.specs.Cases.{hex, base_rows, accepts, refuses, reads, writing, unwriting, writes, dates_read, dates_written}
 use Rattle.meaning.specs.AcceptedCases.{extension_rows, base_rows_at}
 
 -- a day, and whether its month has it

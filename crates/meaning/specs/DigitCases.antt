@@ -1,9 +1,9 @@
 -- Every byte at every place of a date and of a number, not only those at the ends of a range; and what the writer makes of the same bytes.
 use Rattle.std.specs.Prelude.{ℕ, zero, suc, ◌+◌, ◌*◌, ◌/◌, ◌%◌, List, [], ◌∷◌, ◌++◌, Bool, ◌&&◌, eqb, length, take, drop}
 use Rattle.meaning.specs.Basics.{pick, every}
-use Rattle.meaning.specs.Memory.{row, Reply, write_reply, write}
+use Rattle.meaning.specs.Memory.{row, write_reply, write}
 use Rattle.meaning.specs.Plain.{number_decoded, date_decoded}
-use Rattle.meaning.specs.Cases.{up_from, among, hex, a_date, base_with, base_rows, reply_is, outcome_is, in_memory, Number, number, decodes, DateRead}
+use Rattle.meaning.specs.Cases.{up_from, among, hex, a_date, base_with, base_rows, reply_is, outcome_is, in_memory, Number, DateRead}
 use Rattle.meaning.specs.CodingCases as coding
 use Rattle.meaning.specs.FurtherCases as further
 

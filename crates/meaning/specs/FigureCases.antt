@@ -1,6 +1,6 @@
 -- Order 13: lists of messages, their figures given as numbers and their report as text; figures at their bounds and one over.
-use Rattle.std.specs.Prelude.{ℕ, ◌+◌, List, [], ◌∷◌, ◌++◌, Bool, true, false, ◌&&◌, not, eqb, length, take, replicate}
-use Rattle.meaning.specs.Figures.{Message, figures_of, are_figures, takes_more, add_answer, add_figures, joinable, join_answer, join_figures, report, report_answer, report_output}
+use Rattle.std.specs.Prelude.{ℕ, ◌+◌, List, [], ◌∷◌, ◌++◌, Bool, ◌&&◌, not, length, take, replicate}
+use Rattle.meaning.specs.Figures.{Message, figures_of, are_figures, takes_more, add_answer, add_figures, join_answer, join_figures, report, report_answer, report_output}
 use Rattle.meaning.specs.Cases.{same, hex, base_with, outcome_is}
 use Rattle.meaning.specs.AcceptedCases.{an_extension, with_parameters}
 

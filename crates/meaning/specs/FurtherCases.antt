@@ -1,6 +1,6 @@
 -- What a wrong definition could hide between the bounds: bytes inside a range, faults in later envelopes and in the long form, numbers left over, lent memory and the payload's
 -- part after each refusal, the coders' kinds and order of refusals, levels far from the one expected.
-use Rattle.std.specs.Prelude.{ℕ, zero, suc, ◌+◌, List, [], ◌∷◌, ◌++◌, Bool, ◌&&◌, ◌||◌, eqb, length, take, drop, replicate}
+use Rattle.std.specs.Prelude.{ℕ, zero, suc, ◌+◌, List, [], ◌∷◌, ◌++◌, Bool, ◌&&◌, ◌||◌, eqb, take, drop, replicate}
 use Rattle.meaning.specs.Basics.{pick, every}
 use Rattle.meaning.specs.Told.{B, told}
 use Rattle.meaning.specs.Reading.{Row, seen, row_of}
@@ -10,7 +10,7 @@ use Rattle.meaning.specs.Present.{present_answer}
 use Rattle.meaning.specs.Relay.{relay_answer, relay_output}
 use Rattle.meaning.specs.Listing.{listing}
 use Rattle.meaning.specs.Payload.{payload_start, payload_end, payload_bytes}
-use Rattle.meaning.specs.Plain.{Date, number_encoded, date_decoded, date_encoded}
+use Rattle.meaning.specs.Plain.{Date, number_encoded, date_encoded}
 use Rattle.meaning.specs.Cases.{same, joined, up_from, hex, a_date, base_with, base_rows, reply_is, in_memory, Reading, refuses, reads, Writing, unwriting, unwriting_part, writes, outcome_is, Number, number, decodes, encodes, DateRead, dates_read}
 use Rattle.meaning.specs.AcceptedCases.{an_extension, extension_rows, base_rows_at}
 

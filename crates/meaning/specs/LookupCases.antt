@@ -1,5 +1,5 @@
 -- Order 8: hops over rows and words lent, given as numbers; true tables, wrong words, skip numbers that do not lead on, and each refusal at its bound.
-use Rattle.std.specs.Prelude.{ℕ, zero, suc, ◌+◌, List, [], ◌∷◌, ◌++◌, Bool, ◌&&◌}
+use Rattle.std.specs.Prelude.{ℕ, zero, suc, List, [], ◌∷◌, ◌++◌, Bool, ◌&&◌}
 use Rattle.meaning.specs.Basics.{pick, every}
 use Rattle.meaning.specs.Lookup.{lookup}
 use Rattle.meaning.specs.Cases.{up_from, among, reply_is}

@@ -2,7 +2,7 @@
 use Rattle.std.specs.Prelude.{ℕ, zero, suc, ◌+◌, List, [], ◌∷◌, ◌++◌, map, Bool, ◌&&◌, length, replicate}
 use Rattle.meaning.specs.Basics.{every}
 use Rattle.meaning.specs.Memory.{Numbers, row, table_of}
-use Rattle.meaning.specs.Relay.{Joint, Relayed, relayed, unrelayed, relay, moved, bytes_of, relay_answer, relay_rows, relay_words, relay_output}
+use Rattle.meaning.specs.Relay.{Relayed, relayed, unrelayed, relay, moved, bytes_of, relay_answer, relay_rows, relay_words, relay_output}
 use Rattle.meaning.specs.Cases.{same, hex, a_date, base_with, in_memory, reply_is}
 use Rattle.meaning.specs.AcceptedCases.{base_rows_at}
 

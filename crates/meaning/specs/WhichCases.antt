@@ -1,9 +1,9 @@
 -- Order 9: headers of both editions, of one alone and of none, with room and one short of it; and what is lent after each.
 use Rattle.std.specs.Prelude.{ℕ, zero, suc, ◌*◌, List, [], ◌∷◌, ◌++◌, Bool, ◌&&◌, eqb}
 use Rattle.meaning.specs.Basics.{every}
-use Rattle.meaning.specs.Memory.{Reply, read_rows, read_words}
+use Rattle.meaning.specs.Memory.{read_rows, read_words}
 use Rattle.meaning.specs.Which.{editions_of, Sorted, which_answer, which_rows, which_words}
-use Rattle.meaning.specs.Cases.{same, hex, a_date, base_with, reply_is}
+use Rattle.meaning.specs.Cases.{same, hex, base_with, reply_is}
 use Rattle.meaning.specs.AcceptedCases.{with_parameters, an_extension}
 
 -- an input, the rows and words lent, to answer, place, rows and editions

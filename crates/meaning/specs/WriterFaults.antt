@@ -34,7 +34,7 @@ pub record StopsAt (e : Edition) (cells : List Cell) (i : ℕ) : Type 0 where
   pub rest : List Cell
   pub parts : cells ≡ front ++ rest
   pub count : length front ≡ i
-  pub Begins : BeginTable e front
+  pub begins : BeginTable e front
   pub none : NoneWithNext e front rest
 
 -- a table whose skip numbers are right

@@ -1,5 +1,6 @@
 // The editions' tables as code: the move at a byte of a room, and the refusal where a room has none.
 #![tactic(auto)]
+
 pub mod agents;
 pub mod look;
 pub mod parameters;

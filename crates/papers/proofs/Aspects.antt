@@ -1,5 +1,5 @@
 -- The papers' second example, derived by their rules, with the rows and skip numbers that the trees give.
-use Rattle.std.specs.Prelude.{ℕ, ◌+◌, List, [], ◌∷◌, ◌++◌, ◌≡◌, refl}
+use Rattle.std.specs.Prelude.{ℕ, List, [], ◌∷◌, ◌++◌, ◌≡◌, refl}
 use Rattle.std.proofs.Common.{leb→le, ltb→lt}
 use Rattle.meaning.specs.Told.{B, D, told}
 use Rattle.meaning.specs.Bytes.{text_byte, text_ok, turn, number_ok, last_day, passes, date_ok, absolute, too_wide}

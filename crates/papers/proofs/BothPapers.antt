@@ -2,9 +2,9 @@
 use Rattle.std.specs.Prelude.{ℕ, List, ◌⊎◌, ◌↔◌, ◌≡◌, T}
 use Rattle.std.proofs.Math.Logic.{inl, inr}
 use Rattle.std.proofs.Math.Path.{refl}
-use Rattle.std.proofs.Common.{ap, sym, ◌∙◌, arith}
+use Rattle.std.proofs.Common.{sym, ◌∙◌, arith}
 use Rattle.meaning.specs.Told.{B, D, strict, told}
-use Rattle.meaning.specs.Headers.{Placed, Answer, refused, accepted, header, envelopes_most, read}
+use Rattle.meaning.specs.Headers.{Placed, Answer, refused, accepted, read}
 use Rattle.meaning.specs.Which.{allowing, editions_of}
 use Rattle.laws_steps.specs.Logic.{are_bytes}
 use Rattle.laws_tables.specs.Ties.{read_as}

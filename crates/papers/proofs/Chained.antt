@@ -1,5 +1,5 @@
 -- A move at the front of a chain, in the rooms of dates and parameters; and so a run to an envelope's end is a chain of the papers' rules.
-use Rattle.std.specs.Prelude.{ℕ, ◌+◌, ◌-◌, List, [], ◌∷◌, ◌++◌, true, ◌≡◌}
+use Rattle.std.specs.Prelude.{ℕ, ◌+◌, List, [], ◌∷◌, ◌++◌, true, ◌≡◌}
 use Rattle.std.proofs.Math.Bool.{false}
 use Rattle.std.proofs.Math.Path.{refl}
 use Rattle.std.proofs.Math.ListN.{length}
@@ -16,7 +16,7 @@ use Rattle.laws_steps.specs.Values.{allowed}
 use Rattle.papers.proofs.Texts.{textual, number_in}
 use Rattle.papers.proofs.Dates.{plain_coded, lettered_coded}
 use Rattle.papers.proofs.Pieces.{one_again, again, first_of, no_more, own_parameters_lem, own_dates_lem, opened_as}
-use Rattle.papers.proofs.Chains.{Chain, over, Fine, Back, row_alone, row_before, row_beside, pass_alone, pass_before, list, one, name, texts, addresses, resolvers, extra, Begins, representation, dated, parameter, own_text_lem, own_representation_lem, behaviour, encrypted, received_date_lem, date_over, from_over, id_over, via_over, received_extra_lem, shut}
+use Rattle.papers.proofs.Chains.{Chain, over, Fine, Back, row_alone, row_before, row_beside, pass_alone, pass_before, list, one, name, texts, addresses, resolvers, extra, begins, representation, dated, parameter, own_text_lem, own_representation_lem, behaviour, encrypted, received_date_lem, date_over, from_over, id_over, via_over, received_extra_lem, shut}
 use Rattle.papers.proofs.AgentCuts.{moved_extra, moved_resolvers, moved_addresses, moved_name, moved_texts, moved_list, moved_one}
 use Rattle.papers.proofs.ObjectCuts.{moved_representation, moved_own_representation, moved_behaviour, moved_received_extra, moved_own_text, moved_encrypted, moved_begins, moved_date_over, moved_from_over, moved_id_over, moved_via_over}
 use Rattle.papers.specs.Moves.{Steps, still, row, silent}
@@ -67,7 +67,7 @@ module _ (t : Told) where
       (λ at v ok b us y. one_again (at + length (0x07 ∷ (v ++ (0 ∷ [])))) (0x07 ∷ (v ++ (0 ∷ []))) b (tree payload_encoding 0 (at + 1) v end end) us (first (other (other (other (other (other (first (shows (coded (textual ok)))))))))) refl y))
       (first_of C _ _ (row_beside t st (list 0 false refl) refl refl refl refl refl
       (λ at v ok deep b c us vs y z. again (0x09 ∷ []) b c (tree receiver_opens 0 (at + 0) v us end) vs (first (other (other (other (other (other (other (other (first (opened_as v ok y)))))))))) z))
-      (first_of C _ _ (pass_before t st Begins refl refl refl refl refl (λ at b c us vs y z. again (0x0a ∷ []) b c us vs (first (other (other (other (other (other (other (other (other (first (byte.it then y))))))))))) z))
+      (first_of C _ _ (pass_before t st begins refl refl refl refl refl (λ at b c us vs y z. again (0x0a ∷ []) b c us vs (first (other (other (other (other (other (other (other (other (first (byte.it then y))))))))))) z))
       (first_of C _ _ (row_beside t st behaviour refl refl refl refl refl
       (λ at v ok deep b c us vs y z. again (0x0b ∷ []) b c (tree behaviour_opens 0 (at + 0) v us end) vs (first (other (other (other (other (other (other (other (other (other (opened_as v ok y))))))))))) z))
       (first_of C _ _ (pass_alone t shut refl refl (λ at. many.none then byte.it))
@@ -83,7 +83,7 @@ module _ (t : Told) where
   moved (addresses n o) = moved_addresses t n o
   moved (resolvers n o) = moved_resolvers t n o
   moved (extra n o) = moved_extra t n o
-  moved Begins = moved_begins t
+  moved begins = moved_begins t
   moved representation = moved_representation t
   moved dated = moved_dated
   moved parameter = moved_parameters

@@ -11,7 +11,7 @@ use Rattle.meaning.specs.Editions.{Room, received_begins, head_representation, h
 use Rattle.meaning.specs.Reading.{is_closed, level_most}
 use Rattle.meaning.specs.Headers.{Placed, placed_row}
 use Rattle.meaning.specs.Grammar.{standing, start_in}
-use Rattle.papers.specs.Notation.{Trees, end, tree, ◌⊕◌, flat, Syntax, ◌⨾◌, ◌then◌, optional, many, only, leaf}
+use Rattle.papers.specs.Notation.{Trees, end, tree, ◌⊕◌, flat, Syntax, ◌⨾◌, optional, many, only, leaf}
 use Rattle.laws_steps.specs.Values.{allowed}
 use Rattle.papers.specs.Values.{NullTerminatedString}
 use Rattle.papers.specs.Papers.{Any, UserDefinedParameter, UrlSequence, Addresses, AgentIdentifier, AgentIdentifierSequence, Resolvers, EndOfCollection, ReceivedObject, ACLRepresentation, Date, Parameter, StringSequence}
@@ -55,7 +55,7 @@ pub data Fine : State → Type 0 where
   addresses : (n : ℕ) (o : Bool) → Fine (state after_addresses (suc n) o)
   resolvers : (n : ℕ) (o : Bool) → Fine (state after_resolvers (suc n) o)
   extra : (n : ℕ) (o : Bool) → Fine (state agent_extra (suc n) o)
-  Begins : Fine (state received_begins 0 false)
+  begins : Fine (state received_begins 0 false)
   representation : Fine (state head_representation 0 false)
   dated : Fine (state head_date 0 false)
   parameter : Fine (state parameters 0 false)

@@ -1,6 +1,6 @@
 -- A header with every rule of 002, derived by them, with the rows and skip numbers that the tree gives. The reading is tolerant, so that a block of one byte may
 -- stand behind 17 and 19. A JumboEnvelope takes 65,540 bytes: `Jumbo` has it, for every length.
-use Rattle.std.specs.Prelude.{ℕ, ◌+◌, List, [], ◌∷◌, ◌++◌, ◌≡◌, refl}
+use Rattle.std.specs.Prelude.{ℕ, List, [], ◌∷◌, ◌++◌, ◌≡◌, refl}
 use Rattle.std.proofs.Common.{leb→le, ltb→lt}
 use Rattle.meaning.specs.Told.{D, told_by, tolerant}
 use Rattle.meaning.specs.Bytes.{text_byte, text_ok, turn, number_ok, last_day, passes, date_ok, absolute, relative, too_wide, one_byte, two_bytes, four_bytes}

@@ -1,5 +1,5 @@
 -- A header with every rule of 004, derived by them, with the rows and skip numbers that the tree gives; as `EveryParameter` has it for 002.
-use Rattle.std.specs.Prelude.{ℕ, ◌+◌, List, [], ◌∷◌, ◌++◌, ◌≡◌, refl}
+use Rattle.std.specs.Prelude.{ℕ, List, [], ◌∷◌, ◌++◌, ◌≡◌, refl}
 use Rattle.std.proofs.Common.{leb→le, ltb→lt}
 use Rattle.meaning.specs.Told.{B, told_by, tolerant}
 use Rattle.meaning.specs.Bytes.{text_byte, text_ok, turn, number_ok, last_day, passes, date_ok, absolute, too_wide, one_byte, two_bytes, four_bytes}

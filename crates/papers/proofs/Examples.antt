@@ -1,5 +1,5 @@
 -- Derivations by hand: the papers' rules, applied to document 01's instances, with the rows and the skip numbers that the trees give.
-use Rattle.std.specs.Prelude.{ℕ, ◌+◌, ◌≤◌, List, [], ◌∷◌, ◌++◌, ◌≡◌, refl}
+use Rattle.std.specs.Prelude.{ℕ, ◌≤◌, List, [], ◌∷◌, ◌++◌, ◌≡◌, refl}
 use Rattle.std.proofs.Common.{arith, leb→le, ltb→lt}
 use Rattle.meaning.specs.Told.{Edition, D, told}
 use Rattle.meaning.specs.Bytes.{Rule, absolute, last_day}

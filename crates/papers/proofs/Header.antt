@@ -15,7 +15,7 @@ use Rattle.papers.specs.Papers.{ACLRepresentation, Date, ReceivedObject, Paramet
 use Rattle.papers.proofs.Walks.{flat_⊕}
 use Rattle.papers.proofs.Walked.{base_walks, extension_walks}
 use Rattle.papers.proofs.Pieces.{⊕_assoc}
-use Rattle.papers.proofs.Chains.{rest, follow, Chain, over, link, Begins, representation}
+use Rattle.papers.proofs.Chains.{rest, follow, Chain, over, link, begins, representation}
 use Rattle.papers.proofs.Chained.{chained}
 use Rattle.papers.specs.Envelopes.{Inside, Envelopes, the_base, extension}
 use Rattle.papers.proofs.Headed.{to_right, to_left, opened}
@@ -90,7 +90,7 @@ module _ (t : Told) where
   base_out at a rows i = first_piece refl (λ at a ts x. x) (λ at a rows c. first_piece refl (λ at a ts x. x) parameters_out c) (chained t representation i.closes i.steps)
 
   extension_out : (at : ℕ) (a : List ℕ) (rows : List Placed) → Inside t false at a rows → Treed Extension at a rows
-  extension_out at a rows i = first_piece refl (λ at a ts x. x) parameters_out (chained t Begins i.closes i.steps)
+  extension_out at a rows i = first_piece refl (λ at a ts x. x) parameters_out (chained t begins i.closes i.steps)
 
   -- an envelope from what it holds
   base_closed : (at : ℕ) (bytes : List ℕ) (rows : List Placed) → envelope_size (length bytes) ≤ envelope_most → Inside t true (at + head_size (length bytes)) bytes rows → Treed (BaseEnvelope t) at (wrap true bytes) (placed_row base_opens 0 at [] ∷ rows)

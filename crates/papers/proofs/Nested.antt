@@ -6,7 +6,7 @@ use Rattle.meaning.specs.Kinds.{extension_opens, base_opens, standard_representa
 use Rattle.meaning.specs.Skips.{Rank, rank, is_envelope, holds_deeper, beside, belongs, skips_from}
 use Rattle.laws_steps.specs.Logic.{either}
 use Rattle.laws_steps.specs.Nesting.{false_not, value_is, Belongs, deeper_belongs, beside_belongs, belongs_not}
-use Rattle.papers.specs.Notation.{Trees, flat, skip_numbers, Syntax, Value, ◌⨾◌, ◌then◌, many, leaf, node, itself}
+use Rattle.papers.specs.Notation.{Trees, flat, skip_numbers, Syntax, Value, ◌⨾◌, many, leaf, node, itself}
 use Rattle.papers.specs.Papers.{EnvLen, EndOfCollection, Any, ACLRepresentation, Date, UserDefinedParameter, Addresses, Resolvers, AgentIdentifier, AgentIdentifierSequence, agent, ReceivedObject, PredefinedParameter, UserDefinedSlot, Parameter, BaseEnvelope, ExtEnvelope, Header}
 use Rattle.papers.specs.TreeSkips.{ranks, Nested, skips_are}
 use Rattle.papers.proofs.Nesting.{Class, Every, Own, Up, Good, good_then, good_either, good_byte, good_unseen, good_optional, good_many, good_up_to, good_when, good_node, good_leaf, good_envelope}

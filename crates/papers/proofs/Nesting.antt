@@ -170,10 +170,10 @@ module _ {A : Class} where
       nest at a ts (met q x) = p.nests at a ts x
 
 -- a row and what is inside it, with nothing beside it
-module _ (r : Rank) (S : Class) {F F' : Class} (wider : (x : Rank) → F x → F' x) (out : (x : Rank) → F x → belongs r x ≡ false) (Begins : S r) where
+module _ (r : Rank) (S : Class) {F F' : Class} (wider : (x : Rank) → F x → F' x) (out : (x : Rank) → F x → belongs r x ≡ false) (begins : S r) where
   row_nests : (s : ℕ) (v : List ℕ) (ts : Trees) → All (Own r) (ranks ts) → ((more : List Rank) → Next F' more → Nested ts more)
       → (more : List Rank) → Next F more → Next S (ranks (tree r.kind r.level s v ts end) ++ more) × Nested (tree r.kind r.level s v ts end) more
-  row_nests s v ts all inside more h = (Begins, (all_own r (ranks ts) all, not_next r {F = F} out more h, inside more (next_wider {F = F} {F' = F'} wider more h), tt))
+  row_nests s v ts all inside more h = (begins, (all_own r (ranks ts) all, not_next r {F = F} out more h, inside more (next_wider {F = F} {F' = F'} wider more h), tt))
 
 module _ (owner : Rank) where
   row_all : (r : Rank) (l : List Rank) → belongs owner r ≡ true → All (Own r) l → All (Own owner) (r ∷ (l ++ []))
@@ -181,17 +181,17 @@ module _ (owner : Rank) where
 
   pub good_node : (k n : ℕ) {X : Value} {P : Syntax} {F S : Class} (F' S' : Class) → belongs owner (rank k n) ≡ true → S (rank k n) → ((x : Rank) → F x → F' x) → ((x : Rank) → F x → belongs (rank k n) x ≡ false)
       → Good P (Own (rank k n)) F' S' → Good (node k n X P) (Own owner) F S
-  good_node k n {X} {P} {F} {S} F' S' b Begins wider out p = record { rows = all; nests = nest }
+  good_node k n {X} {P} {F} {S} F' S' b begins wider out p = record { rows = all; nests = nest }
     where
       all : (at : ℕ) (a : List ℕ) (ts : Trees) → node k n X P at a ts → All (Own owner) (ranks ts)
       all _ _ _ (holds {at} {a} {b = c} {ts} x y) = row_all (rank k n) (ranks ts) b (p.rows (at + length a) c ts y)
 
       nest : (at : ℕ) (a : List ℕ) (ts : Trees) → node k n X P at a ts → (more : List Rank) → Next F more → Next S (ranks ts ++ more) × Nested ts more
       nest _ _ _ (holds {at} {before} {a} {b = c} {view} {ts} x y) =
-          row_nests (rank k n) S wider out Begins (at + before) view ts (p.rows (at + length a) c ts y) (λ more h. (p.nests (at + length a) c ts y more h).1)
+          row_nests (rank k n) S wider out begins (at + before) view ts (p.rows (at + length a) c ts y) (λ more h. (p.nests (at + length a) c ts y more h).1)
 
   pub good_leaf : (k n : ℕ) {X : Value} {F S : Class} → belongs owner (rank k n) ≡ true → S (rank k n) → holds_deeper k ≡ false → ((j : ℕ) → beside k j ≡ false) → Good (leaf k n X) (Own owner) F S
-  good_leaf k n {X} {F} {S} b Begins flat bare = record { rows = all; nests = nest }
+  good_leaf k n {X} {F} {S} b begins flat bare = record { rows = all; nests = nest }
     where
       out : (x : Rank) → belongs (rank k n) x ≡ false
       out x = belongs_not (rank k n) x at
@@ -204,11 +204,11 @@ module _ (owner : Rank) where
       all _ _ _ (shows x) = (b, tt)
 
       nest : (at : ℕ) (a : List ℕ) (ts : Trees) → leaf k n X at a ts → (more : List Rank) → Next F more → Next S (ranks ts ++ more) × Nested ts more
-      nest _ _ _ (shows {at} {before} {view} x) = row_nests (rank k n) S (λ y h. h) (λ y h. out y) Begins (at + before) view end tt (λ more h. tt)
+      nest _ _ _ (shows {at} {before} {view} x) = row_nests (rank k n) S (λ y h. h) (λ y h. out y) begins (at + before) view end tt (λ more h. tt)
 
 pub good_envelope : (k : ℕ) {P : ℕ → Syntax} {F S : Class} (F' S' : Class) → S (rank k 0) → ((x : Rank) → F x → F' x) → ((x : Rank) → F x → belongs (rank k 0) x ≡ false)
     → ((n : ℕ) → Good (P n) (Own (rank k 0)) F' S') → Good (envelope k P) Every F S
-good_envelope k {P} {F} {S} F' S' Begins wider out p = record { rows = λ at a ts x. every (ranks ts); nests = nest }
+good_envelope k {P} {F} {S} F' S' begins wider out p = record { rows = λ at a ts x. every (ranks ts); nests = nest }
   where
     every : (l : List Rank) → All Every l
     every [] = tt
@@ -216,4 +216,4 @@ good_envelope k {P} {F} {S} F' S' Begins wider out p = record { rows = λ at a t
 
     nest : (at : ℕ) (a : List ℕ) (ts : Trees) → envelope k P at a ts → (more : List Rank) → Next F more → Next S (ranks ts ++ more) × Nested ts more
     nest _ _ _ (of {at} {bytes} {ts} fits y) =
-        row_nests (rank k 0) S wider out Begins at [] ts ((p (length bytes)).rows at bytes ts y) (λ more h. ((p (length bytes)).nests at bytes ts y more h).1)
+        row_nests (rank k 0) S wider out begins at [] ts ((p (length bytes)).rows at bytes ts y) (λ more h. ((p (length bytes)).nests at bytes ts y more h).1)

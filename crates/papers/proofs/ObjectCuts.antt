@@ -1,5 +1,5 @@
 -- A move at the front of a chain, in the rooms of representations, values, texts and received objects.
-use Rattle.std.specs.Prelude.{ℕ, ◌+◌, ◌-◌, List, [], ◌∷◌, ◌++◌, false, ◌≡◌, T}
+use Rattle.std.specs.Prelude.{ℕ, ◌+◌, List, [], ◌∷◌, ◌++◌, false, ◌≡◌, T}
 use Rattle.std.proofs.Math.Path.{refl}
 use Rattle.std.proofs.Math.ListN.{length}
 use Rattle.meaning.specs.Basics.{In}

@@ -1,5 +1,5 @@
 -- Rules put together from a front and what follows it, and the moves of a room one by one.
-use Rattle.std.specs.Prelude.{ℕ, ◌+◌, ◌-◌, List, [], ◌∷◌, ◌++◌, true, false, not, ◌≡◌, refl, T, eqb, length}
+use Rattle.std.specs.Prelude.{ℕ, ◌+◌, List, [], ◌∷◌, ◌++◌, true, false, not, ◌≡◌, refl, T, length}
 use Rattle.std.proofs.Common.{append_assoc, ap, sym, subst, arith, eqb→eq, length-append}
 use Rattle.meaning.specs.Basics.{is_empty, In, here, there}
 use Rattle.meaning.specs.Told.{Edition, B, D, Told}

@@ -1,6 +1,6 @@
 -- The papers' grammar and the project's: for each edition the papers and `Grammar` of `meaning` allow the same bytes with the same rows, starts included; and the
 -- reader, strict and tolerant, accepts exactly the papers' message envelopes.
-use Rattle.std.specs.Prelude.{ℕ, ◌+◌, List, ◌++◌, ◌↔◌, ◌≡◌, refl, T, length}
+use Rattle.std.specs.Prelude.{ℕ, List, ◌++◌, ◌↔◌, ◌≡◌, refl, T, length}
 use Rattle.std.proofs.Common.{ap, sym, ◌∙◌, subst}
 use Rattle.meaning.specs.Told.{Edition, known, label_of, Strictness, strict, told, told_by}
 use Rattle.meaning.specs.Headers.{Placed, accepted, header, envelopes_most, read_by}

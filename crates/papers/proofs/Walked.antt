@@ -1,5 +1,5 @@
 -- The papers' rules and the reader's moves, one way: every other rule, from values to the insides of envelopes.
-use Prim.Native.Nat.{ℕ, suc, ◌+◌, ◌-◌}
+use Prim.Native.Nat.{ℕ, suc, ◌+◌}
 use mathlib.Core.List.{List, ◌∷◌}
 use Rattle.std.proofs.Math.Bool.{true, false}
 use Rattle.std.specs.Prelude.{not, ◌≡◌, T, eqb, length}
@@ -11,7 +11,7 @@ use Rattle.meaning.specs.Bytes.{Reach, absolute, relative, line, note, one_byte,
 use Rattle.meaning.specs.Kinds.{extra_key, any_text, any_bytes, received_by, received_from, received_id, received_via, own_key, own_value, to_opens, from_opens, receiver_opens, comments, payload_length, payload_encoding, encrypted_opens, encrypted_item, behaviour_opens, standard_representation, own_representation, date_absolute, date_forward, date_backward}
 use Rattle.meaning.specs.Editions.{Room, received_begins, head_representation, head_date, parameters, own_text, parameter_representation, behaviour_value, encrypted_texts, received_date, after_date, after_from, after_id, after_via, received_extra, closed, agent_list, one_agent, State, state, Next, outer, inner, inner_one, stay, list_ends, go, Form, text, date, block, Move, on◌▸◌▸◌▸◌, pass◌▸◌, no_code, own_dates, shared, own, moves}
 use Rattle.meaning.specs.Writing.{valid, write_value}
-use Rattle.papers.specs.Notation.{Trees, Syntax, ◌⨾◌, ◌then◌, optional, many, byte, met, only, opens, itself, ◌⊳◌, coded}
+use Rattle.papers.specs.Notation.{Trees, Syntax, ◌⨾◌, ◌then◌, optional, many, byte, met, only, itself, ◌⊳◌, coded}
 use Rattle.std.proofs.Math.Dec.{eqb_refl}
 use Rattle.meaning.specs.Editions.{representations, any_values}
 use Rattle.laws_steps.specs.Values.{allowed}

@@ -3,19 +3,14 @@ pub mod Notation
 pub mod Values
 pub mod Papers
 pub mod Page
--- The reader's tests of values, and instances, derived.
+-- What instances are made of.
 pub mod ExampleTexts
--- From the papers' rules to the reader's moves.
+-- The reader's moves, envelopes and header.
 pub mod Moves
--- And back.
--- Envelopes and headers.
 pub mod Envelopes
--- The reader.
 pub mod Reads
 pub mod ReadBack
 pub mod HeaderBack
--- Skip numbers, and that bytes have one tree.
+-- Skip numbers, and what belongs to a row.
 pub mod TreeSkips
--- The theorems of reading and writing.
--- Order 9 over both papers; orders 7, 6 and 1, read off the trees.
 pub mod Holding

@@ -11,18 +11,17 @@ use borrow.Author.Tests.{ne_eqb, eq-eqb, lt-ltb, ltb-false}
 use Rattle.meaning.specs.Basics.{pick}
 use Rattle.meaning.specs.Told.{Edition, Told}
 use Rattle.meaning.specs.Kinds.{agent_name}
-use Rattle.meaning.specs.Bytes.{line, Taken, took, failed, take_text, take_date, date_checks, take_number, take_block, Width, bytes_of}
+use Rattle.meaning.specs.Bytes.{line, Taken, took, failed, take_text, take_block, Width, bytes_of}
 use Rattle.meaning.specs.Editions.{Room, State, state, go, Next, Form, is_quiet, no_code, moves, shared, own, on◌▸◌▸◌▸◌, pass◌▸◌}
 use Rattle.meaning.specs.Editions as meaning
 use Rattle.meaning.specs.Reading.{take_value, reach_back, Found, or_else, look, find, none, hit, is_closed, strange, level_most, too_deep, next, step, step_move, onward, inside}
 use Rattle.laws_steps.specs.From.{from, from_length, from_cons}
-use Rattle.laws_steps.specs.Rows.{put}
-use Rattle.laws_steps.specs.Pouring.{filled, stopped, Source, source, pour, run_at, landed, Peeked, pour_none, run_step}
-use Rattle.laws_steps.specs.ReadAt.{stepped, coded, opened, too_deep_lem, strange_code, uncoded}
-use Rattle.values.specs.Stages.{Span, spans, misses, span, rule_of}
+use Rattle.laws_steps.specs.Pouring.{filled, Source, source, pour, run_at, landed, Peeked, pour_none, run_step}
+use Rattle.laws_steps.specs.ReadAt.{stepped, coded, too_deep_lem, strange_code, uncoded}
+use Rattle.values.specs.Stages.{span, rule_of}
 use Rattle.values.specs.declared.text.Rule.{Rule}
 use Rattle.date.specs.Dates.{reaching, date_length}
-use Rattle.date.specs.DateSteps.{date_from, date_begins, nine_at_least}
+use Rattle.date.specs.DateSteps.{date_begins, nine_at_least}
 use Rattle.moves.specs.declared.rooms.Room as declared
 use Rattle.moves.specs.declared.rooms.Room.TheVariants as rooms
 use Rattle.moves.specs.declared.rooms.Found as declaredFound
@@ -35,7 +34,7 @@ use Rattle.moves.specs.Words.{room_of, reach_of, form_of, next_of, found_of}
 use Rattle.plain.specs.declared.lists.Lists.{Lists}
 use Rattle.plain.specs.declared.feed.Pending.{Pending}
 use Rattle.plain.specs.declared.feed.Taking.{Taking}
-use Rattle.plain.specs.declared.feed.Taking.TheVariants.{Text, Date, Number, Length, Block}
+use Rattle.plain.specs.declared.feed.Taking.TheVariants.{Text, Date, Number, Length}
 use Rattle.plain.specs.declared.feed.Fed.{Fed}
 use Rattle.plain.specs.declared.feed.Fed.TheVariants as fed
 use Rattle.plain.specs.Lists.{state_of, Bounded, MayLead, Leads}

@@ -2,16 +2,16 @@
 use Prim.Native.Nat.{ℕ, zero, suc, ◌+◌, ◌-◌, ◌*◌, ◌≤◌, ◌<◌}
 use mathlib.Core.List.{List}
 use mathlib.Core.Bool.{Bool, true, false}
-use mathlib.Core.Path.{◌≡◌, refl, ap, sym, ◌∙◌}
+use mathlib.Core.Path.{◌≡◌, refl, ap, ◌∙◌}
 use native.Mathlib.Omega.{arith}
 use lib.Dec.{eqb}
 use lib.ListN.{length, get_or}
-use borrow.Author.Tests.{ne_eqb, eq-eqb, eqb-true, eqb-false}
+use borrow.Author.Tests.{ne_eqb, eqb-true, eqb-false}
 use Rattle.meaning.specs.Basics.{pick}
 use Rattle.meaning.specs.Told.{Told}
-use Rattle.meaning.specs.Bytes.{Taken, text_byte, passes, number_most, Turn, stop, more, wrong, turn, take_number, high_first, too_wide, take_bytes, block_of, Width, one_byte, two_bytes, four_bytes, bytes_of}
+use Rattle.meaning.specs.Bytes.{Taken, text_byte, passes, number_most, stop, more, wrong, turn, take_number, high_first, too_wide, take_bytes, block_of, Width, one_byte, two_bytes, four_bytes, bytes_of}
 use Rattle.laws_steps.specs.From.{from, from_length, from_cons}
-use Rattle.values.specs.Stages.{Span, spans, misses, span, rule_of}
+use Rattle.values.specs.Stages.{misses, span, rule_of}
 use Rattle.values.specs.Answers.{span_prefixed}
 use Rattle.values.proofs.Texts.{text_stops, text_wrong, text_goes}
 use Rattle.values.specs.declared.text.Rule.{Rule}
@@ -24,7 +24,7 @@ use Rattle.plain.specs.declared.feed.Pending.{Pending}
 use Rattle.plain.specs.declared.feed.Taking.TheVariants.{Text, Date, Number, Length, Block}
 use Rattle.plain.specs.declared.feed.Fed.{Fed}
 use Rattle.plain.specs.declared.feed.Fed.TheVariants.{Goes, Ends, Wrong}
-use Rattle.plain.specs.Values.{pending_of, width_of, length_below, span_from, Valid, fed_span, Alike, Follows, block_from, Feeds}
+use Rattle.plain.specs.Values.{width_of, length_below, span_from, Valid, fed_span, Follows, block_from, Feeds}
 
 module _ (t : Told) (s : List ℕ) (at : ℕ) where
   -- Texts

@@ -1,20 +1,17 @@
 -- A value's step, poured: the next state, the value's row, or the refusal.
 use Prim.Native.Nat.{ℕ, ◌+◌, ◌-◌, ◌≤◌, ◌<◌}
 use mathlib.Core.List.{List}
-use mathlib.Core.Path.{◌≡◌, refl, ap, sym, ◌∙◌}
+use mathlib.Core.Path.{◌≡◌, refl, ap, ◌∙◌}
 use native.Mathlib.Omega.{arith}
 use lib.ListN.{length}
 use Rattle.meaning.specs.Told.{Told}
 use Rattle.meaning.specs.Editions.{State, go}
 use Rattle.laws_steps.specs.From.{from, from_length}
-use Rattle.laws_steps.specs.Rows.{put}
-use Rattle.laws_steps.specs.Pouring.{Filling, Source, source, run_at}
+use Rattle.laws_steps.specs.Pouring.{Filling, Source, source}
 use Rattle.values.specs.Stages.{Span}
 use Rattle.moves.specs.declared.rooms.Room.{Room}
-use Rattle.moves.specs.declared.rooms.Next.{Next}
-use Rattle.moves.specs.Words.{room_of, next_of}
+use Rattle.moves.specs.Words.{next_of}
 use Rattle.plain.specs.declared.lists.Lists.{Lists}
-use Rattle.plain.specs.declared.feed.Pending.{Pending}
 use Rattle.plain.specs.declared.feed.Taking.{Taking}
 use Rattle.plain.specs.declared.feed.Fed.{Fed}
 use Rattle.plain.specs.declared.feed.Fed.TheVariants as fed
@@ -22,8 +19,8 @@ use Rattle.plain.specs.declared.state.Doing.{Doing}
 use Rattle.plain.specs.declared.state.Doing.TheVariants.{Code, Value}
 use Rattle.plain.specs.declared.state.Engine.{Engine}
 use Rattle.plain.specs.Lists.{state_of, Nested, Bounded, Leads}
-use Rattle.plain.specs.Values.{pending_of, back_of, span_from, Valid, fed_span, Follows, Feeds}
-use Rattle.plain.specs.Steps.{landed_span, value_at, fed_at, FedLeads, FedValid, doing_at, comes, DoingHolds, Holds, StepsFrom, CodeSteps, Steps}
+use Rattle.plain.specs.Values.{pending_of, back_of, Valid, fed_span, Follows, Feeds}
+use Rattle.plain.specs.Steps.{landed_span, value_at, fed_at, FedLeads, FedValid, doing_at, DoingHolds, Holds, StepsFrom, CodeSteps, Steps}
 
 module _ (t : Told) (s : List ℕ) (at : ℕ) where
   lands_by : (taking : Taking) (x : Fed) → Follows taking at x → (end : ℕ) → at < end → end ≤ length s → (st : State) (n : ℕ) (m : List ℕ)
@@ -72,8 +69,8 @@ module _ (t : Told) (s : List ℕ) (at : ℕ) where
   fed_steps room l a g = record { is = λ end h k n m. fed_lands a end h k (state_of room l) n m; valid = fed_valid a; leads = fed_leads a g }
 
 -- what steps from one reading steps from another that comes to the same
-pub steps_onward : {Begins mid : Source → ℕ → List ℕ → Filling} {room : Room} {l : Lists} {t : Told} {s : List ℕ} {at : ℕ} {x : Fed}
-    → ((end : ℕ) → at < end → end ≤ length s → (n : ℕ) (m : List ℕ) → Begins (source t s end) n m ≡ mid (source t s end) n m) → StepsFrom mid room l t s at x → StepsFrom Begins room l t s at x
+pub steps_onward : {begins mid : Source → ℕ → List ℕ → Filling} {room : Room} {l : Lists} {t : Told} {s : List ℕ} {at : ℕ} {x : Fed}
+    → ((end : ℕ) → at < end → end ≤ length s → (n : ℕ) (m : List ℕ) → begins (source t s end) n m ≡ mid (source t s end) n m) → StepsFrom mid room l t s at x → StepsFrom begins room l t s at x
 steps_onward q a = record { is = λ end h k n m. q end h k n m ∙ a.is end h k n m; valid = a.valid; leads = a.leads }
 
 -- the engine's step

@@ -1,13 +1,12 @@
 -- Where a move leads among the open lists is where it leads in `meaning`.
 use Prim.Native.Nat.{ℕ, zero, suc, ◌+◌, ◌-◌, ◌≤◌, ◌<◌}
-use mathlib.Core.List.{List}
 use mathlib.Core.Bool.{Bool, true, false, ◌&&◌}
 use mathlib.Core.Logic.{◌⊎◌, inl, inr}
-use mathlib.Core.Path.{◌≡◌, refl, ap, sym, ◌∙◌, subst}
+use mathlib.Core.Path.{◌≡◌, refl, ap, sym, ◌∙◌}
 use native.Mathlib.Omega.{arith}
 use native.Mathlib.Numerals.{add-one}
 use lib.Dec.{eqb}
-use lib.ListN.{length, get_or, set, length-set}
+use lib.ListN.{get_or, set, length-set}
 use lib.Seq.{get_or-set_same, get_or-set_other}
 use borrow.Author.Tests.{ne_eqb, eqb-true, eqb-false}
 use Rattle.meaning.specs.Basics.{pick}
@@ -17,10 +16,9 @@ use Rattle.moves.specs.declared.rooms.Room.{Room}
 use Rattle.moves.specs.declared.rooms.Room.TheVariants.{AgentList, OneAgent, Parameters, AfterResolvers}
 use Rattle.moves.specs.declared.rooms.Next.{Next}
 use Rattle.moves.specs.declared.rooms.Next.TheVariants.{Outer, Inner, InnerOne, Stay, Deeper, ListEnds, AgentEnds}
-use Rattle.moves.specs.Words.{room_of, next_of}
 use Rattle.plain.specs.declared.lists.Lists.{Lists}
 use Rattle.plain.specs.declared.lists.Standing.{Standing}
-use Rattle.plain.specs.Lists.{many, one, resolvers, lists_most, single_of, state_of, Nested, Bounded, Leads, Gone, standing, none_open, one_open, one_more}
+use Rattle.plain.specs.Lists.{many, one, resolvers, single_of, Nested, Bounded, Leads, Gone, standing, none_open, one_open, one_more}
 
 -- a move that ends no list leads from eight lists at most
 pub eight : {n : Next} {l : Lists} → Leads n l → (n ≡ ListEnds → ⊥) → l.depth ≤ 8

@@ -8,14 +8,14 @@ use native.Mathlib.Omega.{arith}
 use lib.ListN.{length}
 use Rattle.meaning.specs.Told.{Told}
 use Rattle.meaning.specs.Bytes.{Taken, took, failed, take_text, take_number, high_first, take_bytes, block_of}
-use Rattle.meaning.specs.Editions.{State, state, go, closed}
+use Rattle.meaning.specs.Editions.{state, go, closed}
 use Rattle.meaning.specs.Reading.{is_closed}
 use Rattle.meaning.specs.Headers.{start}
 use Rattle.laws_steps.specs.From.{from, from_end}
 use Rattle.laws_steps.specs.Rows.{put}
-use Rattle.laws_steps.specs.Pouring.{Filling, stopped, Source, source, run_at}
+use Rattle.laws_steps.specs.Pouring.{Filling, Source, source, run_at}
 use Rattle.laws_steps.specs.ReadAt.{at_end}
-use Rattle.values.specs.Stages.{Span, spans, misses, span, rule_of, Skipped, LineRun}
+use Rattle.values.specs.Stages.{Span, spans, misses, span, rule_of, LineRun}
 use Rattle.values.specs.declared.text.Rule.{Rule}
 use Rattle.date.specs.Dates.{date_length}
 use Rattle.date.specs.DateSteps.{date_ends}
@@ -33,7 +33,7 @@ use Rattle.moves.specs.declared.rooms.Next.{Next}
 use Rattle.plain.specs.declared.feed.Fed.{Fed}
 use Rattle.plain.specs.declared.feed.Fed.TheVariants as fed
 use Rattle.plain.specs.Lists.{state_of, Leads, Gone}
-use Rattle.plain.specs.Values.{pending_of, back_of, span_from, Valid}
+use Rattle.plain.specs.Values.{span_from, Valid}
 use Rattle.plain.specs.Steps.{landed_span, value_at, fed_at, FedLeads, FedValid, doing_at, comes, DoingHolds, Holds, Steps, Begins, PastText, Ended}
 use Rattle.plain.proofs.Feeding.{block_on}
 use Rattle.plain.proofs.Coding.{closed_same}

@@ -21,7 +21,7 @@ use Rattle.plain.specs.declared.feed.Fed.TheVariants as fed
 use Rattle.plain.specs.declared.state.Doing.{Doing}
 use Rattle.plain.specs.declared.state.Doing.TheVariants.{Code, Value}
 use Rattle.plain.specs.declared.state.Engine.{Engine}
-use Rattle.plain.specs.Lists.{state_of, Nested, Bounded, Leads}
+use Rattle.plain.specs.Lists.{state_of, Bounded, Leads}
 use Rattle.plain.specs.Values.{pending_of, back_of, span_from, Valid}
 
 -- behind a value: its row is stored, and reading goes on in the state q
@@ -73,8 +73,8 @@ abbrev pub Holds : Engine → ℕ → Type 0
 Holds e at = DoingHolds e.room e.lists at e.doing
 
 -- a step from what reading comes to, whatever the declared end
-pub record StepsFrom (Begins : Source → ℕ → List ℕ → Filling) (room : Room) (l : Lists) (t : Told) (s : List ℕ) (at : ℕ) (x : Fed) : Type 0 where
-  pub is : (end : ℕ) → at < end → end ≤ length s → (n : ℕ) (m : List ℕ) → Begins (source t s end) n m ≡ fed_at (source t s end) (state_of room l) x at n m
+pub record StepsFrom (begins : Source → ℕ → List ℕ → Filling) (room : Room) (l : Lists) (t : Told) (s : List ℕ) (at : ℕ) (x : Fed) : Type 0 where
+  pub is : (end : ℕ) → at < end → end ≤ length s → (n : ℕ) (m : List ℕ) → begins (source t s end) n m ≡ fed_at (source t s end) (state_of room l) x at n m
   pub valid : FedValid at x
   pub leads : FedLeads l x
 

@@ -1,5 +1,6 @@
 // The plain engine: a second reader in which no function calls itself. One step a byte; the open lists stand in an array.
 #![tactic(auto)]
+
 pub mod codes;
 pub mod engine;
 pub mod feed;

@@ -7,7 +7,7 @@ use lib.Dec.{T}
 use Rattle.meaning.specs.Basics.{pick}
 use Rattle.meaning.specs.Told.{Edition, known, unknown, label_of}
 use Rattle.meaning.specs.Codes.{can_ask}
-use Rattle.meaning.specs.Memory.{Reply, reply, room_of}
+use Rattle.meaning.specs.Memory.{reply, room_of}
 use Rattle.meaning.specs.Present.{passed, checked, answered_by, present_under, present_answer}
 use Rattle.laws_steps.specs.Logic.{are_bytes}
 use Rattle.laws_tables.specs.Passing.{first_at}

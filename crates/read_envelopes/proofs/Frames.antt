@@ -7,7 +7,6 @@ use native.Mathlib.Omega.{arith}
 use lib.ListN.{length}
 use Rattle.meaning.specs.Told.{Told}
 use Rattle.meaning.specs.Headers.{Answer, envelope_most, header}
-use Rattle.meaning.specs.Headers as meaning
 use Rattle.laws_steps.specs.Finishing.{finish}
 use Rattle.frames.specs.declared.frame.Frame.{Frame}
 use Rattle.frames.specs.declared.frame.Frame.TheVariants.{Opens, Refused}
@@ -46,6 +45,6 @@ module _ {s : List ℕ} {at left : ℕ} {f : Frame} where
       → EnvelopeOpened t s at first end base n m r kept → EnvelopeRead t s left at n m r kept
   unfolding framed
   envelope_read t n m {end = end} {r = r} h a b =
-      let (Begins, before, whole, most, comes) = opens_fit h a in
+      let (begins, before, whole, most, comes) = opens_fit h a in
       let is = rw h at (a.is t) in
       record { is = ap (λ (x : Answer). finish x n m) is ∙ b.is (header (left - 1) t); fits = ended_fits s at end r (omega arith) whole most b.fits; more = others_come left r comes }

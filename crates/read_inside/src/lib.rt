@@ -1,4 +1,5 @@
 // The inside of one envelope, as rows in lent memory.
 #![tactic(auto)]
+
 pub mod inside;
 mod parameters;

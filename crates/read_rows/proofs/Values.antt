@@ -55,7 +55,7 @@ module _ (i : Source) (at n level : ℕ) (m : List ℕ) (ready : Ready i.bytes i
       → Ran i (at + 1) (landed i back kind level q taken n m) (goes_on v n) q (keeps v n level m)
   unfolding span_of Stands after Moved
   value_kept kind back q taken (Is k start len p) a =
-      let (kinds, sums, Begins, moved, before) = a.stands in
+      let (kinds, sums, begins, moved, before) = a.stands in
       let few = ready.few in
       let u : i.end - (length (from i.bytes p i.end) + len + back) ≡ start = omega (arith, from_length i.bytes p i.end before ready.whole) in
       record { goes = landed_spans back kind q len (from i.bytes p i.end) taken a.is ∙ rw (u, kinds) refl; moved = (omega arith, before, omega arith) }

@@ -1,5 +1,6 @@
 // The values of an envelope: the stages that take one off the input.
 #![tactic(auto)]
+
 pub mod any;
 pub mod bytes;
 pub mod digits;

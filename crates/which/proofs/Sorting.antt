@@ -6,9 +6,9 @@ use mathlib.Core.Path.{◌≡◌, refl, ap, sym, ◌∙◌}
 use lib.Dec.{T, eqb}
 use Rattle.meaning.specs.Basics.{pick}
 use Rattle.meaning.specs.Told.{strict}
-use Rattle.meaning.specs.Headers.{Placed, Answer, refused, accepted, read_by}
-use Rattle.meaning.specs.Memory.{Reply, reply, read_reply, read_memory, room_with, table_of, words_read, answer_by, rows_by, words_by}
-use Rattle.meaning.specs.Which.{Sorted, allowing, either, editions_of, read_either, sorted, which_answer, which_rows, which_words}
+use Rattle.meaning.specs.Headers.{read_by}
+use Rattle.meaning.specs.Memory.{reply, read_reply, read_memory, room_with, table_of, words_read, answer_by, rows_by, words_by}
+use Rattle.meaning.specs.Which.{Sorted, editions_of, read_either, sorted, which_answer, which_rows, which_words}
 use Rattle.laws_steps.specs.Logic.{are_bytes}
 use Rattle.table.specs.declared.reply.Reply as table
 use Rattle.table.specs.Reply.{reply_of}

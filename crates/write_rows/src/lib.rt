@@ -1,5 +1,6 @@
 // One row of a table as bytes: laid or only counted, checked against its form, alone or in runs of one form.
 #![tactic(auto)]
+
 pub mod advance;
 pub mod ahead;
 pub mod any;

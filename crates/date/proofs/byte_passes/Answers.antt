@@ -1,9 +1,6 @@
 -- `byte_passes`: the check of byte j, by j and then by the date's reach.
-use Prim.Native.Nat.{◌+◌}
-use native.Mathlib.Omega.{arith}
-use borrow.Author.Rules.{rules}
 use Rattle.date.specs.Dates.{earlier}
-use Rattle.date.proofs.Dates.{check_padded, check_letter, check_pair, check_absolute, check_relative}
+use Rattle.date.proofs.Dates.{check_pair, check_relative}
 use Rattle.date.proofs.byte_passes.Goals as goal
 
 pub returns : goal.returns

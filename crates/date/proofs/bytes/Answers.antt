@@ -1,15 +1,8 @@
 -- `bytes`: the invariant says that the date is what is left of it from byte j on; each turn is one law.
-use Prim.Native.Nat.{◌+◌, ◌-◌, ◌≤◌}
-use mathlib.Core.List.{[]}
-use mathlib.Core.Path.{◌≡◌, ◌∙◌}
+use mathlib.Core.Path.{◌∙◌}
 use native.Mathlib.Omega.{arith}
-use lib.ListN.{length}
-use Rattle.meaning.specs.Bytes.{take_date, date_checks}
-use Rattle.laws_steps.specs.From.{from}
-use Rattle.values.specs.Stages.{span}
 use Rattle.values.specs.Answers.{answered, refuses}
-use Rattle.date.specs.Dates.{reaching}
-use Rattle.date.specs.DateSteps.{date_from, date_begins, date_over, date_ends, date_wrong, date_goes, passing_goes, nine_at_least}
+use Rattle.date.specs.DateSteps.{date_begins, date_over, date_ends, date_wrong, date_goes, passing_goes, nine_at_least}
 use Rattle.date.proofs.bytes.Goals as goal
 
 pub loop-j-init : goal.loop-j-init

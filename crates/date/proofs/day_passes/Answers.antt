@@ -1,8 +1,7 @@
 -- `day_passes`: a day that every month has, or one up to the month's last.
-use borrow.Author.Rules.{rules}
 use native.Mathlib.Omega.{arith}
 use Rattle.date.specs.Dates.{earlier}
-use Rattle.date.proofs.Days.{after_between, early_passes, late_passes}
+use Rattle.date.proofs.Days.{after_between, early_passes}
 use Rattle.date.proofs.day_passes.Goals as goal
 
 pub returns-then-within : goal.returns-then-within

@@ -1,6 +1,5 @@
 -- `in_calendar`: the check of each byte by its number.
 use mathlib.Core.Path.{refl, ◌∙◌}
-use borrow.Author.Rules.{rules}
 use borrow.Author.Tests.{ne_eqb}
 use Rattle.meaning.specs.Bytes.{passes}
 use Rattle.date.proofs.in_calendar.Goals as goal

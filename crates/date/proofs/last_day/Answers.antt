@@ -1,5 +1,4 @@
 -- `last_day`: the month and its year, from the bytes before the day.
-use borrow.Author.Rules.{rules}
 use Rattle.date.proofs.Days.{last_day_is}
 use Rattle.date.proofs.last_day.Goals as goal
 

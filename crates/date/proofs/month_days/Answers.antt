@@ -1,5 +1,4 @@
 -- `month_days`: each month by its number.
-use borrow.Author.Rules.{rules}
 use borrow.Author.Tests.{ne_eqb}
 use mathlib.Core.Logic.{⊎_elim, inl, inr}
 use mathlib.Core.Path.{refl, ◌∙◌}

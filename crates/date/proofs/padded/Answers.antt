@@ -1,6 +1,5 @@
 -- `padded` is its check.
 use mathlib.Core.Path.{refl}
-use borrow.Author.Rules.{rules}
 use Rattle.meaning.specs.Bytes.{passes}
 use Rattle.date.proofs.padded.Goals as goal
 

@@ -1,6 +1,5 @@
 -- `take`: what the code says, and the bytes behind it.
 use native.Mathlib.Omega.{arith}
-use borrow.Author.Rules.{rules}
 use Rattle.meaning.specs.Reading.{take_value}
 use Rattle.values.specs.Stages.{ended}
 use Rattle.date.proofs.Dates.{dated_at, undated}

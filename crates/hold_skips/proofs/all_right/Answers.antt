@@ -1,10 +1,5 @@
 -- `all_right`: the invariant says that the skip numbers from `next` on are right, and how the rows up to `end` stand.
-use Prim.Native.Nat.{ℕ}
-use mathlib.Core.Path.{◌≡◌}
-use native.Mathlib.Omega.{arith}
-use borrow.Author.Rules.{rules}
-use Rattle.hold_skips.specs.Holding.{HeldFrom}
-use Rattle.hold_skips.proofs.Holdings.{none_held, held_row, held_envelope}
+use Rattle.hold_skips.proofs.Holdings.{held_row, held_envelope}
 use Rattle.hold_skips.proofs.all_right.Goals as goal
 
 pub loop-next-smaller-in-Row : goal.loop-next-smaller-in-Row

@@ -1,5 +1,4 @@
 -- `first_wrong`: all are right, or the lowest that is not.
-use borrow.Author.Rules.{rules}
 use Rattle.skips.specs.Passes.{all_right_held, lowest_held}
 use Rattle.hold_skips.proofs.first_wrong.Goals as goal
 

@@ -1,6 +1,5 @@
 -- `hold_envelope`: its level, then its skip number.
 use mathlib.Core.Path.{refl, sym, ◌∙◌}
-use borrow.Author.Rules.{rules}
 use Rattle.hold_skips.specs.Holding.{EnvelopeHeld}
 use Rattle.hold_skips.proofs.hold_envelope.Goals as goal
 

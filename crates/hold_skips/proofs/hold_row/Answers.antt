@@ -1,7 +1,5 @@
 -- `hold_row`: the row before those that are held, by its class; a run as a whole. A kind that no row has is no table's.
-use native.Mathlib.Omega.{arith}
-use borrow.Author.Rules.{rules}
-use Rattle.hold_skips.proofs.Holdings.{nothing_held, turn_inside, turn_hoppable, plain_held, deeper_owned, deeper_held, agent_owned, agent_held, run_to_hold, run_turned, envelope_held}
+use Rattle.hold_skips.proofs.Holdings.{nothing_held, turn_hoppable, plain_held, deeper_owned, deeper_held, agent_owned, agent_held, run_to_hold, run_turned, envelope_held}
 use Rattle.hold_skips.proofs.hold_row.Goals as goal
 
 pub returns-then-class-lt-HOLDS_DEEPER : goal.returns-then-class-lt-HOLDS_DEEPER

@@ -1,11 +1,8 @@
 -- `hold_run`: the invariant says that the rows behind row i up to the last are of the run, and held.
 use Prim.Native.Nat.{ℕ}
 use mathlib.Core.Path.{ap, sym, ◌∙◌}
-use native.Mathlib.Omega.{arith}
-use borrow.Author.Rules.{rules}
 use Rattle.laws_tables.specs.Neighbours.{leads}
-use Rattle.hold_skips.specs.Holding.{RunToHold}
-use Rattle.hold_skips.proofs.Holdings.{nothing_held, RunHeld, last_inside, run_begins, here_inside, run_on, run_held}
+use Rattle.hold_skips.proofs.Holdings.{nothing_held, here_inside, run_on, run_held}
 use Rattle.hold_skips.proofs.hold_run.Goals as goal
 
 pub kind_at-requires : goal.kind_at-requires

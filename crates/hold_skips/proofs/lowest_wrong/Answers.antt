@@ -1,9 +1,5 @@
 -- `lowest_wrong`: the invariant says that the skip numbers before row i are right.
-use Prim.Native.Nat.{◌-◌, ◌≤◌}
-use mathlib.Core.Path.{◌≡◌, refl}
 use native.Mathlib.Omega.{arith}
-use borrow.Author.Rules.{rules}
-use Rattle.laws_steps.specs.Hopping.{held_at}
 use Rattle.skips.specs.Passes.{held_ends, held_on, held_stops}
 use Rattle.hold_skips.proofs.lowest_wrong.Goals as goal
 

@@ -1,8 +1,6 @@
 -- `walked_end`: the invariant says that all rows up to j belong to row i, and that what is left of its rows begins there.
-use Prim.Native.Nat.{◌-◌}
-use borrow.Author.Rules.{rules}
 use mathlib.Core.Path.{refl}
-use Rattle.laws_steps.specs.Hopping.{HopsTo, hop_begins}
+use Rattle.laws_steps.specs.Hopping.{hop_begins}
 use Rattle.skips.specs.Owners.{owns}
 use Rattle.skips.specs.Hops.{ends, owned_as, steps, stops}
 use Rattle.hold_skips.proofs.walked_end.Goals as goal

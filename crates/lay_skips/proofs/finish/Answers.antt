@@ -1,7 +1,6 @@
 -- `finish`: the invariant says that the rows from `next` on have their skip numbers, and that their envelopes' words stand in front.
 use native.Mathlib.Omega.{arith}
-use borrow.Author.Rules.{rules}
-use Rattle.lay_skips.proofs.Finishing.{FinishedFrom, none_finished, rows_long, words_long, all_finished, laid_from, own_inside, next_small, has_word, count_small, one_finished}
+use Rattle.lay_skips.proofs.Finishing.{none_finished, laid_from, has_word, count_small, one_finished}
 use Rattle.lay_skips.proofs.finish.Goals as goal
 
 pub loop-next-init : goal.loop-next-init

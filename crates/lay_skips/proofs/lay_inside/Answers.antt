@@ -1,10 +1,5 @@
 -- `lay_inside`: the invariant says that the rows from `next` up to `end` are inside an envelope, have their skip numbers, and what is seen of its word.
-use Prim.Native.Nat.{ℕ}
-use mathlib.Core.List.{List}
-use mathlib.Core.Path.{sym, ◌∙◌}
-use borrow.Author.Rules.{rules}
-use Rattle.lay_skips.specs.Laying.{LaidFrom, LaidBack}
-use Rattle.lay_skips.proofs.Turning.{back_begins, turned_on, turned_out, from_long, inside_long}
+use Rattle.lay_skips.proofs.Turning.{back_begins, turned_on, turned_out}
 use Rattle.lay_skips.proofs.lay_inside.Goals as goal
 
 pub loop-row-init : goal.loop-row-init

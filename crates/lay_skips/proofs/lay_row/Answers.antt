@@ -1,6 +1,5 @@
 -- `lay_row`: the row before those that are laid, by its class; a run as a whole.
 use native.Mathlib.Omega.{arith}
-use borrow.Author.Rules.{rules}
 use Rattle.lay_skips.proofs.Turning.{back_inside, back_small, back_hoppable, kind_known, plain_turn, deeper_owned, deeper_turn, agent_owned, agent_turn, run_before, run_inside, opener_known, run_turn, envelope_turn}
 use Rattle.lay_skips.proofs.lay_row.Goals as goal
 

@@ -1,10 +1,6 @@
 -- `lay_run`: the invariant says that the rows behind row i up to the last are of the run, and laid.
-use Prim.Native.Nat.{ℕ}
-use mathlib.Core.List.{List}
-use mathlib.Core.Path.{sym, ◌∙◌}
 use native.Mathlib.Omega.{arith}
-use Rattle.lay_skips.specs.Laying.{RunBefore}
-use Rattle.lay_skips.proofs.Running.{RunBack, run_begins, run_inside, run_long, before_long, next_small, not_first, run_again, last_small, run_ended}
+use Rattle.lay_skips.proofs.Running.{run_inside, next_small, not_first, run_again, last_small, run_ended}
 use Rattle.lay_skips.proofs.lay_run.Goals as goal
 
 pub kind_at-requires : goal.kind_at-requires

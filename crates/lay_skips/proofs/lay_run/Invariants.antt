@@ -1,10 +1,8 @@
 -- `lay_run`: the invariant says that the rows behind row i up to the last are of the run, and laid.
 use Prim.Native.Nat.{ℕ}
 use mathlib.Core.List.{List}
-use mathlib.Core.Path.{sym, ◌∙◌}
-use native.Mathlib.Omega.{arith}
 use Rattle.lay_skips.specs.Laying.{RunBefore}
-use Rattle.lay_skips.proofs.Running.{RunBack, run_begins, run_inside, run_long, before_long, next_small, not_first, run_again, last_small, run_ended}
+use Rattle.lay_skips.proofs.Running.{RunBack}
 use Rattle.lay_skips.proofs.lay_run.Given as goal
 
 abbrev pub invariant-loop-rows : goal.invariant-loop-rows

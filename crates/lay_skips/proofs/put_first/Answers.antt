@@ -1,10 +1,9 @@
 -- `put_first`: the invariant says that the words before place i have moved one place on, and which one is in hand.
-use Prim.Native.Nat.{ℕ, suc, ◌+◌, ◌-◌, ◌≤◌, ◌<◌}
+use Prim.Native.Nat.{ℕ, suc, ◌+◌, ◌<◌}
 use mathlib.Core.List.{List}
 use mathlib.Core.Path.{◌≡◌, refl, ap, ◌∙◌}
 use native.Mathlib.Omega.{arith}
-use borrow.Author.Rules.{rules}
-use lib.ListN.{length, get_or, set, length-set}
+use lib.ListN.{length, get_or, set}
 use Rattle.lay_skips.proofs.Pushing.{pushed, in_hand, begins_pushed, pushed_length, pushes, takes_up, first_laid}
 use Rattle.lay_skips.proofs.put_first.Goals as goal
 
@@ -12,7 +11,6 @@ pub loop-i-init : goal.loop-i-init
 loop-i-init c = (begins_pushed c.args.word c.args.words.now, refl, omega arith)
 
 inside : (c : goal.After-slice_known-1) → c.loop-i.i < length c.loop-i.words
-
 inside c =
     let a = c.args in
     let l = c.loop-i in

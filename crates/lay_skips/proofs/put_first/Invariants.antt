@@ -1,11 +1,7 @@
 -- `put_first`: the invariant says that the words before place i have moved one place on, and which one is in hand.
-use Prim.Native.Nat.{ℕ, suc, ◌+◌, ◌-◌, ◌≤◌, ◌<◌}
-use mathlib.Core.List.{List}
-use mathlib.Core.Path.{◌≡◌, refl, ap, ◌∙◌}
-use native.Mathlib.Omega.{arith}
-use borrow.Author.Rules.{rules}
-use lib.ListN.{length, get_or, set, length-set}
-use Rattle.lay_skips.proofs.Pushing.{pushed, in_hand, begins_pushed, pushed_length, pushes, takes_up, first_laid}
+use Prim.Native.Nat.{◌-◌, ◌≤◌}
+use mathlib.Core.Path.{◌≡◌}
+use Rattle.lay_skips.proofs.Pushing.{pushed, in_hand}
 use Rattle.lay_skips.proofs.put_first.Given as goal
 
 abbrev pub invariant-loop-i : goal.invariant-loop-i

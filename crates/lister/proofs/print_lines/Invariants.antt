@@ -1,10 +1,7 @@
 -- `print_lines` ends: the text behind the last piece, and that piece, are what was left before it.
 use Prim.Native.Nat.{◌+◌}
-use native.Mathlib.Omega.{arith}
-use borrow.Author.Rules.{rules}
 use lib.ListN.{length}
 use Rattle.listing.specs.Text.{text_at}
-use Rattle.lister.proofs.Turns.{turn_falls}
 use Rattle.lister.proofs.print_lines.Given as goal
 
 abbrev pub decreases-loop-piece : goal.decreases-loop-piece

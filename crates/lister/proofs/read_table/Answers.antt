@@ -1,6 +1,5 @@
 -- `read_table`: the reader's promise, and that its text is the listing.
 use Rattle.lister.proofs.Tables.{table_listed}
-use borrow.Author.Rules.{rules}
 use Rattle.lister.proofs.read_table.Goals as goal
 
 pub returns : goal.returns

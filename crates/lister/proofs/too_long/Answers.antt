@@ -3,7 +3,6 @@ use mathlib.Core.Path.{refl}
 use borrow.Author.Tests.{lt-ltb}
 use lib.ListN.{length}
 use Rattle.meaning.specs.Listing.{input_most, listing}
-use Rattle.lister.specs.Promise.{LongPromise}
 use Rattle.lister.proofs.too_long.Goals as goal
 
 pub returns : goal.returns

@@ -1,5 +1,4 @@
 -- `first_line`: three fields; each number has twenty digits at most.
-use mathlib.Core.Path.{◌∙◌}
 use native.Mathlib.Omega.{arith}
 use Rattle.pen.specs.Written.{wrote_then, wrote_as}
 use Rattle.pen.specs.Decimals.{ten_digits, twenty_digits, field_end}

@@ -1,7 +1,6 @@
 -- `lines` is its definition, test by test.
 use mathlib.Core.Path.{refl}
 use native.Mathlib.Omega.{arith}
-use borrow.Author.Rules.{rules}
 use borrow.Author.Tests.{eq-eqb, ne_eqb}
 use Rattle.listing.specs.Text.{lines_of}
 use Rattle.listing.proofs.lines.Goals as goal

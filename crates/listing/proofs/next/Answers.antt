@@ -1,6 +1,5 @@
 -- `next`: the first line, the next piece of a row, or nothing behind the last line.
 use native.Mathlib.Omega.{arith}
-use borrow.Author.Rules.{rules}
 use Rattle.listing.specs.Cursors.{lines_within}
 use Rattle.listing.proofs.Answers.{next_short, next_first, next_over, next_row}
 use Rattle.listing.proofs.next.Goals as goal

@@ -1,14 +1,12 @@
 -- `look`: the invariant says that the definition goes on from where the loop stands.
-use Prim.Native.Nat.{◌-◌}
 use mathlib.Core.Path.{ap, sym, ◌∙◌}
 use native.Mathlib.Omega.{arith}
-use borrow.Author.Rules.{rules}
-use Rattle.meaning.specs.Lookup.{left_out, looked_reply}
-use Rattle.lookup.proofs.Looks.{Standing, Begins, none_left, skip_below, skip_past, answered, past_envelope, past_row, entry_forward}
+use Rattle.meaning.specs.Lookup.{looked_reply}
+use Rattle.lookup.proofs.Looks.{begins, none_left, skip_below, skip_past, answered, past_envelope, past_row}
 use Rattle.lookup.proofs.look.Goals as goal
 
 pub loop-i-init : goal.loop-i-init
-loop-i-init c = let a = c.args in Begins a.rows.now a.words.now a.code
+loop-i-init c = let a = c.args in begins a.rows.now a.words.now a.code
 
 pub returns-then-skip-i : goal.returns-then-skip-i
 returns-then-skip-i c = c.refused.ensures ∙ ap looked_reply (sym (skip_below c.loop-i.invariant (omega (arith, c.room-n.ensures, c.loop-i-test.true)) c.kind_at-kind.ensures c.skip_at-skip.ensures c.if-skip-i.true))

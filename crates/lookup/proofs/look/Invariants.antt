@@ -1,10 +1,6 @@
 -- `look`: the invariant says that the definition goes on from where the loop stands.
 use Prim.Native.Nat.{◌-◌}
-use mathlib.Core.Path.{ap, sym, ◌∙◌}
-use native.Mathlib.Omega.{arith}
-use borrow.Author.Rules.{rules}
-use Rattle.meaning.specs.Lookup.{left_out, looked_reply}
-use Rattle.lookup.proofs.Looks.{Standing, Begins, none_left, skip_below, skip_past, answered, past_envelope, past_row, entry_forward}
+use Rattle.lookup.proofs.Looks.{Standing}
 use Rattle.lookup.proofs.look.Given as goal
 
 abbrev pub invariant-loop-i : goal.invariant-loop-i

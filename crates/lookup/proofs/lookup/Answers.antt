@@ -1,7 +1,5 @@
 -- `lookup`: what is refused, in the documents' order, and then the hops.
-use mathlib.Core.Path.{◌≡◌, ap, sym, ◌∙◌}
-use native.Mathlib.Omega.{arith}
-use borrow.Author.Rules.{rules}
+use mathlib.Core.Path.{ap, sym, ◌∙◌}
 use Rattle.meaning.specs.Memory.{reply}
 use Rattle.lookup.proofs.Looks.{not_asked, few_words, not_whole, whole_rows}
 use Rattle.lookup.proofs.lookup.Goals as goal

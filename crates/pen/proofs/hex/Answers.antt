@@ -1,11 +1,10 @@
 -- `pen::hex`: the invariant says that the first k bytes are printed.
-use Prim.Native.Nat.{◌+◌, ◌-◌, ◌*◌, ◌/◌, ◌%◌, ◌≤◌}
+use Prim.Native.Nat.{◌/◌, ◌%◌}
 use mathlib.Core.List.{[], ◌∷◌}
-use mathlib.Core.Path.{◌≡◌, refl, ◌∙◌}
+use mathlib.Core.Path.{refl, ◌∙◌}
 use native.Mathlib.Omega.{arith}
-use lib.ListN.{length}
-use Rattle.meaning.specs.Listing.{hex_character, hex_of}
-use Rattle.pen.specs.Written.{Printing, printing_begins, printing_goes, printing_ends}
+use Rattle.meaning.specs.Listing.{hex_character}
+use Rattle.pen.specs.Written.{printing_goes}
 use Rattle.pen.proofs.hex.Goals as goal
 
 pub loop-k-preserved : goal.loop-k-preserved

@@ -1,11 +1,9 @@
 -- `pen::hex`: the invariant says that the first k bytes are printed.
-use Prim.Native.Nat.{◌+◌, ◌-◌, ◌*◌, ◌/◌, ◌%◌, ◌≤◌}
-use mathlib.Core.List.{[], ◌∷◌}
-use mathlib.Core.Path.{◌≡◌, refl, ◌∙◌}
-use native.Mathlib.Omega.{arith}
+use Prim.Native.Nat.{◌+◌, ◌-◌, ◌*◌, ◌≤◌}
+use mathlib.Core.Path.{◌≡◌}
 use lib.ListN.{length}
-use Rattle.meaning.specs.Listing.{hex_character, hex_of}
-use Rattle.pen.specs.Written.{Printing, printing_begins, printing_goes, printing_ends}
+use Rattle.meaning.specs.Listing.{hex_of}
+use Rattle.pen.specs.Written.{Printing}
 use Rattle.pen.proofs.hex.Given as goal
 
 abbrev pub invariant-loop-k : goal.invariant-loop-k

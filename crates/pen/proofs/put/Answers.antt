@@ -1,5 +1,4 @@
 -- `pen::put`: one byte stored.
-use borrow.Author.Rules.{rules}
 use Rattle.pen.specs.Written.{wrote_one}
 use Rattle.pen.proofs.put.Goals as goal
 

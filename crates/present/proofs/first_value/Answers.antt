@@ -1,8 +1,5 @@
 -- `first_value`: the invariant says that the first value of all rows is the first from row i on.
-use Prim.Native.Nat.{◌-◌}
-use native.Mathlib.Omega.{arith}
-use borrow.Author.Rules.{rules}
-use Rattle.present.proofs.Walk.{Looked, looked_none, looked_all, found, looks_on, looks_less}
+use Rattle.present.proofs.Walk.{looked_all, found, looks_on, looks_less}
 use Rattle.present.proofs.first_value.Goals as goal
 
 pub returns-then-has_value : goal.returns-then-has_value

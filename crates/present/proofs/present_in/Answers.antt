@@ -1,7 +1,6 @@
 -- `present_in`: what the check refuses, else the walk's row.
 use Rattle.table.specs.Told.{edition_of}
-use Rattle.present.proofs.Answers.{answers, refuses, walkable}
-use borrow.Author.Rules.{rules}
+use Rattle.present.proofs.Answers.{answers, walkable}
 use Rattle.present.proofs.present_in.Goals as goal
 
 pub first_value-requires : goal.first_value-requires

@@ -1,5 +1,4 @@
 -- `count`: one pass over no rows.
-use borrow.Author.Rules.{rules}
 use Rattle.reader.proofs.Memory.{counted}
 use Rattle.reader.proofs.count.Goals as goal
 

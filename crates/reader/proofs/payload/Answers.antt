@@ -1,5 +1,4 @@
 -- `payload`: the bytes of the part that `payload_part` names.
-use borrow.Author.Rules.{rules}
 use Rattle.reader.proofs.Memory.{payload_of}
 use Rattle.reader.proofs.payload.Goals as goal
 

@@ -1,5 +1,4 @@
 -- `payload_part`: what is behind an accepted header, else the empty part at the front.
-use borrow.Author.Rules.{rules}
 use Rattle.reader.proofs.Memory.{no_part, the_part}
 use Rattle.reader.proofs.payload_part.Goals as goal
 

@@ -1,5 +1,4 @@
 -- `survey`: the edition by its number, then the header.
-use borrow.Author.Rules.{rules}
 use Rattle.reader.proofs.Memory.{known_edition, unknown_edition}
 use Rattle.reader.proofs.survey.Goals as goal
 

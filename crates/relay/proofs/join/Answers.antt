@@ -4,13 +4,11 @@ use mathlib.Core.List.{List, ◌++◌}
 use mathlib.Core.Path.{◌≡◌, ap, refl, sym, ◌∙◌}
 use native.Mathlib.Omega.{arith}
 use lib.ListN.{length, take, drop}
-use lib.Seq.{length-take-le, take-length}
-use borrow.Author.Rules.{rules}
-use borrow.Rule.Slice.PartMut.{mid_len}
+use lib.Seq.{take-length}
 use Rattle.meaning.specs.Memory.{laid_over}
 use Rattle.laws_steps.specs.Logic.{slice_of_bytes}
 use Rattle.relay.proofs.Parts.{copied}
-use Rattle.relay.proofs.Joining.{inside_small, joined_accepted, joined_filled, new_fits, old_short, output_short, rows_short}
+use Rattle.relay.proofs.Joining.{joined_accepted, joined_filled, output_short, rows_short}
 use Rattle.relay.proofs.join.Goals as goal
 
 pub returns-then-room_with-count : goal.returns-then-room_with-count

@@ -1,8 +1,7 @@
 -- `put_before`: the new table, the limits; then what may be joined is joined.
 use native.Mathlib.Omega.{arith}
-use borrow.Author.Rules.{rules}
 use Rattle.laws_steps.specs.Logic.{slice_of_bytes}
-use Rattle.relay.proofs.Refusing.{LentBytes, capped_small, may_join, no_table, past_limit}
+use Rattle.relay.proofs.Refusing.{LentBytes, may_join, no_table, past_limit}
 use Rattle.relay.proofs.put_before.Goals as goal
 
 pub join-requires : goal.join-requires

@@ -1,9 +1,6 @@
 -- `relay`: the edition, the old input; then the new table is put before it.
-use mathlib.Core.Path.{sym, ap, ◌∙◌}
 use native.Mathlib.Omega.{arith}
-use borrow.Author.Rules.{rules}
 use Rattle.laws_steps.specs.Logic.{slice_of_bytes}
-use Rattle.table.specs.Told.{label_is}
 use Rattle.relay.proofs.Refusing.{LentBytes, no_edition, no_header}
 use Rattle.relay.proofs.relay.Goals as goal
 

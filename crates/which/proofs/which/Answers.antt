@@ -1,6 +1,5 @@
 -- `which`: both editions count; the second fills, or the first where it alone allows the bytes.
 use native.Mathlib.Omega.{arith}
-use borrow.Author.Rules.{rules}
 use Rattle.laws_steps.specs.Logic.{slice_of_bytes}
 use Rattle.which.proofs.Sorting.{by_both, by_first, by_neither, by_second}
 use Rattle.which.proofs.which.Goals as goal

@@ -1,8 +1,6 @@
 -- `check_rows`: the verdict of the whole check, its notes put by.
 use Rattle.table.specs.Told.{edition_of}
 use Rattle.writer.proofs.Answers.{checked_as}
-use borrow.Author.Rules.{rules}
-use mathlib.Core.Path.{refl}
 use Rattle.writer.proofs.check_rows.Goals as goal
 
 pub returns : goal.returns

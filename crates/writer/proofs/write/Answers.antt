@@ -4,7 +4,6 @@ use Rattle.table.specs.Told.{label_is}
 use Rattle.laws_steps.specs.Logic.{slice_of_bytes}
 use mathlib.Core.Path.{◌∙◌, ap, refl, sym}
 use native.Mathlib.Omega.{arith}
-use borrow.Author.Rules.{rules}
 use Rattle.writer.proofs.write.Goals as goal
 
 pub returns-in_default : goal.returns-in_default

@@ -1,8 +1,6 @@
 -- `write_in`: the verdict's answer, and the output where it is written.
 use Rattle.table.specs.Told.{edition_of}
-use Rattle.writer.proofs.Answers.{accepts, refuses, too_short, writable}
-use borrow.Author.Rules.{rules}
-use mathlib.Core.Path.{refl}
+use Rattle.writer.proofs.Answers.{accepts, refuses, too_short}
 use Rattle.writer.proofs.write_in.Goals as goal
 
 pub returns-then-output-many : goal.returns-then-output-many

@@ -1,8 +1,7 @@
 -- `decimal::coded_byte`: by the digits that are left.
 use Prim.Native.Nat.{◌-◌, ◌*◌}
 use native.Mathlib.Omega.{arith}
-use borrow.Author.Rules.{rules}
-use Rattle.coders.proofs.Encoding.{byte_none, byte_odd, byte_even}
+use Rattle.coders.proofs.Encoding.{byte_even}
 use Rattle.coders.proofs.decimal.coded_byte.Goals as goal
 
 pub returns : goal.returns

@@ -1,9 +1,7 @@
 -- `decimal::digit_at`: each turn takes one digit off.
-use Prim.Native.Nat.{ℕ, ◌-◌, ◌%◌, ◌≤◌}
-use mathlib.Core.Path.{◌≡◌, refl, ap, ◌∙◌}
-use native.Mathlib.Omega.{arith}
+use Prim.Native.Nat.{◌-◌, ◌≤◌}
+use mathlib.Core.Path.{◌≡◌}
 use Rattle.coders.specs.Decimal.{quotient}
-use Rattle.coders.proofs.Encoding.{quotient_next}
 use Rattle.coders.proofs.decimal.digit_at.Given as goal
 
 abbrev pub invariant-loop-k : goal.invariant-loop-k

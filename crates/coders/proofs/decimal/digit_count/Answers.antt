@@ -1,9 +1,5 @@
 -- `decimal::digit_count`: the digits that are gone and those of what is left are all; a power of ten bounds what is left.
-use Prim.Native.Nat.{ℕ, suc, ◌+◌, ◌-◌, ◌≤◌, ◌<◌}
-use mathlib.Core.Path.{◌≡◌}
-use native.Mathlib.Omega.{arith}
-use Rattle.coders.specs.Decimal.{HasDigits}
-use Rattle.coders.proofs.Encoding.{power, digit_gone, more_digits, all_digits}
+use Rattle.coders.proofs.Encoding.{digit_gone, more_digits}
 use Rattle.coders.proofs.decimal.digit_count.Goals as goal
 
 pub loop-rest-preserved : goal.loop-rest-preserved

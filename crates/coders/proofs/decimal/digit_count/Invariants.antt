@@ -1,9 +1,7 @@
 -- `decimal::digit_count`: the digits that are gone and those of what is left are all; a power of ten bounds what is left.
 use Prim.Native.Nat.{ℕ, suc, ◌+◌, ◌-◌, ◌≤◌, ◌<◌}
-use mathlib.Core.Path.{◌≡◌}
-use native.Mathlib.Omega.{arith}
 use Rattle.coders.specs.Decimal.{HasDigits}
-use Rattle.coders.proofs.Encoding.{power, digit_gone, more_digits, all_digits}
+use Rattle.coders.proofs.Encoding.{power}
 use Rattle.coders.proofs.decimal.digit_count.Given as goal
 
 abbrev pub invariant-loop-rest : goal.invariant-loop-rest

@@ -1,6 +1,5 @@
 -- `decode::date`: the reach of each kind.
 use mathlib.Core.Path.{refl, sym, ◌∙◌}
-use borrow.Author.Rules.{rules}
 use Rattle.coders.proofs.Decoding.{kind_decodes, a_date_lem, no_date_lem}
 use Rattle.coders.proofs.decode.date.Goals as goal
 

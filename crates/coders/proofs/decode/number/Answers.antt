@@ -1,6 +1,4 @@
 -- `decode::number`: the number at the front, and whether it is all of the slice.
-use native.Mathlib.Omega.{arith}
-use borrow.Author.Rules.{rules}
 use Rattle.coders.proofs.Decoding.{number_refused, number_left, number_whole}
 use Rattle.coders.proofs.decode.number.Goals as goal
 

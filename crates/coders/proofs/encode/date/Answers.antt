@@ -1,6 +1,5 @@
 -- `encode::date`: the reach of each kind.
 use mathlib.Core.Path.{refl, sym, ◌∙◌}
-use borrow.Author.Rules.{rules}
 use Rattle.meaning.specs.Plain.{date_bytes, no_reach}
 use Rattle.coders.specs.Plain.{plain_of}
 use Rattle.coders.proofs.Decoding.{a_date_lem, no_date_lem}

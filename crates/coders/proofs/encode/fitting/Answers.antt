@@ -1,13 +1,11 @@
 -- `encode::fitting`: the bytes made, taken as a date, and laid over the front where there is room.
 use mathlib.Core.Path.{ap, ◌∙◌}
-use native.Mathlib.Omega.{arith}
-use borrow.Author.Rules.{rules}
 use Rattle.date.specs.Dates.{reaching}
 use Rattle.coders.specs.Plain.{plain_of}
 use Rattle.meaning.specs.Memory.{laid_over}
 use Rattle.coders.proofs.Encoding.{encodes_out, encodes_short, encodes_laid}
 use Rattle.meaning.specs.Plain.{date_bytes, dated}
-use Rattle.coders.proofs.EncodingDates.{bytes_here, many_long, many_part, many_fits, date_allowed, date_denied, reach_encodes}
+use Rattle.coders.proofs.EncodingDates.{bytes_here, many_long, date_allowed, date_denied, reach_encodes}
 use Rattle.coders.proofs.encode.fitting.Goals as goal
 
 pub returns-in_default : goal.returns-in_default

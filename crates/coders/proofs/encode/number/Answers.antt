@@ -1,14 +1,10 @@
 -- `encode::number`: the digits counted, the bytes made, and laid over the front where there is room.
-use Prim.Native.Nat.{◌+◌, ◌/◌, ◌≤◌}
-use mathlib.Core.List.{[], ◌∷◌}
 use mathlib.Core.Path.{ap, ◌∙◌}
-use native.Mathlib.Omega.{arith}
-use borrow.Author.Rules.{rules}
 use borrow.Author.Tests.{le-leb, lt-leb}
 use Rattle.meaning.specs.Bytes.{number_most}
 use Rattle.meaning.specs.Memory.{laid_over}
 use Rattle.meaning.specs.Plain.{number_bytes}
-use Rattle.coders.proofs.Encoding.{bytes_of, encodes_out, encodes_short, encodes_laid, number_encodes, bytes_made, part_long}
+use Rattle.coders.proofs.Encoding.{bytes_of, encodes_out, encodes_short, encodes_laid, number_encodes, bytes_made}
 use Rattle.coders.proofs.encode.number.Goals as goal
 
 pub returns-then-value-gt-MOST : goal.returns-then-value-gt-MOST

@@ -1,6 +1,5 @@
 -- `encode::reached`: a date that does not fit its digits or a byte is out of range.
 use mathlib.Core.Path.{sym, ◌∙◌}
-use borrow.Author.Rules.{rules}
 use Rattle.date.specs.Dates.{reaching}
 use Rattle.coders.specs.Plain.{plain_of}
 use Rattle.coders.proofs.Encoding.{encodes_out}

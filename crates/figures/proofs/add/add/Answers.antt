@@ -3,7 +3,6 @@ use native.Mathlib.Omega.{arith}
 use Rattle.laws_steps.specs.Logic.{slice_of_bytes}
 use Rattle.figures.proofs.Bounds.{bounded}
 use Rattle.figures.proofs.Answers.{judges, few_figures, add_full, add_done}
-use borrow.Author.Rules.{rules}
 use Rattle.figures.proofs.add.add.Goals as goal
 
 pub returns-then-many-ge-MESSAGES_MOST : goal.returns-then-many-ge-MESSAGES_MOST

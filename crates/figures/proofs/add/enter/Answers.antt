@@ -1,11 +1,10 @@
 -- `enter`: what the message counts as, by its label and what the strict reading counts.
 use native.Mathlib.Omega.{arith}
-use mathlib.Core.Path.{◌≡◌, ap, sym, ◌∙◌}
+use mathlib.Core.Path.{ap, sym, ◌∙◌}
 use Rattle.meaning.specs.Figures.{sums, adds_of}
-use Rattle.table.specs.Told.{edition_of, label_is}
+use Rattle.table.specs.Told.{label_is}
 use Rattle.laws_steps.specs.Logic.{slice_of_bytes}
 use Rattle.figures.proofs.Entries.{entry_apart, entry_turned, turned_least, turned_most, taken_bytes, entry_taken}
-use borrow.Author.Rules.{rules}
 use Rattle.figures.proofs.add.enter.Goals as goal
 
 pub returns-in_default : goal.returns-in_default

@@ -1,7 +1,5 @@
 -- `enter_apart`: one number raised.
-use native.Mathlib.Omega.{arith}
 use Rattle.figures.proofs.Raising.{apart_raised}
-use borrow.Author.Rules.{rules}
 use Rattle.figures.proofs.add.enter_apart.Goals as goal
 
 pub returns : goal.returns

@@ -1,10 +1,8 @@
 -- `enter_taken`: three numbers raised.
-use native.Mathlib.Omega.{arith}
 use Prim.Native.Nat.{◌+◌}
-use mathlib.Core.Path.{◌≡◌, ap, ◌∙◌}
-use lib.ListN.{length, length-set, get_or, set}
+use mathlib.Core.Path.{ap, ◌∙◌}
+use lib.ListN.{get_or, set}
 use Rattle.figures.proofs.Raising.{taken_set}
-use borrow.Author.Rules.{rules}
 use Rattle.figures.proofs.add.enter_taken.Goals as goal
 
 pub returns : goal.returns

@@ -1,10 +1,8 @@
 -- `enter_turned`: one number raised, by the refusal.
-use native.Mathlib.Omega.{arith}
 use Prim.Native.Nat.{◌+◌, ◌-◌}
-use mathlib.Core.Path.{◌≡◌, ap, ◌∙◌}
+use mathlib.Core.Path.{ap, ◌∙◌}
 use Rattle.figures.specs.Stages.{raised}
 use Rattle.figures.proofs.Raising.{turned_raised}
-use borrow.Author.Rules.{rules}
 use Rattle.figures.proofs.add.enter_turned.Goals as goal
 
 pub returns : goal.returns

@@ -1,6 +1,5 @@
 -- `join`: both are judged, and where they are figures of few enough messages each number is a sum.
 use native.Mathlib.Omega.{arith}
-use borrow.Author.Rules.{rules}
 use Rattle.figures.proofs.Bounds.{bounded}
 use Rattle.figures.proofs.Answers.{judges, judged_most, few_figures, join_full, join_done}
 use Rattle.figures.proofs.join.join.Goals as goal

@@ -1,11 +1,9 @@
 -- `sum_all`: the invariant says that the first i numbers are sums.
-use Prim.Native.Nat.{◌+◌, ◌-◌, ◌≤◌}
+use Prim.Native.Nat.{◌+◌}
 use mathlib.Core.Path.{◌≡◌, refl, ap, sym, ◌∙◌}
 use native.Mathlib.Numerals.{add-one}
 use native.Mathlib.Omega.{arith}
-use borrow.Author.Rules.{rules}
 use lib.ListN.{length, get_or, set}
-use Rattle.meaning.specs.Figures.{figures_borrowed, sums}
 use Rattle.figures.proofs.Raising.{first_sums, next_stays, next_sum, all_sums, sums_long}
 use Rattle.figures.proofs.join.sum_all.Goals as goal
 

@@ -1,11 +1,9 @@
 -- `messages`: an edition's numbers after the other's, the unknown, and then whether the editions fit.
-use Prim.Native.Nat.{suc}
 use mathlib.Core.Bool.{true, false}
 use mathlib.Core.Path.{◌≡◌, refl, ◌∙◌, sym}
 use native.Mathlib.Omega.{arith}
-use borrow.Author.Rules.{rules}
 use borrow.Author.Tests.{eq-eqb, ne_eqb, le-leb}
-use lib.Dec.{eqb, leb}
+use lib.Dec.{eqb}
 use lib.ListN.{length}
 use Rattle.meaning.specs.Figures.{figures_borrowed, messages_in, messages_most}
 use Rattle.figures.specs.Stages.{capped}
@@ -26,18 +24,18 @@ summed-all-requires c = (omega arith, omega arith, capped_most _ _ c.summed-d.en
 pub returns-then-all-eq-MORE : goal.returns-then-all-eq-MORE
 returns-then-all-eq-MORE c =
     let all_is : c.summed-all.result ≡ capped (messages_in c.args.numbers.now) =
-        let ns = c.args.numbers.now in
-        all_summed ns (omega arith) c.summed-b.result c.summed-d.result c.summed-all.result c.summed-b.ensures c.summed-d.ensures c.summed-all.ensures in
+    let ns = c.args.numbers.now in
+    all_summed ns (omega arith) c.summed-b.result c.summed-d.result c.summed-all.result c.summed-b.ensures c.summed-d.ensures c.summed-all.ensures in
     let long : eqb (length c.args.numbers.now) figures_borrowed ≡ true =
-        eq-eqb (length c.args.numbers.now) figures_borrowed (omega arith) in
+    eq-eqb (length c.args.numbers.now) figures_borrowed (omega arith) in
     let ns = c.args.numbers.now in
     judged_many ns long (too_many ns (omega arith) c.summed-all.result all_is c.if-all-eq-MORE.true)
 
 pub edition_fits-requires : goal.edition_fits-requires
 edition_fits-requires c =
     let all_is : c.summed-all.result ≡ capped (messages_in c.args.numbers.now) =
-        let ns = c.args.numbers.now in
-        all_summed ns (omega arith) c.summed-b.result c.summed-d.result c.summed-all.result c.summed-b.ensures c.summed-d.ensures c.summed-all.ensures in
+    let ns = c.args.numbers.now in
+    all_summed ns (omega arith) c.summed-b.result c.summed-d.result c.summed-all.result c.summed-b.ensures c.summed-d.ensures c.summed-all.ensures in
     let ns = c.args.numbers.now in
     let few = not_many ns (omega arith) c.summed-all.result all_is c.if-all-eq-MORE.false in
     (omega arith, few.2)
@@ -45,8 +43,8 @@ edition_fits-requires c =
 pub edition_fits-requires-then-edition_fits : goal.edition_fits-requires-then-edition_fits
 edition_fits-requires-then-edition_fits c =
     let all_is : c.summed-all.result ≡ capped (messages_in c.args.numbers.now) =
-        let ns = c.args.numbers.now in
-        all_summed ns (omega arith) c.summed-b.result c.summed-d.result c.summed-all.result c.summed-b.ensures c.summed-d.ensures c.summed-all.ensures in
+    let ns = c.args.numbers.now in
+    all_summed ns (omega arith) c.summed-b.result c.summed-d.result c.summed-all.result c.summed-b.ensures c.summed-d.ensures c.summed-all.ensures in
     let ns = c.args.numbers.now in
     let few = not_many ns (omega arith) c.summed-all.result all_is c.if-all-eq-MORE.false in
     (omega arith, few.3)
@@ -54,10 +52,10 @@ edition_fits-requires-then-edition_fits c =
 pub returns-then-edition_fits-2 : goal.returns-then-edition_fits-2
 returns-then-edition_fits-2 c =
     let all_is : c.summed-all.result ≡ capped (messages_in c.args.numbers.now) =
-        let ns = c.args.numbers.now in
-        all_summed ns (omega arith) c.summed-b.result c.summed-d.result c.summed-all.result c.summed-b.ensures c.summed-d.ensures c.summed-all.ensures in
+    let ns = c.args.numbers.now in
+    all_summed ns (omega arith) c.summed-b.result c.summed-d.result c.summed-all.result c.summed-b.ensures c.summed-d.ensures c.summed-all.ensures in
     let long : eqb (length c.args.numbers.now) figures_borrowed ≡ true =
-        eq-eqb (length c.args.numbers.now) figures_borrowed (omega arith) in
+    eq-eqb (length c.args.numbers.now) figures_borrowed (omega arith) in
     let ns = c.args.numbers.now in
     let few = not_many ns (omega arith) c.summed-all.result all_is c.if-all-eq-MORE.false in
     few.1 ∙ judged_by ns true true long (le-leb (messages_in ns) messages_most few.0) (sym c.if-edition_fits.true ∙ c.edition_fits.ensures) (sym c.if-edition_fits-2.true ∙ c.edition_fits-then-edition_fits.ensures)
@@ -65,10 +63,10 @@ returns-then-edition_fits-2 c =
 pub returns-else-edition_fits-2 : goal.returns-else-edition_fits-2
 returns-else-edition_fits-2 c =
     let all_is : c.summed-all.result ≡ capped (messages_in c.args.numbers.now) =
-        let ns = c.args.numbers.now in
-        all_summed ns (omega arith) c.summed-b.result c.summed-d.result c.summed-all.result c.summed-b.ensures c.summed-d.ensures c.summed-all.ensures in
+    let ns = c.args.numbers.now in
+    all_summed ns (omega arith) c.summed-b.result c.summed-d.result c.summed-all.result c.summed-b.ensures c.summed-d.ensures c.summed-all.ensures in
     let long : eqb (length c.args.numbers.now) figures_borrowed ≡ true =
-        eq-eqb (length c.args.numbers.now) figures_borrowed (omega arith) in
+    eq-eqb (length c.args.numbers.now) figures_borrowed (omega arith) in
     let ns = c.args.numbers.now in
     let few = not_many ns (omega arith) c.summed-all.result all_is c.if-all-eq-MORE.false in
     judged_by ns true false long (le-leb (messages_in ns) messages_most few.0) (sym c.if-edition_fits.true ∙ c.edition_fits.ensures) (sym c.if-edition_fits-2.false ∙ c.edition_fits-then-edition_fits.ensures)
@@ -76,10 +74,10 @@ returns-else-edition_fits-2 c =
 pub returns-else-edition_fits : goal.returns-else-edition_fits
 returns-else-edition_fits c =
     let all_is : c.summed-all.result ≡ capped (messages_in c.args.numbers.now) =
-        let ns = c.args.numbers.now in
-        all_summed ns (omega arith) c.summed-b.result c.summed-d.result c.summed-all.result c.summed-b.ensures c.summed-d.ensures c.summed-all.ensures in
+    let ns = c.args.numbers.now in
+    all_summed ns (omega arith) c.summed-b.result c.summed-d.result c.summed-all.result c.summed-b.ensures c.summed-d.ensures c.summed-all.ensures in
     let long : eqb (length c.args.numbers.now) figures_borrowed ≡ true =
-        eq-eqb (length c.args.numbers.now) figures_borrowed (omega arith) in
+    eq-eqb (length c.args.numbers.now) figures_borrowed (omega arith) in
     let ns = c.args.numbers.now in
     let few = not_many ns (omega arith) c.summed-all.result all_is c.if-all-eq-MORE.false in
     judged_by ns false _ long (le-leb (messages_in ns) messages_most few.0) (sym c.if-edition_fits.false ∙ c.edition_fits.ensures) refl

@@ -1,10 +1,8 @@
 -- `summed`: what is left to be summed falls; where the sum passes 1,000,000, so does the whole.
-use Prim.Native.Nat.{suc, ◌+◌, ◌-◌, ◌≤◌}
-use mathlib.Core.Path.{◌≡◌, refl, ap, sym, ◌∙◌}
+use Prim.Native.Nat.{◌+◌}
+use mathlib.Core.Path.{◌≡◌, ap, ◌∙◌}
 use native.Mathlib.Omega.{arith}
-use borrow.Author.Rules.{rules}
-use lib.ListN.{length}
-use Rattle.meaning.specs.Figures.{sum_of, messages_most}
+use Rattle.meaning.specs.Figures.{sum_of}
 use Rattle.figures.specs.Stages.{capped}
 use Rattle.figures.proofs.Judging.{part, sum_next, sum_none, capped_self, capped_over}
 use Rattle.figures.proofs.judge.summed.Goals as goal

@@ -1,12 +1,8 @@
 -- `summed`: what is left to be summed falls; where the sum passes 1,000,000, so does the whole.
 use Prim.Native.Nat.{suc, ◌+◌, ◌-◌, ◌≤◌}
-use mathlib.Core.Path.{◌≡◌, refl, ap, sym, ◌∙◌}
-use native.Mathlib.Omega.{arith}
-use borrow.Author.Rules.{rules}
-use lib.ListN.{length}
+use mathlib.Core.Path.{◌≡◌}
 use Rattle.meaning.specs.Figures.{sum_of, messages_most}
-use Rattle.figures.specs.Stages.{capped}
-use Rattle.figures.proofs.Judging.{part, sum_next, sum_none, capped_self, capped_over}
+use Rattle.figures.proofs.Judging.{part}
 use Rattle.figures.proofs.judge.summed.Given as goal
 
 abbrev pub invariant-loop-i : goal.invariant-loop-i

@@ -1,8 +1,7 @@
 -- `lay`: the text copied, over the front.
 use Rattle.std.proofs.Common.{ℕ, List, ◌++◌, drop, length, ap, sym, ◌∙◌, arith}
 use lib.Seq.{take-length}
-use Rattle.figures.proofs.Reporting.{laid_short, laid_whole, copied}
-use borrow.Author.Rules.{rules}
+use Rattle.figures.proofs.Reporting.{laid_whole, copied}
 use Rattle.figures.proofs.report.lay.Goals as goal
 
 pub returns : goal.returns

@@ -4,7 +4,6 @@ use Prim.Native.Nat.{◌+◌, ◌-◌}
 use mathlib.Core.Path.{◌≡◌, ap}
 use lib.ListN.{take, drop}
 use Rattle.figures.proofs.Reporting.{line_printed}
-use borrow.Author.Rules.{rules}
 use Rattle.figures.proofs.report.line.Goals as goal
 
 pub returns : goal.returns

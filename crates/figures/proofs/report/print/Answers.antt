@@ -1,6 +1,5 @@
 -- `print`: a line for each edition, and the unknown.
 use Rattle.figures.proofs.Reporting.{report_printed}
-use borrow.Author.Rules.{rules}
 use Rattle.figures.proofs.report.print.Goals as goal
 
 pub returns : goal.returns

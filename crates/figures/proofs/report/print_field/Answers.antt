@@ -1,7 +1,6 @@
 -- `print_field`: a u64 has twenty digits at most.
 use native.Mathlib.Omega.{arith}
 use Rattle.pen.specs.Decimals.{twenty_digits, field_end}
-use borrow.Author.Rules.{rules}
 use Rattle.figures.proofs.report.print_field.Goals as goal
 
 pub field-requires : goal.field-requires

@@ -1,10 +1,7 @@
 -- `report`: the lent numbers are judged, printed into memory of its own, and laid over the output.
 use native.Mathlib.Omega.{arith}
-use mathlib.Core.Path.{◌≡◌, ap, sym, ◌∙◌}
-use lib.ListN.{length, take}
 use Rattle.figures.proofs.Answers.{judges, few_figures, few_are, many_none}
-use Rattle.figures.proofs.Reporting.{front_printed, front_long, report_refused, report_laid}
-use borrow.Author.Rules.{rules}
+use Rattle.figures.proofs.Reporting.{front_printed, report_refused, report_laid}
 use Rattle.figures.proofs.report.report.Goals as goal
 
 pub returns-then-many-gt-MESSAGES_MOST : goal.returns-then-many-gt-MESSAGES_MOST

@@ -1,10 +1,6 @@
 -- `count::count_envelopes`: each turn passes an extension; the base is the last.
-use Prim.Native.Nat.{◌≤◌}
 use native.Mathlib.Omega.{arith}
-use lib.ListN.{length}
-use borrow.Author.Rules.{rules}
-use Rattle.meaning.specs.Headers.{envelopes_most}
-use Rattle.frames.proofs.Counting.{Passed, none_passed, may_come, counted_none, counted_base, passed_one}
+use Rattle.frames.proofs.Counting.{none_passed, may_come, counted_none, counted_base, passed_one}
 use Rattle.frames.proofs.count.count_envelopes.Goals as goal
 
 pub loop-base-init : goal.loop-base-init

@@ -1,10 +1,8 @@
 -- `count::count_envelopes`: each turn passes an extension; the base is the last.
 use Prim.Native.Nat.{◌≤◌}
-use native.Mathlib.Omega.{arith}
 use lib.ListN.{length}
-use borrow.Author.Rules.{rules}
 use Rattle.meaning.specs.Headers.{envelopes_most}
-use Rattle.frames.proofs.Counting.{Passed, none_passed, may_come, counted_none, counted_base, passed_one}
+use Rattle.frames.proofs.Counting.{Passed}
 use Rattle.frames.proofs.count.count_envelopes.Given as goal
 
 abbrev pub invariant-loop-base : goal.invariant-loop-base

@@ -1,6 +1,5 @@
 -- `frame::bounded`: the tests in their order, then the declared bytes as places.
 use native.Mathlib.Omega.{arith}
-use borrow.Author.Rules.{rules}
 use Rattle.laws_steps.specs.Frames.{opens_at, too_far, too_long, too_low}
 use Rattle.frames.proofs.Frames.{frame_opens, frame_refused}
 use Rattle.frames.proofs.frame.bounded.Goals as goal

@@ -1,5 +1,4 @@
 -- `frame::counted`: the seventeenth is refused, any other goes on to its length.
-use borrow.Author.Rules.{rules}
 use Rattle.laws_steps.specs.Frames.{may_open, one_too_many}
 use Rattle.frames.proofs.Frames.{header_framed, refused_at_frame}
 use Rattle.frames.proofs.frame.counted.Goals as goal

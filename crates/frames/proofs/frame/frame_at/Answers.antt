@@ -1,7 +1,6 @@
 -- `frame::frame_at`: by the byte at the place.
 use mathlib.Core.Path.{sym, ◌∙◌}
 use lib.ListN.{get_or}
-use borrow.Author.Rules.{rules}
 use Rattle.laws_steps.specs.Frames.{no_envelope, no_identifier}
 use Rattle.frames.proofs.Frames.{refused_at_frame, identified_by, identified_none}
 use Rattle.frames.proofs.frame.frame_at.Goals as goal

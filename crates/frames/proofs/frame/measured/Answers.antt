@@ -1,6 +1,4 @@
 -- `frame::measured`: two bytes, and four more if they are zero.
-use native.Mathlib.Omega.{arith}
-use borrow.Author.Rules.{rules}
 use Rattle.laws_steps.specs.Frames.{long_form, no_length, no_long_length, short_form}
 use Rattle.frames.proofs.Frames.{frame_begun, frame_refused}
 use Rattle.frames.proofs.frame.measured.Goals as goal

@@ -1,7 +1,5 @@
 -- `row::last_bytes`: the bytes, then the line's end.
 use native.Mathlib.Omega.{arith}
-use borrow.Author.Rules.{rules}
-use Rattle.pen.specs.Written.{wrote_then}
 use Rattle.listing.specs.Cursors.{hex_length}
 use Rattle.listing.proofs.row.last_bytes.Goals as goal
 

@@ -3,7 +3,6 @@ use mathlib.Core.List.{List, [], ◌∷◌, ◌++◌}
 use mathlib.Core.Path.{ap, sym}
 use Prim.Native.Nat.{ℕ}
 use native.Mathlib.Omega.{arith}
-use borrow.Author.Rules.{rules}
 use Rattle.pen.specs.Written.{wrote_then, wrote_as}
 use Rattle.listing.specs.Cursors.{view_none, view_over}
 use Rattle.listing.proofs.row.no_bytes.Goals as goal

@@ -1,12 +1,9 @@
 -- `row::numbers`: the invariant says that the first j numbers are printed.
 use Prim.Native.Nat.{◌-◌, ◌*◌, ◌≤◌}
-use mathlib.Core.List.{[], ◌∷◌, ◌++◌}
-use mathlib.Core.Path.{◌≡◌, refl, ◌∙◌}
-use native.Mathlib.Omega.{arith}
+use mathlib.Core.Path.{◌≡◌}
 use lib.ListN.{length}
-use Rattle.meaning.specs.Listing.{decimal}
-use Rattle.pen.specs.Fields.{fields_of, fields_next, fields_none}
-use Rattle.pen.specs.Written.{Printing, printing_begins, printing_goes, printing_ends}
+use Rattle.pen.specs.Fields.{fields_of}
+use Rattle.pen.specs.Written.{Printing}
 use Rattle.listing.proofs.row.numbers.Given as goal
 
 abbrev pub invariant-loop-j : goal.invariant-loop-j

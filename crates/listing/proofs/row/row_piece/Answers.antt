@@ -1,5 +1,4 @@
 -- `row::row_piece`: the row's numbers at the line's beginning, else its view.
-use borrow.Author.Rules.{rules}
 use Rattle.listing.proofs.Pieces.{numbers_piece, view_piece}
 use Rattle.listing.proofs.row.row_piece.Goals as goal
 

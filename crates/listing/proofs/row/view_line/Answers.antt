@@ -1,5 +1,4 @@
 -- `row::view_line`: what the bytes hold of a view is the view that `meaning` takes.
-use borrow.Author.Rules.{rules}
 use Rattle.listing.proofs.Pieces.{view_held}
 use Rattle.listing.proofs.row.view_line.Goals as goal
 

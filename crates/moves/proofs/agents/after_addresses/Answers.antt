@@ -3,7 +3,6 @@ use mathlib.Core.Path.{◌∙◌, refl, sym}
 use Rattle.meaning.specs.Reading.{look, find}
 use Rattle.meaning.specs.Editions.{shared}
 use Rattle.moves.proofs.Looks.{past}
-use borrow.Author.Rules.{rules}
 use Rattle.moves.proofs.agents.after_addresses.Goals as goal
 
 pub returns-in-3 : goal.returns-in-3

@@ -1,5 +1,4 @@
 -- `agents::extra`: the edition's code, or none.
-use borrow.Author.Rules.{rules}
 use Rattle.table.specs.Told.{edition_of}
 use Rattle.moves.proofs.Looks.{extra_here, no_extra}
 use Rattle.moves.proofs.agents.extra.Goals as goal

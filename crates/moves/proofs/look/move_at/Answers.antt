@@ -3,7 +3,6 @@ use mathlib.Core.Path.{◌∙◌, refl}
 use Rattle.meaning.specs.Editions.{moves, shared, own}
 use Rattle.meaning.specs.Reading.{look, find}
 use Rattle.moves.proofs.Looks.{is_byte}
-use borrow.Author.Rules.{rules}
 use Rattle.moves.proofs.look.move_at.Goals as goal
 
 pub returns-in-ReceivedBegins : goal.returns-in-ReceivedBegins

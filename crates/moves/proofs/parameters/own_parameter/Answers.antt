@@ -1,7 +1,6 @@
 -- `parameters::own_parameter`: by the edition.
-use mathlib.Core.Path.{◌∙◌, refl}
+use mathlib.Core.Path.{refl}
 use Rattle.meaning.specs.Reading.{look, find}
-use borrow.Author.Rules.{rules}
 use Rattle.moves.proofs.parameters.own_parameter.Goals as goal
 
 pub returns-in-D : goal.returns-in-D

@@ -4,7 +4,6 @@ use Rattle.meaning.specs.Reading.{look, find}
 use Rattle.meaning.specs.Editions.{shared}
 use Rattle.moves.specs.Words.{found_of}
 use Rattle.moves.proofs.Looks.{other}
-use borrow.Author.Rules.{rules}
 use Rattle.moves.proofs.parameters.parameter.Goals as goal
 
 pub returns-in-0 : goal.returns-in-0

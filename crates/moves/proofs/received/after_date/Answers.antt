@@ -3,7 +3,6 @@ use mathlib.Core.Path.{◌∙◌, refl, sym}
 use Rattle.meaning.specs.Reading.{look, find}
 use Rattle.meaning.specs.Editions.{shared}
 use Rattle.moves.proofs.Looks.{past}
-use borrow.Author.Rules.{rules}
 use Rattle.moves.proofs.received.after_date.Goals as goal
 
 pub returns-in-2 : goal.returns-in-2

@@ -1,7 +1,6 @@
 -- `received::extra`: by the edition.
-use mathlib.Core.Path.{◌∙◌, refl}
+use mathlib.Core.Path.{refl}
 use Rattle.meaning.specs.Reading.{look, find}
-use borrow.Author.Rules.{rules}
 use Rattle.moves.proofs.received.extra.Goals as goal
 
 pub returns-in-B : goal.returns-in-B

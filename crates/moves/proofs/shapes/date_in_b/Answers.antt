@@ -3,7 +3,6 @@ use mathlib.Core.Path.{◌∙◌, ap, refl}
 use Rattle.meaning.specs.Reading.{look, find}
 use Rattle.moves.specs.Words.{found_of}
 use Rattle.moves.proofs.Looks.{other}
-use borrow.Author.Rules.{rules}
 use Rattle.moves.proofs.shapes.date_in_b.Goals as goal
 
 pub returns-in-32 : goal.returns-in-32

@@ -4,7 +4,6 @@ use native.Mathlib.Omega.{arith}
 use Rattle.meaning.specs.Bytes.{one_byte, two_bytes, four_bytes}
 use Rattle.moves.specs.Words.{form_of}
 use Rattle.plain.proofs.Coding.{takes_text, takes_date, takes_number, takes_block, coded_itself, coded_opens, coded_quiet}
-use borrow.Author.Rules.{rules}
 use Rattle.plain.proofs.codes.begun.Goals as goal
 
 pub returns-in-Text : goal.returns-in-Text

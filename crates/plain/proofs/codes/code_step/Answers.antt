@@ -2,7 +2,6 @@
 use native.Mathlib.Omega.{arith}
 use Rattle.table.specs.Told.{told_of}
 use Rattle.plain.proofs.Coding.{may_lead, none_here, coded_here, uncoded_here}
-use borrow.Author.Rules.{rules}
 use Rattle.plain.proofs.codes.code_step.Goals as goal
 
 pub returns-in-Nothing : goal.returns-in-Nothing

@@ -1,7 +1,6 @@
 -- `codes::coded`: an agent of level 9, or by the form of the value.
 use mathlib.Core.Path.{sym, ◌∙◌}
 use Rattle.plain.proofs.Coding.{coded_deep, leads_on}
-use borrow.Author.Rules.{rules}
 use Rattle.plain.proofs.codes.coded.Goals as goal
 
 pub returns-then-too_deep : goal.returns-then-too_deep

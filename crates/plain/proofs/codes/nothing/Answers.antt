@@ -1,7 +1,6 @@
 -- `codes::nothing`: behind the envelope's 01, or elsewhere.
 use mathlib.Core.Path.{sym, ◌∙◌}
 use Rattle.plain.proofs.Coding.{none_closed, none_strange}
-use borrow.Author.Rules.{rules}
 use Rattle.plain.proofs.codes.nothing.Goals as goal
 
 pub returns-then-is_closed : goal.returns-then-is_closed

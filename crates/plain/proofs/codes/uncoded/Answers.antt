@@ -4,7 +4,6 @@ use native.Mathlib.Omega.{arith}
 use Rattle.plain.specs.Values.{Valid}
 use Rattle.plain.proofs.Landing.{fed_steps, steps_onward}
 use Rattle.plain.proofs.Coding.{coded_deep, leads_on, uncoded_span}
-use borrow.Author.Rules.{rules}
 use Rattle.plain.proofs.codes.uncoded.Goals as goal
 
 pub returns-then-too_deep : goal.returns-then-too_deep

@@ -1,7 +1,6 @@
 -- `engine::step`: a code, or a value's byte.
 use mathlib.Core.Path.{refl}
 use Rattle.plain.proofs.Landing.{step_code, step_value, code_holds, value_holds}
-use borrow.Author.Rules.{rules}
 use Rattle.plain.proofs.engine.step.Goals as goal
 
 pub feed-requires : goal.feed-requires

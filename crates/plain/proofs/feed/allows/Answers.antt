@@ -1,7 +1,6 @@
 -- `feed::allows`: by the rule.
-use mathlib.Core.Path.{◌∙◌, refl}
+use mathlib.Core.Path.{refl}
 use Rattle.meaning.specs.Bytes.{text_byte}
-use borrow.Author.Rules.{rules}
 use Rattle.plain.proofs.feed.allows.Goals as goal
 
 pub returns-in-Line : goal.returns-in-Line

@@ -1,7 +1,5 @@
 -- `feed::feed`: by what is being taken.
-use mathlib.Core.List.{List}
 use Rattle.table.specs.Told.{told_of}
-use borrow.Author.Rules.{rules}
 use Rattle.plain.proofs.feed.feed.Goals as goal
 
 pub returns-in-Text : goal.returns-in-Text

@@ -1,11 +1,7 @@
 -- `feed::feed_date`: a byte that passes, the last one among them, or one that does not.
-use Prim.Native.Nat.{◌<◌, ◌≤◌}
-use mathlib.Core.Path.{◌≡◌, sym}
 use native.Mathlib.Omega.{arith}
-use Rattle.date.specs.Dates.{date_length}
 use Rattle.plain.specs.Values.{Valid}
 use Rattle.plain.proofs.Feeding.{date_further, date_ended, date_refused}
-use borrow.Author.Rules.{rules}
 use Rattle.plain.proofs.feed.feed_date.Goals as goal
 
 pub overflow_sub-j : goal.overflow_sub-j

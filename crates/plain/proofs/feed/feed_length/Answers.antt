@@ -5,7 +5,6 @@ use native.Mathlib.Omega.{arith}
 use Rattle.table.specs.Told.{told_of}
 use Rattle.plain.specs.Values.{width_of}
 use Rattle.plain.proofs.Feeding.{length_further, length_wide, length_ends, length_low, length_next, length_starts, below_most}
-use borrow.Author.Rules.{rules}
 use Rattle.plain.proofs.feed.feed_length.Goals as goal
 
 pub overflow_mul-n : goal.overflow_mul-n

@@ -1,9 +1,7 @@
 -- `feed::feed_number`: by what the byte does to the number so far.
-use mathlib.Core.Path.{◌≡◌}
 use native.Mathlib.Omega.{arith}
 use Rattle.plain.specs.Values.{Valid}
 use Rattle.plain.proofs.Feeding.{number_stops, number_goes, number_wrongs}
-use borrow.Author.Rules.{rules}
 use Rattle.plain.proofs.feed.feed_number.Goals as goal
 
 pub turn-t-requires : goal.turn-t-requires

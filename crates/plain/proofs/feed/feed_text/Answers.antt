@@ -1,9 +1,7 @@
 -- `feed::feed_text`: the closing 00, a byte that the rule allows, or another.
 use mathlib.Core.Path.{sym, ◌∙◌}
-use native.Mathlib.Omega.{arith}
 use Rattle.plain.specs.Values.{Valid}
 use Rattle.plain.proofs.Feeding.{text_ended, text_further, text_refused}
-use borrow.Author.Rules.{rules}
 use Rattle.plain.proofs.feed.feed_text.Goals as goal
 
 pub overflow_sub-result : goal.overflow_sub-result

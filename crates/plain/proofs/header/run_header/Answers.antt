@@ -1,15 +1,11 @@
 -- `header::run_header`: each turn reads one envelope; the header from its start is the header from the next envelope on.
-use Prim.Native.Nat.{◌*◌, ◌+◌, ◌≤◌, ℕ}
+use Prim.Native.Nat.{ℕ}
 use mathlib.Core.List.{List}
-use mathlib.Core.Path.{◌∙◌, ◌≡◌, ap, refl, sym}
+use mathlib.Core.Path.{◌∙◌, ap, refl, sym}
 use native.Mathlib.Omega.{arith}
-use lib.ListN.{length}
-use borrow.Author.Rules.{rules}
-use Rattle.meaning.specs.Headers.{envelope_most, envelopes_most, header}
-use Rattle.meaning.specs.Told.{told}
-use Rattle.laws_steps.specs.Finishing.{finish, header_at}
+use Rattle.meaning.specs.Headers.{envelopes_most, header}
+use Rattle.laws_steps.specs.Finishing.{finish}
 use Rattle.laws_steps.specs.Frames.{from_all}
-use Rattle.laws_steps.specs.Pouring.{header_most}
 use Rattle.table.specs.Told.{told_of}
 use Rattle.read_envelopes.proofs.Turns.{extension_fits, header_based, header_onward, header_refused}
 use Rattle.plain.proofs.header.run_header.Goals as goal

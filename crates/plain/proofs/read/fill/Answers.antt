@@ -1,9 +1,7 @@
 -- `read::fill`: too little room changes nothing; else the second pass goes as the first, and puts the rows; the third lays their skip numbers and the words.
-use mathlib.Core.Path.{◌∙◌}
 use native.Mathlib.Omega.{arith}
 use Rattle.laws_steps.specs.Logic.{slice_of_bytes}
 use Rattle.reader.proofs.Memory.{all_filled, finishable, too_many}
-use borrow.Author.Rules.{rules}
 use Rattle.plain.proofs.read.fill.Goals as goal
 
 pub returns-then-room_with-n : goal.returns-then-room_with-n

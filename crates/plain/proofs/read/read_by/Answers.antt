@@ -3,7 +3,6 @@ use mathlib.Core.List.{◌++◌}
 use native.Mathlib.Omega.{arith}
 use Rattle.laws_steps.specs.Logic.{slice_of_bytes}
 use Rattle.reader.proofs.Memory.{header_counted, nothing_lent, refusal_answered}
-use borrow.Author.Rules.{rules}
 use Rattle.plain.proofs.read.read_by.Goals as goal
 
 pub fill-requires : goal.fill-requires

@@ -1,5 +1,4 @@
 -- `read::survey`: the edition by its number, then the header.
-use borrow.Author.Rules.{rules}
 use Rattle.reader.proofs.Memory.{known_edition, unknown_edition}
 use Rattle.plain.proofs.read.survey.Goals as goal
 

@@ -1,7 +1,5 @@
 -- `run::block_run`: the place stays below the block's end and the declared one.
 use Prim.Native.Nat.{◌-◌, ◌≤◌, ◌<◌}
-use native.Mathlib.Omega.{arith}
-use borrow.Author.Rules.{rules}
 use Rattle.plain.proofs.run.block_run.Given as goal
 
 abbrev pub invariant-loop-i : goal.invariant-loop-i

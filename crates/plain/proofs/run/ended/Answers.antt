@@ -1,7 +1,6 @@
 -- `run::ended`: inside a value, behind the envelope's 01, or where a code is needed.
 use mathlib.Core.Path.{sym, ◌∙◌}
 use Rattle.plain.proofs.Running.{ended_value, ended_closed, ended_open}
-use borrow.Author.Rules.{rules}
 use Rattle.plain.proofs.run.ended.Goals as goal
 
 pub returns-in_default : goal.returns-in_default

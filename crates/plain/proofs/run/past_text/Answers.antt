@@ -1,5 +1,4 @@
 -- `run::past_text`: a text's bytes pass, and a block's before its last; where neither is taken nothing does.
-use borrow.Author.Rules.{rules}
 use Rattle.plain.proofs.Running.{text_past, block_past, block_ahead}
 use Rattle.plain.proofs.run.past_text.Goals as goal
 

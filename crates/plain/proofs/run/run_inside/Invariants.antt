@@ -1,15 +1,11 @@
 -- `run::run_inside`: reading from the inside's first byte is what the engine comes to, turn after turn.
-use Prim.Native.Nat.{◌+◌, ◌-◌, ◌≤◌}
-use mathlib.Core.Path.{◌≡◌, refl, ◌∙◌}
-use native.Mathlib.Omega.{arith}
+use Prim.Native.Nat.{◌-◌, ◌≤◌}
+use mathlib.Core.Path.{◌≡◌}
 use lib.ListN.{length}
 use Rattle.meaning.specs.Headers.{start}
 use Rattle.laws_steps.specs.Pouring.{source, run_at}
 use Rattle.table.specs.Told.{told_of}
 use Rattle.plain.specs.Steps.{comes, Holds}
-use Rattle.plain.proofs.Landing.{doing_nested}
-use Rattle.plain.proofs.Running.{begins_comes, begins_holds, run_ended, run_refused, run_over, run_goes, moves_lead, run_moves, ends_lead, row_fits, run_ends}
-use borrow.Author.Rules.{rules}
 use Rattle.plain.proofs.run.run_inside.Given as goal
 
 abbrev pub invariant-loop-told : goal.invariant-loop-told

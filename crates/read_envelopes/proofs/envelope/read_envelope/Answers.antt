@@ -1,6 +1,5 @@
 -- `envelope::read_envelope`: the frame's refusal, or the envelope that it opens.
 use native.Mathlib.Omega.{arith}
-use borrow.Author.Rules.{rules}
 use Rattle.table.specs.Told.{told_of}
 use Rattle.read_envelopes.proofs.Frames.{envelope_read, envelope_refused, opens_fit}
 use Rattle.read_envelopes.proofs.envelope.read_envelope.Goals as goal

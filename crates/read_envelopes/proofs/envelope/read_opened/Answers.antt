@@ -1,6 +1,5 @@
 -- `envelope::read_opened`: the law of an envelope.
 use native.Mathlib.Omega.{arith}
-use borrow.Author.Rules.{rules}
 use Rattle.table.specs.Told.{told_of}
 use Rattle.read_envelopes.proofs.Envelopes.{enveloped}
 use Rattle.read_envelopes.proofs.envelope.read_opened.Goals as goal

@@ -1,6 +1,5 @@
 -- `inside::read_head`: the representation's stage, then the date's.
 use mathlib.Core.Bool.{false}
-use borrow.Author.Rules.{rules}
 use Rattle.meaning.specs.Editions.{head_date, head_representation, parameters, state}
 use Rattle.meaning.specs.Told.{B, told}
 use Rattle.laws_steps.specs.Rooms.{head_date_lem, head_representation_lem}

@@ -1,5 +1,4 @@
 -- `inside::read_inside`: what stands before the parameters, then the parameters.
-use borrow.Author.Rules.{rules}
 use Rattle.laws_steps.specs.Pouring.{ready_to}
 use Rattle.read_rows.specs.Joining.{begun, handed, moved_to, went}
 use Rattle.read_inside.proofs.inside.read_inside.Goals as goal

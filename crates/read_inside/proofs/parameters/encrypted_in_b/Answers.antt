@@ -4,7 +4,6 @@ use mathlib.Core.Bool.{false}
 use mathlib.Core.Path.{◌≡◌, refl}
 use native.Mathlib.Nat.{le_refl}
 use native.Mathlib.Omega.{arith}
-use borrow.Author.Rules.{rules}
 use Rattle.meaning.specs.Editions.{encrypted_texts, outer, parameters, state}
 use Rattle.meaning.specs.Kinds.{encrypted_opens}
 use Rattle.meaning.specs.Told.{B}

@@ -1,6 +1,5 @@
 -- `parameters::open_behaviour`: the opening row, then the any-value's stage.
 use mathlib.Core.Bool.{false}
-use borrow.Author.Rules.{rules}
 use Rattle.meaning.specs.Editions.{behaviour_value, parameters, state}
 use Rattle.laws_steps.specs.Rooms.{behaviour_any}
 use Rattle.read_inside.proofs.parameters.open_behaviour.Goals as goal

@@ -1,11 +1,7 @@
 -- `parameters::open_encrypted`: the opening row, then a list of texts.
 use mathlib.Core.Bool.{false}
-use native.Mathlib.Omega.{arith}
-use borrow.Author.Rules.{rules}
 use Rattle.meaning.specs.Editions.{encrypted_texts, parameters, state}
-use Rattle.laws_steps.specs.Pouring.{ready_opened}
 use Rattle.laws_steps.specs.Rooms.{encrypted_texts_lem}
-use Rattle.read_rows.specs.Joining.{row_fits}
 use Rattle.read_inside.proofs.parameters.open_encrypted.Goals as goal
 
 pub returns : goal.returns

@@ -2,13 +2,12 @@
 use Prim.Native.Nat.{◌+◌}
 use mathlib.Core.Bool.{false}
 use native.Mathlib.Omega.{arith}
-use borrow.Author.Rules.{rules}
 use Rattle.meaning.specs.Editions.{agent_list, list_ends, state}
 use Rattle.laws_steps.specs.AgentRooms.{list_stop, not_single}
-use Rattle.laws_steps.specs.Pouring.{ready_opened, source}
+use Rattle.laws_steps.specs.Pouring.{source}
 use Rattle.laws_steps.specs.ReadAt.{passed_at}
 use Rattle.table.specs.Told.{told_of}
-use Rattle.read_rows.specs.Joining.{going, ready_inside, row_fits}
+use Rattle.read_rows.specs.Joining.{going}
 use Rattle.read_inside.proofs.parameters.open_list.Goals as goal
 
 pub returns-then-peek-eq-CLOSING : goal.returns-then-peek-eq-CLOSING

@@ -2,10 +2,8 @@
 use mathlib.Core.Bool.{false}
 use mathlib.Core.Path.{◌∙◌, refl}
 use native.Mathlib.Omega.{arith}
-use borrow.Author.Rules.{rules}
 use Rattle.meaning.specs.Bytes.{note}
 use Rattle.meaning.specs.Editions.{outer, own_text, parameters, state}
-use Rattle.meaning.specs.Headers.{read}
 use Rattle.meaning.specs.Kinds.{own_value}
 use Rattle.meaning.specs.Told.{B, told}
 use Rattle.laws_steps.specs.Pouring.{source}

@@ -2,12 +2,11 @@
 use mathlib.Core.Bool.{false}
 use mathlib.Core.Path.{refl}
 use native.Mathlib.Omega.{arith}
-use borrow.Author.Rules.{rules}
 use Rattle.meaning.specs.Bytes.{line, note}
 use Rattle.meaning.specs.Editions.{agent_list, behaviour_value, inner, inner_one, moves, one_agent, outer, own, own_text, parameter_representation, parameters, received_begins, shared, state}
 use Rattle.meaning.specs.Kinds.{behaviour_opens, comments, from_opens, own_key, payload_encoding, payload_length, receiver_opens, to_opens}
 use Rattle.meaning.specs.Reading.{find, look}
-use Rattle.laws_steps.specs.Pouring.{ready_next, source}
+use Rattle.laws_steps.specs.Pouring.{source}
 use Rattle.laws_steps.specs.ReadAt.{number_at_lem, opened_at, passed_at, text_at_lem}
 use Rattle.laws_steps.specs.Rooms.{parameter_representation_lem}
 use Rattle.table.specs.Told.{told_of}

@@ -1,14 +1,11 @@
 -- `parameters::read_parameters`: each turn reads one parameter and is among the parameters again; the 01 closes the envelope.
-use Prim.Native.Nat.{◌-◌, ◌<◌, ◌≤◌}
+use Prim.Native.Nat.{◌<◌}
 use mathlib.Core.Bool.{false}
-use mathlib.Core.Path.{◌∙◌, ◌≡◌, refl}
+use mathlib.Core.Path.{◌∙◌}
 use native.Mathlib.Nat.{le_refl}
 use native.Mathlib.Omega.{arith}
-use lib.ListN.{length}
-use borrow.Author.Rules.{rules}
 use Rattle.meaning.specs.Editions.{closed, outer, parameters, state}
-use Rattle.meaning.specs.Told.{told}
-use Rattle.laws_steps.specs.Pouring.{run_at, source}
+use Rattle.laws_steps.specs.Pouring.{source}
 use Rattle.laws_steps.specs.ReadAt.{passed_at}
 use Rattle.laws_steps.specs.Rooms.{parameters_stop}
 use Rattle.table.specs.Told.{told_of}

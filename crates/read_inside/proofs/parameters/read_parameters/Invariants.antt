@@ -1,18 +1,11 @@
 -- `parameters::read_parameters`: each turn reads one parameter and is among the parameters again; the 01 closes the envelope.
-use Prim.Native.Nat.{◌-◌, ◌<◌, ◌≤◌}
+use Prim.Native.Nat.{◌-◌, ◌≤◌}
 use mathlib.Core.Bool.{false}
-use mathlib.Core.Path.{◌∙◌, ◌≡◌, refl}
-use native.Mathlib.Nat.{le_refl}
-use native.Mathlib.Omega.{arith}
+use mathlib.Core.Path.{◌≡◌}
 use lib.ListN.{length}
-use borrow.Author.Rules.{rules}
-use Rattle.meaning.specs.Editions.{closed, outer, parameters, state}
-use Rattle.meaning.specs.Told.{told}
+use Rattle.meaning.specs.Editions.{parameters, state}
 use Rattle.laws_steps.specs.Pouring.{run_at, source}
-use Rattle.laws_steps.specs.ReadAt.{passed_at}
-use Rattle.laws_steps.specs.Rooms.{parameters_stop}
 use Rattle.table.specs.Told.{told_of}
-use Rattle.read_rows.specs.Joining.{begun, going, handed, moved_to, went}
 use Rattle.read_inside.proofs.parameters.read_parameters.Given as goal
 
 abbrev pub invariant-loop-told : goal.invariant-loop-told

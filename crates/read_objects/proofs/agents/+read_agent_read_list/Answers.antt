@@ -1,5 +1,5 @@
 -- The agent's and the list's stages, which call each other.
-use Rattle.std.proofs.Common.{◌≡◌, ◌≤◌, ◌*◌, ◌-◌, ◌+◌, ◌<◌, ◌∙◌, ℕ, List, Bool, false, true, length, ap, refl, arith}
+use Rattle.std.proofs.Common.{◌≡◌, ◌≤◌, ◌+◌, ◌<◌, ◌∙◌, ℕ, List, Bool, false, true, ap, refl, arith}
 use native.Mathlib.Nat.{le_refl}
 use lib.Dec.{ltb}
 use borrow.Author.Tests.{le-ltb, lt-ltb}
@@ -85,7 +85,7 @@ pub read_agent-returns : goal.read_agent-returns
 read_agent-returns t c single =
     let a = c.args in
     let l = resolved (told_of a.told) a.s.now a.end a.at a.n a.rows.now c.in-Go.after_addresses c.in-Go.with_addresses c.name_and_addresses-named.new.rows c.peek.result a.level single c.put_row.new.rows c.read_list-resolvers.result c.read_list-resolvers.new.rows c.requires.1
-        (went c.in-Go.is (c.name_and_addresses-named.ensures (told_of a.told) single)) c.peek.ensures c.if-peek-ne3.false c.put_row.ensures (c.read_list-resolvers.ensures single (λ _ h. omega (arith, c.requires.1))) in
+    (went c.in-Go.is (c.name_and_addresses-named.ensures (told_of a.told) single)) c.peek.ensures c.if-peek-ne3.false c.put_row.ensures (c.read_list-resolvers.ensures single (λ _ h. omega (arith, c.requires.1))) in
     let u = moved_to c.in-Go-resolvers.is l in
     let h = moved_to c.in-Go.is (c.name_and_addresses-named.ensures (told B) true) in
     begun (omega arith) (went c.in-Go-resolvers.is l) (c.behind_resolvers-2.ensures single)
@@ -143,6 +143,11 @@ pub read_list-loop-told-preserved : goal.read_list-loop-told-preserved
 read_list-loop-told-preserved t c =
     let l = c.loop-told in
     let a = c.args in
-    let u = moved_to c.in-Go.is (c.read_agent-r.ensures true) in
-    (omega arith, omega arith, omega arith, c.read_agent-r.auto.rows ∙ l.invariant.3, λ single h. went c.in-Go.is
-    (once_more (told_of a.told) a.s.now a.end a.at a.n a.rows.now l.here l.count l.rows c.peek-b.result a.level single c.read_agent-r.result c.read_agent-r.new.rows h (omega arith) (l.invariant.4 single h) c.peek-b.ensures c.if-b-ne2.false (c.read_agent-r.ensures single)))
+    let u = moved_to c.in-Go.is (c.read_agent-r.ensures true) in (
+      omega arith,
+      omega arith,
+      omega arith,
+      c.read_agent-r.auto.rows ∙ l.invariant.3,
+      λ single h. went c.in-Go.is
+          (once_more (told_of a.told) a.s.now a.end a.at a.n a.rows.now l.here l.count l.rows c.peek-b.result a.level single c.read_agent-r.result c.read_agent-r.new.rows h (omega arith) (l.invariant.4 single h) c.peek-b.ensures c.if-b-ne2.false (c.read_agent-r.ensures single)),
+    )

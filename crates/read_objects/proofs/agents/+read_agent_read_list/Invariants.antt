@@ -1,5 +1,5 @@
 -- The agent's and the list's stages, which call each other: twice the levels left, and one for the list, falls at each call.
-use Rattle.std.proofs.Common.{◌≡◌, ℕ, ◌+◌, ◌*◌, ◌-◌, ◌≤◌, Bool, length}
+use Rattle.std.proofs.Common.{◌≡◌, ◌+◌, ◌*◌, ◌-◌, ◌≤◌, Bool, length}
 use Rattle.meaning.specs.Editions.{agent_list, state}
 use Rattle.laws_steps.specs.Pouring.{run_at, source}
 use Rattle.laws_steps.specs.Shapes.{InList}

@@ -1,10 +1,9 @@
 -- `agents::behind_resolvers`: an agent's extras are a run of extras with the edition's code.
-use mathlib.Core.Path.{◌∙◌, refl, sym}
-use borrow.Author.Rules.{rules}
+use mathlib.Core.Path.{refl}
 use Rattle.meaning.specs.Editions.{after_resolvers, agent_ends, agent_extra, go, state}
-use Rattle.laws_steps.specs.AgentRooms.{agent_code, agent_extras_lem}
+use Rattle.laws_steps.specs.AgentRooms.{agent_extras_lem}
 use Rattle.laws_steps.specs.Pouring.{source}
-use Rattle.table.specs.Told.{edition_of, told_of}
+use Rattle.table.specs.Told.{told_of}
 use Rattle.read_rows.specs.Joining.{no_extras}
 use Rattle.read_objects.proofs.agents.behind_resolvers.Goals as goal
 

@@ -3,7 +3,6 @@ use Prim.Native.Nat.{◌+◌, ◌≤◌}
 use mathlib.Core.Bool.{false}
 use mathlib.Core.Path.{◌∙◌, refl}
 use native.Mathlib.Omega.{arith}
-use borrow.Author.Rules.{rules}
 use Rattle.meaning.specs.Editions.{address_texts, after_addresses, after_name, parameters, state, stay}
 use Rattle.meaning.specs.Kinds.{addresses_open}
 use Rattle.meaning.specs.Told.{B, told}
@@ -20,13 +19,13 @@ returns-in_default c t single = handed c.in_default.is (c.text-name.ensures t (s
 pub peek-requires : goal.peek-requires
 peek-requires c =
     let went_on : (c.args.at + 1 ≤ c.in-Go.after_name) × (c.in-Go.after_name ≤ c.args.end) × (c.in-Go.with_name ≤ c.in-Go.after_name) =
-        moved_to c.in-Go.is (c.text-name.ensures (told B) (state parameters 0 false)) in
+    moved_to c.in-Go.is (c.text-name.ensures (told B) (state parameters 0 false)) in
     ready_inside (ready_to c.requires went_on)
 
 pub returns-then-peek-ne2 : goal.returns-then-peek-ne2
 returns-then-peek-ne2 c t single =
     let went_on : (c.args.at + 1 ≤ c.in-Go.after_name) × (c.in-Go.after_name ≤ c.args.end) × (c.in-Go.with_name ≤ c.in-Go.after_name) =
-        moved_to c.in-Go.is (c.text-name.ensures (told B) (state parameters 0 false)) in
+    moved_to c.in-Go.is (c.text-name.ensures (told B) (state parameters 0 false)) in
     let a = c.args in
     let p = c.peek in
     let u = went_on in
@@ -39,25 +38,25 @@ returns-then-peek-ne2 c t single =
 pub put_row-requires : goal.put_row-requires
 put_row-requires c =
     let went_on : (c.args.at + 1 ≤ c.in-Go.after_name) × (c.in-Go.after_name ≤ c.args.end) × (c.in-Go.with_name ≤ c.in-Go.after_name) =
-        moved_to c.in-Go.is (c.text-name.ensures (told B) (state parameters 0 false)) in
+    moved_to c.in-Go.is (c.text-name.ensures (told B) (state parameters 0 false)) in
     row_fits (ready_to c.requires went_on)
 
 pub overflow_add-opened : goal.overflow_add-opened
 overflow_add-opened c =
     let went_on : (c.args.at + 1 ≤ c.in-Go.after_name) × (c.in-Go.after_name ≤ c.args.end) × (c.in-Go.with_name ≤ c.in-Go.after_name) =
-        moved_to c.in-Go.is (c.text-name.ensures (told B) (state parameters 0 false)) in
+    moved_to c.in-Go.is (c.text-name.ensures (told B) (state parameters 0 false)) in
     let h = row_fits (ready_to c.requires went_on) in omega arith
 
 pub texts-requires : goal.texts-requires
 texts-requires c =
     let went_on : (c.args.at + 1 ≤ c.in-Go.after_name) × (c.in-Go.after_name ≤ c.args.end) × (c.in-Go.with_name ≤ c.in-Go.after_name) =
-        moved_to c.in-Go.is (c.text-name.ensures (told B) (state parameters 0 false)) in
+    moved_to c.in-Go.is (c.text-name.ensures (told B) (state parameters 0 false)) in
     ready_opened (ready_to c.requires went_on) (c.peek.ensures.inside (omega arith))
 
 pub returns : goal.returns
 returns c t single =
     let went_on : (c.args.at + 1 ≤ c.in-Go.after_name) × (c.in-Go.after_name ≤ c.args.end) × (c.in-Go.with_name ≤ c.in-Go.after_name) =
-        moved_to c.in-Go.is (c.text-name.ensures (told B) (state parameters 0 false)) in
+    moved_to c.in-Go.is (c.text-name.ensures (told B) (state parameters 0 false)) in
     let a = c.args in
     let p = c.peek in
     let u = went_on in

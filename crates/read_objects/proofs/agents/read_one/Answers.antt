@@ -2,12 +2,11 @@
 use mathlib.Core.Bool.{true}
 use mathlib.Core.Path.{refl}
 use native.Mathlib.Omega.{arith}
-use borrow.Author.Rules.{rules}
 use Rattle.meaning.specs.Bytes.{line}
 use Rattle.meaning.specs.Editions.{after_name, one_agent, state, stay}
 use Rattle.meaning.specs.Kinds.{agent_name}
 use Rattle.laws_steps.specs.AgentRooms.{one_name, one_none}
-use Rattle.laws_steps.specs.Pouring.{ready_next, source}
+use Rattle.laws_steps.specs.Pouring.{source}
 use Rattle.laws_steps.specs.ReadAt.{text_at_lem}
 use Rattle.table.specs.Told.{told_of}
 use Rattle.read_rows.specs.Joining.{begun, foreign_byte}

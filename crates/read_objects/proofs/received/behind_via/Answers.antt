@@ -1,12 +1,11 @@
 -- `received::behind_via`: a received object's extras are a run of extras with the edition's code.
 use mathlib.Core.Bool.{false}
-use mathlib.Core.Path.{◌∙◌, refl, sym}
-use borrow.Author.Rules.{rules}
+use mathlib.Core.Path.{refl}
 use Rattle.meaning.specs.Editions.{after_via, parameters, received_extra, state}
 use Rattle.laws_steps.specs.Pouring.{source}
-use Rattle.table.specs.Told.{edition_of, told_of}
+use Rattle.table.specs.Told.{told_of}
 use Rattle.read_rows.specs.Joining.{no_extras}
-use Rattle.read_objects.proofs.ReceivedRooms.{received_code, received_extras_lem}
+use Rattle.read_objects.proofs.ReceivedRooms.{received_extras_lem}
 use Rattle.read_objects.proofs.received.behind_via.Goals as goal
 
 pub returns-then-peek-eq-CLOSING : goal.returns-then-peek-eq-CLOSING

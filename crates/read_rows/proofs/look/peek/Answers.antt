@@ -1,7 +1,6 @@
 -- `look::peek`: the bytes from a place to the declared end are a byte and those behind it, or none.
 use native.Mathlib.Omega.{arith}
 use lib.ListN.{get_or}
-use borrow.Author.Rules.{rules}
 use borrow.Author.Tests.{lt-ltb}
 use Rattle.laws_steps.specs.From.{from_cons, from_end}
 use Rattle.read_rows.proofs.look.peek.Goals as goal

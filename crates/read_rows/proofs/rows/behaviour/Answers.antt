@@ -1,6 +1,5 @@
 -- `rows::behaviour`: as `rows::any`, at level 0.
 use native.Mathlib.Omega.{arith}
-use borrow.Author.Rules.{rules}
 use Rattle.meaning.specs.Editions.{any_values}
 use Rattle.laws_steps.specs.Pouring.{source}
 use Rattle.table.specs.Told.{told_of}

@@ -1,6 +1,5 @@
 -- `rows::date`: the value's stage in the edition, and its row kept.
 use native.Mathlib.Omega.{arith}
-use borrow.Author.Rules.{rules}
 use Rattle.laws_steps.specs.Pouring.{source}
 use Rattle.table.specs.Told.{edition_of, told_of}
 use Rattle.date.specs.Dates.{dates_of}

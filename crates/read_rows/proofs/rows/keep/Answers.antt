@@ -1,7 +1,5 @@
 -- `rows::keep`: by the value's case.
-use mathlib.Core.Path.{◌∙◌, refl}
 use native.Mathlib.Omega.{arith}
-use borrow.Author.Rules.{rules}
 use Rattle.read_rows.specs.Stages.{Fits}
 use Rattle.read_rows.proofs.rows.keep.Goals as goal
 

@@ -1,7 +1,6 @@
 -- `rows::number`: the value's stage, and its row kept.
 use mathlib.Core.Bool.{true}
 use native.Mathlib.Omega.{arith}
-use borrow.Author.Rules.{rules}
 use Rattle.meaning.specs.Bytes.{take_number}
 use Rattle.meaning.specs.Kinds.{payload_length}
 use Rattle.laws_steps.specs.From.{from}

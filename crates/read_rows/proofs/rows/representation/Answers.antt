@@ -1,6 +1,5 @@
 -- `rows::representation`: the value's stage, and its row kept.
 use native.Mathlib.Omega.{arith}
-use borrow.Author.Rules.{rules}
 use Rattle.meaning.specs.Editions.{representations}
 use Rattle.meaning.specs.Told.{B, told}
 use Rattle.laws_steps.specs.Pouring.{source}

@@ -1,6 +1,5 @@
 -- `rows::text`: the value's stage, and its row kept.
 use native.Mathlib.Omega.{arith}
-use borrow.Author.Rules.{rules}
 use Rattle.meaning.specs.Bytes.{take_text}
 use Rattle.laws_steps.specs.From.{from}
 use Rattle.laws_steps.specs.Pouring.{source}

@@ -1,6 +1,5 @@
 -- `texts::extra`: the key's stage, then the any-value's.
 use mathlib.Core.Bool.{false}
-use borrow.Author.Rules.{rules}
 use Rattle.meaning.specs.Editions.{parameters, state}
 use Rattle.meaning.specs.Told.{B, told}
 use Rattle.table.specs.Told.{told_of}

@@ -1,16 +1,14 @@
 -- `texts::extras`: each turn reads one extra and is in the same state again; the 01 leads out, any other byte is refused.
-use Prim.Native.Nat.{◌+◌, ◌-◌, ◌<◌, ◌≤◌, ℕ}
+use Prim.Native.Nat.{◌+◌, ◌<◌, ℕ}
 use mathlib.Core.Bool.{true}
 use mathlib.Core.List.{List}
 use mathlib.Core.Path.{◌∙◌, ◌≡◌, ap, refl}
 use native.Mathlib.Nat.{le_refl}
 use native.Mathlib.Omega.{arith}
-use lib.ListN.{length}
-use borrow.Author.Rules.{rules}
 use Rattle.meaning.specs.Bytes.{line}
 use Rattle.meaning.specs.Editions.{State, after_resolvers, agent_extra, go, state}
 use Rattle.meaning.specs.Kinds.{extra_key}
-use Rattle.meaning.specs.Told.{Told, told}
+use Rattle.meaning.specs.Told.{Told}
 use Rattle.laws_steps.specs.AgentRooms.{agent_any}
 use Rattle.laws_steps.specs.Pouring.{Peeked, run_at, source, text_at}
 use Rattle.laws_steps.specs.ReadAt.{passed_at, text_at_lem}
@@ -22,7 +20,6 @@ use Rattle.read_rows.specs.Stages.{Ran, TextRead}
 use Rattle.read_rows.proofs.texts.extras.Goals as goal
 
 code_below : {s : List ℕ} {end at b code : ℕ} → Peeked s end at b → b ≡ code → (code ≡ 256 → ⊥) → (at < end) × (code < 256)
-
 code_below p h f = let t = p.top in (p.inside (omega arith), omega arith)
 
 -- one more extra

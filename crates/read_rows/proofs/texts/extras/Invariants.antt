@@ -1,23 +1,11 @@
 -- `texts::extras`: each turn reads one extra and is in the same state again; the 01 leads out, any other byte is refused.
-use Prim.Native.Nat.{◌+◌, ◌-◌, ◌<◌, ◌≤◌, ℕ}
-use mathlib.Core.Bool.{true}
-use mathlib.Core.List.{List}
-use mathlib.Core.Path.{◌∙◌, ◌≡◌, ap, refl}
-use native.Mathlib.Nat.{le_refl}
-use native.Mathlib.Omega.{arith}
+use Prim.Native.Nat.{◌-◌, ◌≤◌}
+use mathlib.Core.Path.{◌≡◌}
 use lib.ListN.{length}
-use borrow.Author.Rules.{rules}
-use Rattle.meaning.specs.Bytes.{line}
-use Rattle.meaning.specs.Editions.{State, after_resolvers, agent_extra, go, state}
-use Rattle.meaning.specs.Kinds.{extra_key}
-use Rattle.meaning.specs.Told.{told}
-use Rattle.laws_steps.specs.AgentRooms.{agent_any}
-use Rattle.laws_steps.specs.Pouring.{Peeked, run_at, source, text_at}
-use Rattle.laws_steps.specs.ReadAt.{passed_at, text_at_lem}
+use Rattle.meaning.specs.Editions.{State}
+use Rattle.laws_steps.specs.Pouring.{run_at, source}
 use Rattle.laws_steps.specs.Shapes.{Extras}
 use Rattle.table.specs.Told.{told_of}
-use Rattle.read_rows.specs.Joining.{arrives, begun, foreign_byte, going, handed, moved_to, went}
-use Rattle.read_rows.specs.Stages.{Ran}
 use Rattle.read_rows.proofs.texts.extras.Given as goal
 
 abbrev pub invariant-loop-told : goal.invariant-loop-told

@@ -1,9 +1,8 @@
 -- `texts::optional`: without its code the state is as the one behind the line.
-use Prim.Native.Nat.{◌+◌, ◌<◌, ℕ}
+use Prim.Native.Nat.{◌+◌, ℕ}
 use mathlib.Core.Path.{◌∙◌, ap}
 use native.Mathlib.Nat.{le_refl}
 use native.Mathlib.Omega.{arith}
-use borrow.Author.Rules.{rules}
 use Rattle.meaning.specs.Bytes.{line}
 use Rattle.meaning.specs.Editions.{go}
 use Rattle.laws_steps.specs.Pouring.{not_deep, source, text_at}

@@ -1,15 +1,12 @@
 -- `texts::texts`: each turn reads one line and is in the same state again; the 01 leads out.
-use Prim.Native.Nat.{◌+◌, ◌-◌, ◌<◌, ◌≤◌, ℕ}
+use Prim.Native.Nat.{◌+◌, ◌<◌, ℕ}
 use mathlib.Core.Bool.{false}
 use mathlib.Core.List.{List}
-use mathlib.Core.Path.{◌∙◌, ◌≡◌, ap, refl}
+use mathlib.Core.Path.{◌∙◌, ◌≡◌, ap}
 use native.Mathlib.Nat.{le_refl}
 use native.Mathlib.Omega.{arith}
-use lib.ListN.{length}
-use borrow.Author.Rules.{rules}
 use Rattle.meaning.specs.Bytes.{line}
 use Rattle.meaning.specs.Editions.{State, go, parameters, state}
-use Rattle.meaning.specs.Headers.{read}
 use Rattle.meaning.specs.Told.{B, Told, told}
 use Rattle.laws_steps.specs.Pouring.{Peeked, not_deep, run_at, source, text_at}
 use Rattle.laws_steps.specs.ReadAt.{passed_at, uncoded}

@@ -1,20 +1,11 @@
 -- `texts::texts`: each turn reads one line and is in the same state again; the 01 leads out.
-use Prim.Native.Nat.{◌+◌, ◌-◌, ◌<◌, ◌≤◌, ℕ}
-use mathlib.Core.Bool.{false}
-use mathlib.Core.Path.{◌∙◌, ◌≡◌, ap, refl}
-use native.Mathlib.Nat.{le_refl}
-use native.Mathlib.Omega.{arith}
+use Prim.Native.Nat.{◌-◌, ◌≤◌}
+use mathlib.Core.Path.{◌≡◌}
 use lib.ListN.{length}
-use borrow.Author.Rules.{rules}
-use Rattle.meaning.specs.Bytes.{line}
-use Rattle.meaning.specs.Editions.{State, go, parameters, state}
-use Rattle.meaning.specs.Headers.{read}
-use Rattle.meaning.specs.Told.{B, Told, told}
-use Rattle.laws_steps.specs.Pouring.{not_deep, run_at, source, text_at}
-use Rattle.laws_steps.specs.ReadAt.{passed_at, uncoded}
+use Rattle.meaning.specs.Editions.{State}
+use Rattle.meaning.specs.Told.{Told}
+use Rattle.laws_steps.specs.Pouring.{run_at, source}
 use Rattle.laws_steps.specs.Shapes.{Texts}
-use Rattle.read_rows.specs.Joining.{arrives, begun, going, handed, moved_to, went}
-use Rattle.read_rows.specs.Stages.{Ran}
 use Rattle.read_rows.proofs.texts.texts.Given as goal
 
 abbrev pub invariant-loop-behind : goal.invariant-loop-behind

@@ -1,6 +1,5 @@
 -- `rows::look_ahead`: no row, a row that views past the pool, or one that counts.
 use Rattle.table.specs.Rows.{ahead_end, ahead_in, ahead_out}
-use borrow.Author.Rules.{rules}
 use native.Mathlib.Omega.{arith}
 use Rattle.table.proofs.rows.look_ahead.Goals as goal
 

@@ -1,8 +1,5 @@
 -- `rows::put_row`: the four stores are the definition's.
-use native.Mathlib.Omega.{arith}
-use borrow.Author.Rules.{rules}
 use borrow.Author.Tests.{le-leb, lt-leb}
-use lib.ListN.{length-set}
 use Rattle.laws_steps.specs.Rows.{put}
 use Rattle.table.proofs.rows.put_row.Goals as goal
 

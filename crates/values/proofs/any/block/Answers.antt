@@ -1,6 +1,4 @@
 -- `any::block`: the length, then the block, each case by its law.
-use native.Mathlib.Omega.{arith}
-use borrow.Author.Rules.{rules}
 use Rattle.values.proofs.Blocks.{length_to, block_short, block_wide, block_far, block_goes}
 use Rattle.values.proofs.any.block.Goals as goal
 

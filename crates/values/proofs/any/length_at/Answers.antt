@@ -1,6 +1,4 @@
 -- `any::length_at`: too few bytes, or the number of one, two or four.
-use borrow.Author.Rules.{rules}
-use native.Mathlib.Omega.{arith}
 use Rattle.values.proofs.Blocks.{length_short, length_one, length_two, length_four, four_wide}
 use Rattle.values.proofs.any.length_at.Goals as goal
 

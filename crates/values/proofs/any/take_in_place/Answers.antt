@@ -1,6 +1,5 @@
 -- `any::take_in_place`: two codes of the table of moves, or what `take` answers.
 use mathlib.Core.Path.{refl, sym}
-use borrow.Author.Rules.{rules}
 use Rattle.meaning.specs.Reading.{look, find, take_value}
 use Rattle.meaning.specs.Editions.{block}
 use Rattle.meaning.specs.Bytes.{one_byte, two_bytes}

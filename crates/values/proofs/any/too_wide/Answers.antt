@@ -1,5 +1,4 @@
 -- `any::too_wide`: a tolerant reading refuses no width, a strict one what is wider than needed.
-use borrow.Author.Rules.{rules}
 use mathlib.Core.Path.{ap}
 use Rattle.table.specs.Told.{strictness_of}
 use Rattle.values.proofs.Blocks.{wide_strictly, wide_tolerantly}

@@ -1,5 +1,4 @@
 -- `eights::eight_bytes`: four bytes, and four behind them.
-use borrow.Author.Rules.{rules}
 use Rattle.values.proofs.Marks.{eight_are}
 use Rattle.values.proofs.eights.eight_bytes.Goals as goal
 

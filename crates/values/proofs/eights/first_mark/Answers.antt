@@ -1,6 +1,4 @@
 -- `eights::first_mark`: the zeros below the first mark, eight for each byte before it.
-use native.Mathlib.Omega.{arith}
-use lib.Count.{trailing_le}
 use Rattle.values.proofs.Marks.{first_marked}
 use Rattle.values.proofs.eights.first_mark.Goals as goal
 

@@ -1,6 +1,5 @@
 -- `eights::four_low`: two bytes, and two behind them.
 use native.Mathlib.Omega.{arith}
-use borrow.Author.Rules.{rules}
 use Rattle.values.proofs.Marks.{four_are}
 use Rattle.values.proofs.eights.four_low.Goals as goal
 

@@ -1,7 +1,4 @@
 -- `eights::marks`: byte by byte, since no byte borrows from the next.
-use Prim.Native.Nat.{◌/◌}
-use native.Mathlib.Omega.{arith}
-use lib.Bits.{and_le_r}
 use Rattle.values.proofs.Marks.{marked}
 use Rattle.values.proofs.eights.marks.Goals as goal
 

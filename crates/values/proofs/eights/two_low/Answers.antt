@@ -1,6 +1,5 @@
 -- `eights::two_low`: two bytes.
 use native.Mathlib.Omega.{arith}
-use borrow.Author.Rules.{rules}
 use Rattle.values.proofs.Marks.{two_are}
 use Rattle.values.proofs.eights.two_low.Goals as goal
 

@@ -1,12 +1,7 @@
 -- `number::count`: the invariant says that what is left is tallied behind what was read, and each turn is one law.
-use Prim.Native.Nat.{ℕ, ◌-◌, ◌≤◌}
-use mathlib.Core.Bool.{true}
-use mathlib.Core.Path.{◌≡◌, ap, ◌∙◌}
+use mathlib.Core.Path.{◌∙◌}
 use native.Mathlib.Omega.{arith}
-use borrow.Author.Rules.{rules}
-use Rattle.meaning.specs.Bytes.{take_number, number_most}
-use Rattle.laws_steps.specs.From.{from}
-use Rattle.values.specs.Numbers.{tally, tallied, Ends}
+use Rattle.values.specs.Numbers.{tallied, Ends}
 use Rattle.values.proofs.Numbers.{more_fits, number_ends, number_wrong, number_stops, number_goes}
 use Rattle.values.proofs.number.count.Goals as goal
 

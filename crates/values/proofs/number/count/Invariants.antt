@@ -1,13 +1,10 @@
 -- `number::count`: the invariant says that what is left is tallied behind what was read, and each turn is one law.
-use Prim.Native.Nat.{ℕ, ◌-◌, ◌≤◌}
+use Prim.Native.Nat.{◌-◌, ◌≤◌}
 use mathlib.Core.Bool.{true}
-use mathlib.Core.Path.{◌≡◌, ap, ◌∙◌}
-use native.Mathlib.Omega.{arith}
-use borrow.Author.Rules.{rules}
+use mathlib.Core.Path.{◌≡◌}
 use Rattle.meaning.specs.Bytes.{take_number, number_most}
 use Rattle.laws_steps.specs.From.{from}
-use Rattle.values.specs.Numbers.{tally, tallied, Ends}
-use Rattle.values.proofs.Numbers.{more_fits, number_ends, number_wrong, number_stops, number_goes}
+use Rattle.values.specs.Numbers.{tally}
 use Rattle.values.proofs.number.count.Given as goal
 
 abbrev pub invariant-loop-i : goal.invariant-loop-i

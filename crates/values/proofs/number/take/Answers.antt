@@ -1,6 +1,5 @@
 -- `number::take` is `number::count` without the value.
 use native.Mathlib.Omega.{arith}
-use borrow.Author.Rules.{rules}
 use Rattle.values.specs.Counting.{counted_to, counted_is, counted_refused}
 use Rattle.values.proofs.number.take.Goals as goal
 

@@ -1,5 +1,4 @@
 -- `number::turn` is its definition, test by test.
-use borrow.Author.Rules.{rules}
 use Rattle.values.proofs.Numbers.{odd_ends, even_goes, even_wrong, odd_wrong, zero_ends, zero_wrong}
 use Rattle.values.proofs.number.turn.Goals as goal
 

@@ -1,6 +1,5 @@
 -- `text::eight_in_note`: two runs of four, one behind the other.
 use Rattle.values.proofs.Texts.{two_runs}
-use borrow.Author.Rules.{rules}
 use Rattle.meaning.specs.Bytes.{note}
 use Rattle.values.proofs.text.eight_in_note.Goals as goal
 

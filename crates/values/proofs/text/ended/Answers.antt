@@ -1,7 +1,6 @@
 -- `text::ended`: where the run stops, the text's end, a byte that is no text, or nothing more.
 use mathlib.Core.Path.{◌∙◌}
 use native.Mathlib.Omega.{arith}
-use borrow.Author.Rules.{rules}
 use Rattle.values.specs.Answers.{answered, refuses}
 use Rattle.values.proofs.Texts.{text_stops, text_wrong, text_ends}
 use Rattle.values.proofs.text.ended.Goals as goal

@@ -1,7 +1,6 @@
 -- `text::first_stop`: all before the place reached is of a line, and not all eight are.
 use Prim.Native.Nat.{◌+◌, ◌-◌}
-use native.Mathlib.Omega.{arith}
-use Rattle.values.proofs.Texts.{Passed, passed_none, passed_on, passed_stops}
+use Rattle.values.proofs.Texts.{Passed}
 use Rattle.values.proofs.text.first_stop.Given as goal
 
 abbrev pub invariant-loop-i : goal.invariant-loop-i

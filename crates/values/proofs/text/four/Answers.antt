@@ -2,7 +2,6 @@
 use mathlib.Core.Path.{refl}
 use Rattle.meaning.specs.Bytes.{text_byte}
 use Rattle.values.specs.Stages.{text_run}
-use borrow.Author.Rules.{rules}
 use Rattle.values.proofs.text.four.Goals as goal
 
 pub returns : goal.returns

@@ -1,6 +1,5 @@
 -- `text::four_in_note`: a run of four, byte by byte.
 use mathlib.Core.Path.{refl}
-use borrow.Author.Rules.{rules}
 use Rattle.values.specs.Stages.{text_run}
 use Rattle.values.proofs.text.four_in_note.Goals as goal
 

@@ -1,6 +1,5 @@
 -- `text::in_note`: what a line allows, or a break.
 use mathlib.Core.Path.{refl}
-use borrow.Author.Rules.{rules}
 use Rattle.meaning.specs.Bytes.{text_byte}
 use Rattle.values.proofs.text.in_note.Goals as goal
 

@@ -1,10 +1,6 @@
 -- `text::last_run`: byte by byte; the invariant is that all before is of a line.
-use Prim.Native.Nat.{◌-◌}
-use Rattle.values.proofs.Texts.{no_text, one_text, line_skipped, skipped_none, skipped_on}
-use Rattle.values.specs.Stages.{Skipped}
-use Rattle.meaning.specs.Bytes.{Rule}
+use Rattle.values.proofs.Texts.{no_text, one_text, line_skipped, skipped_on}
 use lib.ListN.{get_or}
-use borrow.Author.Rules.{rules}
 use native.Mathlib.Omega.{arith}
 use Rattle.values.proofs.text.last_run.Goals as goal
 

@@ -1,12 +1,7 @@
 -- `text::line_by_line`: all before the place reached is allowed, and what stands there is of no line.
-use Prim.Native.Nat.{◌-◌, ◌<◌}
-use mathlib.Core.Bool.{false}
-use mathlib.Core.Path.{◌≡◌, sym, ◌∙◌}
-use native.Mathlib.Omega.{arith}
-use borrow.Author.Rules.{rules}
+use mathlib.Core.Path.{sym, ◌∙◌}
 use lib.ListN.{get_or}
-use Rattle.meaning.specs.Bytes.{line, note, text_byte}
-use Rattle.values.specs.Stages.{Skipped}
+use Rattle.meaning.specs.Bytes.{note}
 use Rattle.values.proofs.Texts.{note_is, byte_skipped, skipped_on}
 use Rattle.values.proofs.text.line_by_line.Goals as goal
 

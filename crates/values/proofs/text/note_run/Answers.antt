@@ -1,10 +1,8 @@
 -- `text::note_run`: all before the place reached a note allows.
-use Prim.Native.Nat.{◌-◌}
 use mathlib.Core.Path.{sym, ◌∙◌}
 use native.Mathlib.Omega.{arith}
 use Rattle.meaning.specs.Bytes.{note}
-use Rattle.values.specs.Stages.{Skipped}
-use Rattle.values.proofs.Texts.{note_skipped, skipped_on, run_on}
+use Rattle.values.proofs.Texts.{note_skipped, skipped_on}
 use Rattle.values.proofs.text.note_run.Goals as goal
 
 pub loop-i-init : goal.loop-i-init

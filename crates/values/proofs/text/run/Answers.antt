@@ -1,5 +1,4 @@
 -- `text::run`: by the rule's own run.
-use borrow.Author.Rules.{rules}
 use Rattle.values.proofs.Texts.{line_runs}
 use Rattle.values.proofs.text.run.Goals as goal
 

@@ -1,6 +1,5 @@
 -- `text::sixteen`: two runs of eight, one behind the other.
 use Rattle.values.proofs.Texts.{two_runs}
-use borrow.Author.Rules.{rules}
 use Rattle.meaning.specs.Bytes.{line}
 use Rattle.values.proofs.text.sixteen.Goals as goal
 

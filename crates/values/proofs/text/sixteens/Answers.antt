@@ -1,10 +1,7 @@
 -- `text::sixteens` passes text alone: the invariant is its promise at the place reached, and a turn is one run of sixteen.
-use Prim.Native.Nat.{ℕ, ◌-◌}
-use mathlib.Core.Path.{◌≡◌, ap, sym, ◌∙◌}
+use mathlib.Core.Path.{sym, ◌∙◌}
 use native.Mathlib.Omega.{arith}
-use Rattle.meaning.specs.Bytes.{Rule, line, take_text}
-use Rattle.laws_steps.specs.From.{from}
-use Rattle.values.specs.Stages.{span, Skipped}
+use Rattle.meaning.specs.Bytes.{line}
 use Rattle.values.proofs.Texts.{line_in, text_runs}
 use Rattle.values.proofs.text.sixteens.Goals as goal
 

@@ -1,11 +1,7 @@
 -- `text::sixteens` passes text alone: the invariant is its promise at the place reached, and a turn is one run of sixteen.
-use Prim.Native.Nat.{ℕ, ◌-◌}
-use mathlib.Core.Path.{◌≡◌, ap, sym, ◌∙◌}
-use native.Mathlib.Omega.{arith}
-use Rattle.meaning.specs.Bytes.{Rule, line, take_text}
-use Rattle.laws_steps.specs.From.{from}
-use Rattle.values.specs.Stages.{span, Skipped}
-use Rattle.values.proofs.Texts.{line_in, text_runs}
+use Prim.Native.Nat.{◌-◌}
+use Rattle.meaning.specs.Bytes.{Rule}
+use Rattle.values.specs.Stages.{Skipped}
 use Rattle.values.proofs.text.sixteens.Given as goal
 
 abbrev pub invariant-loop-i : goal.invariant-loop-i

@@ -1,6 +1,5 @@
 -- `text::stop`: a byte below 20 is of no line, and a 00 of no text; else by the rule's own run.
 use native.Mathlib.Omega.{arith}
-use borrow.Author.Rules.{rules}
 use lib.ListN.{get_or}
 use Rattle.meaning.specs.Bytes.{line}
 use Rattle.values.specs.Stages.{rule_of}

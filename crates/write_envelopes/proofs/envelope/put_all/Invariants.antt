@@ -2,13 +2,8 @@
 use Prim.Native.Nat.{◌-◌, ◌≤◌}
 use Rattle.meaning.specs.Memory.{room_of}
 use Rattle.table.specs.Told.{edition_of}
-use Rattle.write_envelopes.proofs.Checking.{ends_later, here, measured_ended, measured_stuck, row_inside}
-use Rattle.write_envelopes.proofs.Writing.{WritingAt, writing_ends, writing_length, writing_none, writing_noted, writing_on, writing_starts, writing_stuck}
+use Rattle.write_envelopes.proofs.Writing.{WritingAt}
 use Rattle.write_envelopes.specs.Whole.{Writable}
-use borrow.Author.Rules.{rules}
-use mathlib.Core.Bool.{false}
-use mathlib.Core.Path.{◌∙◌}
-use native.Mathlib.Omega.{arith}
 use Rattle.write_envelopes.proofs.envelope.put_all.Given as goal
 
 abbrev pub invariant-loop-edition : goal.invariant-loop-edition

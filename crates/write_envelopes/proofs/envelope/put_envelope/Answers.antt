@@ -1,11 +1,8 @@
 -- `envelope::put_envelope`: the head's part and the inside's part, put back.
 use Prim.Native.Nat.{◌+◌, ◌-◌, ℕ}
 use Rattle.meaning.specs.Kinds.{base_opens}
-use Rattle.write_envelopes.proofs.Envelopes.{envelope_laid, size_least, take_most}
-use Rattle.write_rows.specs.Laying.{laid_length}
-use borrow.Author.Rules.{rules}
+use Rattle.write_envelopes.proofs.Envelopes.{envelope_laid}
 use lib.Dec.{eqb}
-use lib.ListN.{drop, length-take}
 use mathlib.Core.Path.{ap, refl}
 use native.Mathlib.Omega.{arith}
 use Rattle.write_envelopes.proofs.envelope.put_envelope.Goals as goal

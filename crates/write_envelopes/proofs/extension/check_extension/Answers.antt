@@ -1,11 +1,10 @@
 -- `extension::check_extension`: an extension opens at row 0, and the table ends behind its inside.
 use mathlib.Core.Path.{◌∙◌, ap}
 use native.Mathlib.Omega.{arith}
-use borrow.Author.Rules.{rules}
 use Rattle.table.specs.Told.{edition_of}
 use Rattle.write_envelopes.specs.Whole.{checked_of}
 use Rattle.write_envelopes.proofs.Checking.{measured_ended, measured_stuck}
-use Rattle.write_envelopes.proofs.Extensions.{extension_ended, extension_stuck, inside, no_extension, some_row}
+use Rattle.write_envelopes.proofs.Extensions.{extension_ended, extension_stuck, inside, some_row}
 use Rattle.write_envelopes.proofs.extension.check_extension.Goals as goal
 
 pub measure-r-requires : goal.measure-r-requires

@@ -1,7 +1,6 @@
 -- `extension::put_extension`: the envelope is the one that the plan has.
 use mathlib.Core.Path.{◌∙◌}
 use native.Mathlib.Omega.{arith}
-use borrow.Author.Rules.{rules}
 use Rattle.table.specs.Told.{edition_of}
 use Rattle.write_envelopes.proofs.Extensions.{extension_laid, extension_long, planned_row}
 use Rattle.write_envelopes.proofs.extension.put_extension.Goals as goal

@@ -1,15 +1,13 @@
 -- `measure::check`: envelope by envelope, what the sizes says of the rest is the verdict over all; and the lengths are noted.
-use Prim.Native.Nat.{ℕ, ◌+◌, ◌-◌, ◌*◌, ◌≤◌}
+use Prim.Native.Nat.{ℕ}
 use Rattle.meaning.specs.Writing.{fine, whole_plan}
-use Rattle.meaning.specs.Memory.{room_of}
-use Rattle.meaning.specs.Headers.{envelope_most, envelopes_most}
-use Rattle.write_envelopes.proofs.Checking.{check_base, check_extension, check_none, check_stuck, ends_later, ends_small, here, measured_ended, measured_stuck, rest, row_inside}
+use Rattle.meaning.specs.Headers.{envelopes_most}
+use Rattle.write_envelopes.proofs.Checking.{check_base, check_extension, check_stuck, ends_later, here, measured_ended, measured_stuck, row_inside}
 use Rattle.write_envelopes.proofs.Noting.{Noting, checked_bad, noting_ends, noting_on, noting_starts}
 use Rattle.write_envelopes.proofs.Wholes.{whole_edge}
 use Rattle.laws_steps.specs.Rows.{cells_at}
 use Rattle.table.specs.Told.{edition_of}
-use Rattle.write_envelopes.specs.Whole.{Begins, checked_of, insides_of, limit_of, needs as needed, verdict}
-use borrow.Author.Rules.{rules}
+use Rattle.write_envelopes.specs.Whole.{Begins, checked_of, insides_of, needs as needed, verdict}
 use mathlib.Core.List.{List}
 use mathlib.Core.Path.{◌∙◌, ◌≡◌, ap, subst, sym}
 use native.Mathlib.Omega.{arith}

@@ -3,7 +3,6 @@ use Rattle.write_envelopes.proofs.Checking.{end_all, end_more, end_part, over_li
 use Rattle.write_envelopes.specs.Whole.{checked_of, limit_of}
 use mathlib.Core.Path.{◌∙◌, ap, sym}
 use native.Mathlib.Omega.{arith}
-use borrow.Author.Rules.{rules}
 use Rattle.write_envelopes.proofs.measure.ended.Goals as goal
 
 pub returns-then-row-room : goal.returns-then-row-room

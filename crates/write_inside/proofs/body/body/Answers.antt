@@ -1,10 +1,9 @@
 -- `body::body`: behind the stages nothing fits; the envelope ends there or the row ahead stands nowhere.
 use Rattle.table.specs.Told.{edition_of}
-use Rattle.write_inside.proofs.Insides.{body_ends, body_halts, body_stuck}
+use Rattle.write_inside.proofs.Insides.{body_ends, body_halts}
 use Rattle.write_rows.specs.Onward.{advance_as}
 use Rattle.meaning.specs.Editions.{closed, state}
 use Rattle.meaning.specs.Headers.{start}
-use borrow.Author.Rules.{rules}
 use mathlib.Core.Bool.{false}
 use Rattle.write_inside.proofs.body.body.Goals as goal
 

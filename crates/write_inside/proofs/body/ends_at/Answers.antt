@@ -2,7 +2,6 @@
 use Rattle.write_inside.proofs.Insides.{ends_last, ends_open}
 use mathlib.Core.Path.{◌∙◌}
 use native.Mathlib.Omega.{arith}
-use borrow.Author.Rules.{rules}
 use Rattle.write_inside.proofs.body.ends_at.Goals as goal
 
 pub returns-then-room-i : goal.returns-then-room-i

@@ -3,13 +3,12 @@ use Rattle.table.specs.Told.{edition_of}
 use Rattle.write_inside.proofs.Insides.{represented, stuck_on}
 use Rattle.write_inside.proofs.Rooms.{front_date}
 use Rattle.write_rows.specs.Onward.{needed_is, onward_layable, advance_then}
-use Rattle.write_rows.specs.Stages.{at_parameters, AdvanceIs}
+use Rattle.write_rows.specs.Stages.{at_parameters}
 use Rattle.meaning.specs.Headers.{start}
-use mathlib.Core.Bool.{Bool, false}
-use mathlib.Core.Path.{refl, subst, sym}
+use mathlib.Core.Bool.{false}
+use mathlib.Core.Path.{refl}
 use Rattle.meaning.specs.Editions.{state, head_date, outer, parameters}
 use native.Mathlib.Omega.{arith}
-use borrow.Author.Rules.{rules}
 use Rattle.write_inside.proofs.body.front.Goals as goal
 
 pub returns-in_default : goal.returns-in_default

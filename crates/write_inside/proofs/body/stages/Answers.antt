@@ -1,13 +1,10 @@
 -- `body::stages`: the front, then the parameters.
 use Rattle.table.specs.Told.{edition_of}
-use Rattle.write_rows.specs.Onward.{advance_as, advance_then, onward_layable}
+use Rattle.write_rows.specs.Onward.{advance_as, advance_then}
 use Rattle.write_rows.specs.Stages.{at_parameters}
-use Rattle.write_inside.proofs.Insides.{stuck_on}
 use Rattle.meaning.specs.Editions.{closed, state}
 use Rattle.meaning.specs.Headers.{start}
 use mathlib.Core.Bool.{false}
-use native.Mathlib.Omega.{arith}
-use borrow.Author.Rules.{rules}
 use Rattle.write_inside.proofs.body.stages.Goals as goal
 
 pub returns : goal.returns

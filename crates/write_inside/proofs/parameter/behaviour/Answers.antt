@@ -1,15 +1,12 @@
 -- `parameter::behaviour`: its row, and the any-value that it needs.
-use Rattle.meaning.specs.Memory.{room_of}
 use Rattle.write_rows.specs.Onward.{tried_as, needed_is}
 use Rattle.write_rows.specs.Laying.{laid_layable}
 use Rattle.write_inside.proofs.Choosing.{after_first, parameter_row}
 use Rattle.meaning.specs.Editions.{state, parameters, behaviour_value, outer, opens, on◌▸◌▸◌▸◌}
 use Rattle.meaning.specs.Kinds.{behaviour_opens}
 use Rattle.write_inside.proofs.Rooms.{behaviour_first, behaviour_value_lem}
-use borrow.Author.Rules.{rules}
 use mathlib.Core.Bool.{false}
 use mathlib.Core.Path.{refl}
-use Prim.Native.Nat.{◌+◌, ◌≤◌}
 use native.Mathlib.Omega.{arith}
 use Rattle.write_inside.proofs.parameter.behaviour.Goals as goal
 

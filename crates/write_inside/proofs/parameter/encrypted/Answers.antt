@@ -5,7 +5,6 @@ use Rattle.write_inside.proofs.Choosing.{encrypted_as}
 use Rattle.write_rows.specs.Among.{nothing_among}
 use Rattle.write_inside.specs.declared.parameter.Parameter.TheVariants.{Last}
 use mathlib.Core.Path.{ap, refl}
-use borrow.Author.Rules.{rules}
 use Rattle.write_inside.proofs.parameter.encrypted.Goals as goal
 
 pub returns-in-D : goal.returns-in-D

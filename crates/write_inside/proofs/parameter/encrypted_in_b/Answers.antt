@@ -7,7 +7,6 @@ use Rattle.meaning.specs.Editions.{encrypted_texts, outer, opens, on◌▸◌▸
 use Rattle.meaning.specs.Kinds.{encrypted_opens}
 use Rattle.write_inside.proofs.Rooms.{encrypted_first, encrypted_texts_lem}
 use Rattle.write_rows.specs.Stages.{at_parameters}
-use borrow.Author.Rules.{rules}
 use mathlib.Core.Bool.{false}
 use mathlib.Core.Path.{refl}
 use native.Mathlib.Omega.{arith}

@@ -7,7 +7,6 @@ use Rattle.meaning.specs.Kinds.{from_opens}
 use Rattle.write_inside.proofs.Rooms.{agents_begin, names_first, names_shallow}
 use Rattle.write_inside.specs.Parameters.{agents_next, naming_move}
 use lib.Dec.{eqb}
-use borrow.Author.Rules.{rules}
 use native.Mathlib.Omega.{arith}
 use Rattle.write_inside.proofs.parameter.naming.Goals as goal
 

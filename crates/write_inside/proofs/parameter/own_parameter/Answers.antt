@@ -1,5 +1,4 @@
 -- `parameter::own_parameter`: a key, and the value that it needs.
-use Rattle.meaning.specs.Memory.{room_of}
 use Rattle.write_rows.specs.Onward.{tried_as, needed_is}
 use Rattle.write_rows.specs.Laying.{laid_layable}
 use Rattle.write_inside.proofs.Choosing.{after_first, parameter_row}
@@ -7,10 +6,8 @@ use Rattle.meaning.specs.Bytes.{line}
 use Rattle.meaning.specs.Editions.{state, parameters, own_text, outer, text, on◌▸◌▸◌▸◌}
 use Rattle.meaning.specs.Kinds.{own_key}
 use Rattle.write_inside.proofs.Rooms.{own_first, own_text_lem}
-use borrow.Author.Rules.{rules}
 use mathlib.Core.Bool.{false}
 use mathlib.Core.Path.{refl}
-use Prim.Native.Nat.{◌+◌, ◌≤◌}
 use native.Mathlib.Omega.{arith}
 use Rattle.write_inside.proofs.parameter.own_parameter.Goals as goal
 

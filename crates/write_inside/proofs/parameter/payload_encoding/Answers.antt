@@ -4,7 +4,6 @@ use Rattle.meaning.specs.Editions.{parameters, outer, text, on◌▸◌▸◌▸
 use Rattle.meaning.specs.Kinds.{payload_encoding}
 use Rattle.write_inside.proofs.Choosing.{after_single}
 use Rattle.write_inside.proofs.Rooms.{encoding_first}
-use borrow.Author.Rules.{rules}
 use mathlib.Core.Path.{refl}
 use Rattle.write_inside.proofs.parameter.payload_encoding.Goals as goal
 

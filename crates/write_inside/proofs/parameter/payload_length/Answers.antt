@@ -3,7 +3,6 @@ use Rattle.meaning.specs.Editions.{parameters, outer, number, on◌▸◌▸◌�
 use Rattle.meaning.specs.Kinds.{payload_length}
 use Rattle.write_inside.proofs.Choosing.{after_single}
 use Rattle.write_inside.proofs.Rooms.{length_first}
-use borrow.Author.Rules.{rules}
 use mathlib.Core.Path.{refl}
 use Rattle.write_inside.proofs.parameter.payload_length.Goals as goal
 

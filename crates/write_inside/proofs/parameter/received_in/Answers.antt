@@ -4,10 +4,8 @@ use Rattle.laws_steps.specs.Rows.{cells_at}
 use Rattle.table.specs.Told.{edition_of}
 use Rattle.write_inside.proofs.Rooms.{none_represents, pass_receives}
 use Rattle.write_inside.proofs.Choosing.{found_advance, pass_on, way_ahead}
-use Rattle.write_rows.specs.Laying.{laid_layable}
 use Rattle.write_rows.specs.Onward.{advance_then}
 use Rattle.write_rows.specs.Stages.{at_parameters}
-use borrow.Author.Rules.{rules}
 use native.Mathlib.Omega.{arith}
 use Rattle.write_inside.proofs.parameter.received_in.Goals as goal
 

@@ -6,10 +6,8 @@ use Rattle.laws_steps.specs.Rows.{cells_at}
 use Rattle.write_inside.proofs.Represented.{represented_found}
 use Rattle.write_inside.proofs.Rooms.{none_represents}
 use Rattle.write_inside.specs.Parameters.{KindAhead}
-use Rattle.write_rows.specs.Laying.{laid_layable}
 use Rattle.write_rows.specs.Rooms.{standards}
 use Prim.Native.Nat.{ℕ}
-use borrow.Author.Rules.{rules}
 use mathlib.Core.List.{[], ◌∷◌}
 use mathlib.Core.Path.{◌≡◌, refl, subst}
 use native.Mathlib.Omega.{arith}

@@ -5,12 +5,11 @@ use Rattle.meaning.specs.Kinds.{behaviour_opens, comments, encrypted_opens, own_
 use Rattle.table.specs.Told.{edition_of}
 use Rattle.write_inside.proofs.Others.{closes_other, none_other, other_kind}
 use Rattle.write_inside.proofs.Rooms.{behaviour_first, comments_first, encoding_first, length_first, encrypted_is, names_alone, names_first, own_first}
-use Rattle.write_inside.proofs.Choosing.{found_kind, found_none, kind_ahead}
+use Rattle.write_inside.proofs.Choosing.{found_kind, found_none}
 use Rattle.write_inside.specs.Parameters.{encrypted_in, naming_move}
 use mathlib.Core.List.{[], ◌∷◌}
 use mathlib.Core.Path.{◌∙◌, refl, sym}
 use native.Mathlib.Omega.{arith}
-use borrow.Author.Rules.{rules}
 use Rattle.write_inside.proofs.parameters.by_kind.Goals as goal
 
 pub returns-in-22 : goal.returns-in-22

@@ -1,15 +1,9 @@
 -- `parameters::parameters`: parameter by parameter, until the row ahead begins none.
-use Prim.Native.Nat.{◌-◌, ◌≤◌}
-use Rattle.meaning.specs.Memory.{room_of}
 use Rattle.table.specs.Told.{edition_of}
 use Rattle.write_inside.proofs.Choosing.{found_as, parameters_end}
-use Rattle.write_rows.specs.Laying.{laid_length, Layable}
-use Rattle.write_rows.specs.Onward.{laid_from, layable_from, onward_layable, onward_none, onward_stuck, onward_then}
-use Rattle.write_rows.specs.Stages.{at_parameters, Onward}
-use borrow.Author.Rules.{rules}
-use lib.ListN.{length}
-use mathlib.Core.Path.{◌≡◌, refl, ◌∙◌}
-use native.Mathlib.Omega.{arith}
+use Rattle.write_rows.specs.Laying.{laid_length}
+use Rattle.write_rows.specs.Onward.{laid_from, onward_layable, onward_then}
+use mathlib.Core.Path.{◌∙◌}
 use Rattle.write_inside.proofs.parameters.parameters.Goals as goal
 
 pub returns-in-Last : goal.returns-in-Last

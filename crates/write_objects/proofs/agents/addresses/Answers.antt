@@ -4,7 +4,6 @@ use Rattle.write_rows.specs.Onward.{tried_as, unmoved, onward_then}
 use Rattle.write_rows.specs.Laying.{laid_layable}
 use Rattle.write_rows.specs.Optional.{part_off, part_on}
 use Rattle.write_objects.proofs.Rooms.{address_texts_lem, agent_addresses}
-use borrow.Author.Rules.{rules}
 use mathlib.Core.Path.{refl}
 use native.Mathlib.Omega.{arith}
 use Rattle.write_objects.proofs.agents.addresses.Goals as goal

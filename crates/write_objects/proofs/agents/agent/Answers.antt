@@ -6,7 +6,6 @@ use Rattle.write_rows.specs.Laying.{laid_layable}
 use Rattle.write_objects.proofs.Turning.{name_deep, name_on, turn_from, turn_then}
 use Prim.Native.Nat.{◌+◌, ◌-◌}
 use Rattle.write_objects.specs.Turns.{rows_and_levels}
-use borrow.Author.Rules.{rules}
 use native.Mathlib.Omega.{arith}
 use Rattle.write_objects.proofs.agents.agent.Goals as goal
 

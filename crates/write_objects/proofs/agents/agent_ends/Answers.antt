@@ -2,8 +2,7 @@
 use Rattle.meaning.specs.Editions.{state, after_resolvers, agent_ends, go}
 use Rattle.table.specs.Told.{edition_of}
 use Rattle.write_rows.specs.Onward.{advance_as}
-use Rattle.write_objects.proofs.Turning.{agent_done, agent_listed, extra_coded, extras_coded}
-use borrow.Author.Rules.{rules}
+use Rattle.write_objects.proofs.Turning.{agent_done, agent_listed, extras_coded}
 use native.Mathlib.Omega.{arith}
 use Rattle.write_objects.proofs.agents.agent_ends.Goals as goal
 

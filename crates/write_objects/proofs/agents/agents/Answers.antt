@@ -1,17 +1,8 @@
 -- `agents::agents`: turn by turn, until the list of level 1 or the one agent has ended.
-use Prim.Native.Nat.{◌+◌, ◌≤◌}
-use Rattle.meaning.specs.Memory.{room_of}
-use Rattle.meaning.specs.Reading.{level_most}
-use Rattle.table.specs.Told.{edition_of}
-use Rattle.write_rows.specs.Laying.{laid_length, Layable}
-use Rattle.write_rows.specs.Onward.{onward_layable, onward_none, onward_stuck, onward_then}
+use Rattle.write_rows.specs.Laying.{laid_length}
+use Rattle.write_rows.specs.Onward.{onward_layable, onward_then}
 use Rattle.write_objects.proofs.Turning.{turn_as}
-use Rattle.write_rows.specs.Stages.{Onward}
-use Rattle.write_objects.specs.Turns.{agents_at, rows_and_levels}
-use borrow.Author.Rules.{rules}
-use lib.ListN.{length}
-use mathlib.Core.Path.{◌≡◌, refl, ◌∙◌}
-use native.Mathlib.Omega.{arith}
+use mathlib.Core.Path.{◌∙◌}
 use Rattle.write_objects.proofs.agents.agents.Goals as goal
 
 pub returns-in-Done : goal.returns-in-Done

@@ -1,10 +1,8 @@
 -- `agents::list_ends`: the one agent of `from` is missing; a list of level 1 ends; a deeper one ends, and the agent above it.
 use Rattle.table.specs.Told.{edition_of}
-use Rattle.write_rows.specs.Laying.{laid_layable}
 use Rattle.write_objects.proofs.Turning.{list_done, list_up, one_missing, turn_then}
 use Prim.Native.Nat.{◌-◌}
 use Rattle.write_objects.specs.Turns.{rows_and_levels}
-use borrow.Author.Rules.{rules}
 use native.Mathlib.Omega.{arith}
 use Rattle.write_objects.proofs.agents.list_ends.Goals as goal
 

@@ -7,7 +7,6 @@ use Rattle.write_objects.proofs.Rooms.{received_from_lem, received_id_lem, recei
 use mathlib.Core.Bool.{false}
 use mathlib.Core.Path.{ap}
 use native.Mathlib.Omega.{arith}
-use borrow.Author.Rules.{rules}
 use Rattle.write_objects.proofs.received.behind_date.Goals as goal
 
 pub optional-b-requires : goal.optional-b-requires

@@ -1,12 +1,9 @@
 -- `received::received`: by, date, and what is behind them.
 use Rattle.meaning.specs.Editions.{state, parameters, inner, stay, received_begins, received_date, after_date}
-use Rattle.meaning.specs.Memory.{room_of}
 use Rattle.table.specs.Told.{edition_of}
 use Rattle.write_rows.specs.Onward.{tried_as, beyond, needed_lost, needed_on, onward_stuck, onward_then, advance_then}
 use Rattle.write_rows.specs.Laying.{laid_layable}
 use Rattle.write_objects.proofs.Rooms.{received_by_lem, received_date_lem}
-use Prim.Native.Nat.{◌+◌, ◌<◌}
-use borrow.Author.Rules.{rules}
 use mathlib.Core.Bool.{false}
 use native.Mathlib.Omega.{arith}
 use Rattle.write_objects.proofs.received.received.Goals as goal

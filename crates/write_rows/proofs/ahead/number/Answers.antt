@@ -3,9 +3,8 @@ use Rattle.meaning.specs.Editions.{on◌▸◌▸◌▸◌}
 use Rattle.meaning.specs.Editions as editions
 use Rattle.meaning.specs.Kinds.{payload_length}
 use Rattle.meaning.specs.Writing.{valid, write_value}
-use Rattle.write_rows.specs.Laying.{laid_layable, laid_then}
+use Rattle.write_rows.specs.Laying.{laid_then}
 use Rattle.write_rows.specs.Among.{sought_none, sought_not, sought_taken}
-use borrow.Author.Rules.{rules}
 use mathlib.Core.Path.{◌∙◌, refl, sym}
 use native.Mathlib.Omega.{arith}
 use Rattle.write_rows.proofs.ahead.number.Goals as goal

@@ -4,7 +4,6 @@ use Rattle.meaning.specs.Writing.{valid, write_value}
 use Rattle.write_rows.specs.Laying.{laid_layable, laid_none, laid_then}
 use Rattle.write_rows.specs.Among.{sought_none, sought_not, sought_taken}
 use Rattle.write_rows.proofs.Forms.{view_none, view_some}
-use borrow.Author.Rules.{rules}
 use mathlib.Core.Path.{refl}
 use Rattle.write_rows.proofs.ahead.opened.Goals as goal
 

@@ -5,7 +5,6 @@ use Rattle.meaning.specs.Writing.{valid, write_value}
 use Rattle.values.specs.Stages.{rule_of}
 use Rattle.write_rows.specs.Laying.{laid_layable, laid_then}
 use Rattle.write_rows.specs.Among.{sought_none, sought_not, sought_taken}
-use borrow.Author.Rules.{rules}
 use mathlib.Core.Path.{◌∙◌, refl, sym}
 use Rattle.write_rows.proofs.ahead.text.Goals as goal
 

@@ -4,7 +4,6 @@ use Rattle.meaning.specs.Editions.{any_values, text, on◌▸◌▸◌▸◌}
 use Rattle.meaning.specs.Kinds.{any_bytes, any_text}
 use Rattle.write_rows.specs.Among.{sought_away, sought_row, tried_away}
 use Rattle.write_rows.proofs.Forms.{block_taken, view_short}
-use borrow.Author.Rules.{rules}
 use borrow.Author.Tests.{ne_eqb}
 use mathlib.Core.List.{[], ◌∷◌}
 use mathlib.Core.Path.{refl, sym}

@@ -1,7 +1,6 @@
 -- `any::block`: the code, the length in as many bytes as it needs, and the bytes.
-use Rattle.write_rows.specs.Laying.{laid_as, laid_layable, laid_three}
+use Rattle.write_rows.specs.Laying.{laid_as, laid_three}
 use Rattle.write_rows.proofs.Forms.{block_four, block_one, block_two}
-use borrow.Author.Rules.{rules}
 use mathlib.Core.Path.{sym}
 use Rattle.write_rows.proofs.any.block.Goals as goal
 

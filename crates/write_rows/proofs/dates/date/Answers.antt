@@ -1,11 +1,9 @@
 -- `dates::date`: kind and length pick a code; the row ahead is of another level, has no code, or its bytes are or are no date of that code.
 use Rattle.date.specs.Dates.{dates_of}
-use Rattle.write_rows.specs.Laying.{laid_layable, laid_then}
-use Rattle.write_rows.proofs.Forms.{ahead_none, code_small, date_taken, date_unknown, date_wrong}
+use Rattle.write_rows.specs.Laying.{laid_then}
+use Rattle.write_rows.proofs.Forms.{ahead_none, date_taken, date_unknown, date_wrong}
 use Rattle.table.specs.Told.{edition_of}
-use borrow.Author.Rules.{rules}
 use mathlib.Core.Path.{◌∙◌, refl, sym}
-use native.Mathlib.Omega.{arith}
 use Rattle.write_rows.proofs.dates.date.Goals as goal
 
 pub returns-then-code-eq0 : goal.returns-then-code-eq0

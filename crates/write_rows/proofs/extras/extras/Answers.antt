@@ -4,7 +4,6 @@ use Rattle.meaning.specs.Bytes.{line}
 use Rattle.meaning.specs.Editions.{text, stay, on◌▸◌▸◌▸◌}
 use Rattle.write_rows.specs.Among.{sought_not}
 use Rattle.write_rows.proofs.Lists.{extras_end}
-use borrow.Author.Rules.{rules}
 use mathlib.Core.Path.{refl}
 use Rattle.write_rows.proofs.extras.extras.Goals as goal
 

@@ -1,18 +1,14 @@
 -- `extras::some_extras`: the extras from the first to where the code stands, for every room that has them.
 use Prim.Native.Nat.{◌-◌, ◌≤◌}
-use Rattle.meaning.specs.Editions.{Room, State, state, stay, list_ends}
+use Rattle.meaning.specs.Editions.{Room, State, state}
 use Rattle.meaning.specs.Told.{Edition}
 use Rattle.meaning.specs.Memory.{room_of}
-use Rattle.write_rows.specs.Onward.{tried_as, laid_from, layable_from, onward_none, onward_stuck, onward_then}
-use Rattle.write_rows.specs.Laying.{laid_layable, laid_length, Layable}
-use Rattle.write_rows.proofs.Lists.{extras_end, key_on, value_lost, value_on}
+use Rattle.write_rows.specs.Laying.{Layable}
 use Rattle.write_rows.specs.Rooms.{ExtrasIn}
 use Rattle.write_rows.specs.Stages.{Onward}
-use borrow.Author.Rules.{rules}
 use lib.ListN.{length}
 use mathlib.Core.Bool.{Bool}
-use mathlib.Core.Path.{◌≡◌, refl, ◌∙◌}
-use native.Mathlib.Omega.{arith}
+use mathlib.Core.Path.{◌≡◌}
 use Rattle.write_rows.proofs.extras.some_extras.Given as goal
 
 abbrev pub invariant-loop-q : goal.invariant-loop-q

@@ -1,7 +1,6 @@
 -- `lay::copy`: what has no room is not laid, and all is counted.
 use Prim.Native.Nat.{◌+◌}
-use Rattle.write_rows.specs.Laying.{capped_id, capped_past, copied, fitting_most}
-use borrow.Author.Rules.{rules}
+use Rattle.write_rows.specs.Laying.{capped_id, capped_past, copied}
 use lib.ListN.{length}
 use native.Mathlib.Omega.{arith}
 use Rattle.write_rows.proofs.lay.copy.Goals as goal

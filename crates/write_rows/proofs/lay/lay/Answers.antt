@@ -1,10 +1,7 @@
 -- `lay::lay`: byte by byte, the bytes so far are laid.
-use Prim.Native.Nat.{ℕ, ◌-◌, ◌≤◌}
 use Rattle.write_rows.specs.Laying.{lay_on}
-use borrow.Author.Rules.{rules}
-use lib.ListN.{length, take, length-set}
-use lib.Seq.{sets}
-use mathlib.Core.Path.{◌∙◌, ◌≡◌, ap, refl}
+use lib.ListN.{length-set}
+use mathlib.Core.Path.{◌∙◌}
 use native.Mathlib.Omega.{arith}
 use Rattle.write_rows.proofs.lay.lay.Goals as goal
 

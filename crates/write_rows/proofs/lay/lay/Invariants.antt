@@ -1,11 +1,8 @@
 -- `lay::lay`: byte by byte, the bytes so far are laid.
-use Prim.Native.Nat.{ℕ, ◌-◌, ◌≤◌}
-use Rattle.write_rows.specs.Laying.{lay_on}
-use borrow.Author.Rules.{rules}
-use lib.ListN.{length, take, length-set}
+use Prim.Native.Nat.{◌-◌, ◌≤◌}
+use lib.ListN.{length, take}
 use lib.Seq.{sets}
-use mathlib.Core.Path.{◌∙◌, ◌≡◌, ap, refl}
-use native.Mathlib.Omega.{arith}
+use mathlib.Core.Path.{◌≡◌}
 use Rattle.write_rows.proofs.lay.lay.Given as goal
 
 abbrev pub invariant-loop-i : goal.invariant-loop-i

@@ -1,13 +1,11 @@
 -- `representation::representation`: a standard one is ahead; or none is, and what is said of the text holds among all moves.
 use Rattle.meaning.specs.Bytes.{line}
-use Rattle.meaning.specs.Editions.{list_ends, text, on◌▸◌▸◌▸◌}
+use Rattle.meaning.specs.Editions.{text, on◌▸◌▸◌▸◌}
 use Rattle.meaning.specs.Kinds.{own_representation}
 use Rattle.write_rows.specs.Among.{tried_else, taken_first}
-use Rattle.write_rows.specs.Onward.{layable_from, tried_as, tried_from}
+use Rattle.write_rows.specs.Onward.{tried_as, tried_from}
 use Rattle.write_rows.specs.Rooms.{standards}
-use borrow.Author.Rules.{rules}
 use mathlib.Core.List.{[], ◌∷◌}
-use native.Mathlib.Omega.{arith}
 use Rattle.write_rows.proofs.representation.representation.Goals as goal
 
 pub returns-in_default : goal.returns-in_default

@@ -5,7 +5,6 @@ use Rattle.laws_steps.specs.Rows.{cells_at}
 use Rattle.write_rows.specs.Rooms.{standards}
 use Rattle.write_rows.specs.declared.advance.Tried.TheVariants.{Other}
 use Rattle.write_rows.proofs.Forms.{standard_none, standard_other, standard_taken, unpicked, view_length}
-use borrow.Author.Rules.{rules}
 use borrow.Author.Tests.{ne_eqb}
 use mathlib.Core.List.{[]}
 use mathlib.Core.Path.{◌∙◌, refl, sym}

@@ -3,7 +3,6 @@ use Rattle.meaning.specs.Editions.{stay}
 use Rattle.write_rows.specs.Onward.{tried_as, unmoved}
 use Rattle.write_rows.proofs.Lists.{shallow_kind}
 use Rattle.write_rows.specs.Optional.{part_off, part_on}
-use borrow.Author.Rules.{rules}
 use mathlib.Core.Path.{refl}
 use Rattle.write_rows.proofs.texts.optional.Goals as goal
 

@@ -1,17 +1,9 @@
 -- `texts::texts`: the list from its first item to where the code stands, for every room that has such a list.
-use Prim.Native.Nat.{◌-◌, ◌≤◌}
-use Rattle.meaning.specs.Editions.{Room, State, state, list_ends}
-use Rattle.meaning.specs.Told.{Edition}
-use Rattle.meaning.specs.Memory.{room_of}
-use Rattle.write_rows.specs.Onward.{tried_as, laid_from, layable_from, onward_none, onward_then}
-use Rattle.write_rows.specs.Laying.{laid_layable, laid_length, Layable}
+use Rattle.meaning.specs.Editions.{list_ends}
+use Rattle.write_rows.specs.Onward.{tried_as, laid_from, onward_then}
+use Rattle.write_rows.specs.Laying.{laid_layable, laid_length}
 use Rattle.write_rows.proofs.Lists.{item_on, texts_end}
-use Rattle.write_rows.specs.Rooms.{TextsIn}
-use Rattle.write_rows.specs.Stages.{Onward}
-use borrow.Author.Rules.{rules}
-use lib.ListN.{length}
-use mathlib.Core.Bool.{Bool}
-use mathlib.Core.Path.{◌≡◌, refl, ◌∙◌}
+use mathlib.Core.Path.{◌∙◌}
 use native.Mathlib.Omega.{arith}
 use Rattle.write_rows.proofs.texts.texts.Goals as goal
 

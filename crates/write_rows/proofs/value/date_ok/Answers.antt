@@ -2,9 +2,7 @@
 use Rattle.meaning.specs.Bytes.{date_checks}
 use Rattle.date.specs.Dates.{reaching}
 use Rattle.write_rows.proofs.Values.{date_length_lem, date_refused, date_whole}
-use borrow.Author.Rules.{rules}
 use mathlib.Core.Path.{◌∙◌, sym}
-use native.Mathlib.Omega.{arith}
 use Rattle.write_rows.proofs.value.date_ok.Goals as goal
 
 pub returns-then-end-length_of : goal.returns-then-end-length_of

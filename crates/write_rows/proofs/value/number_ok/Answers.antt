@@ -1,7 +1,5 @@
 -- `value::number_ok`: the reader's stage takes all of the bytes, or they are no number.
 use Rattle.write_rows.proofs.Values.{number_refused, number_whole}
-use borrow.Author.Rules.{rules}
-use native.Mathlib.Omega.{arith}
 use Rattle.write_rows.proofs.value.number_ok.Goals as goal
 
 pub returns-in_default : goal.returns-in_default

@@ -1,7 +1,6 @@
 -- `value::text_ok`: no byte is allowed by every rule; the rule's run comes to the end, or there is a byte that it does not allow.
 use Rattle.values.specs.Stages.{rule_of}
 use Rattle.write_rows.proofs.Values.{none_ok, text_run_lem}
-use native.Mathlib.Omega.{arith}
 use Rattle.write_rows.proofs.value.text_ok.Goals as goal
 
 pub returns-then-end-eq0 : goal.returns-then-end-eq0
