@@ -1,5 +1,5 @@
 -- Every call has an answer that its promise allows, for whatever is given and lent, bytes where it lends bytes: of the payload view, the coders and the listing programs' body.
--- (`some_read` and `some_write` are in Premises, `some_piece` in SomePiece; each order's entry has its own beside its `one-..`.)
+-- (`some_read` and `some_write` are in Premises, `some_piece` in SomePiece; each order's entry has its own beside its `one_..`.)
 use Rattle.std.specs.Prelude.{ℕ, ◌-◌, ◌*◌, ◌≤◌, List, ◌≡◌, refl, T, length, take, drop, replicate}
 use Rattle.std.proofs.Common.{sym, arith, lt-ltb, length-drop, take_all}
 use Rattle.meaning.specs.Told.{strict}

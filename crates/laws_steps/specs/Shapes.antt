@@ -37,7 +37,7 @@ pub record Optional (t : Told) (q d : State) (code kind level : ℕ) : Type 0 wh
   pub else : (b : ℕ) → (b ≡ code → ⊥) → (s : List ℕ) → step t q (b ∷ s) ≡ step t d (b ∷ s)
   pub ends : step t q [] ≡ step t d []
 
--- extras up to a 01: with this code, a key and an any_value lead back; the 01 leads to d; other bytes are strange
+-- extras up to a 01: with this code, a key and an any-value lead back; the 01 leads to d; other bytes are strange
 pub record Extras (t : Told) (q any d : State) (code level : ℕ) : Type 0 where
   pub key : Next
   pub out : Next

@@ -1,5 +1,5 @@
 // The body of document 01's listing programs: "reads at most 65,536 bytes from standard input (longer: the one line `too long`), lends 3,072 rows".
-// No contract can speak of what a program reads or writes. Promised are the text of `read_table`, which is the listing, its pieces, which leave
+// Of what a program reads and writes these contracts do not speak. Promised are the text of `read_table`, which is the listing, its pieces, which leave
 // no gap (`listing::next`), how much `print` lends, which inputs are too long, and the line of `too_long`. Of `list` it is proved that it is safe
 // and ends; what is handed to the writer is run and compared. A reader's or a writer's error is handed up as it is, and no other is made.
 #![tactic(auto)]
@@ -34,7 +34,8 @@ pub fn list<R: Read, W: Write>(edition: u32, from: &mut R, to: &mut W) -> io::Re
     Ok(())
 }
 
-// Reads until the buffer is full or the input ends, again where a signal interrupts it. Answers how many bytes were read.
+// Reads until the buffer is full or the input ends, again where a signal interrupts it. Answers how many bytes were read, or the reader's error;
+// after 2^64 reads an error too, as std does.
 fn read_full<R: Read>(from: &mut R, buffer: &mut [u8]) -> io::Result<usize>
     ensures { IfOk result (λ n. n ≤ length buffer.new) }
 {
@@ -50,7 +51,7 @@ fn read_full<R: Read>(from: &mut R, buffer: &mut [u8]) -> io::Result<usize>
             }
         }
     }
-    Ok(n)
+    Err(ErrorKind::Other.into())
 }
 
 // Takes how many bytes were read. Answers whether they are too long.
@@ -67,7 +68,8 @@ pub fn too_long() -> [u8; 9]
     [b't', b'o', b'o', b' ', b'l', b'o', b'n', b'g', b'\n']
 }
 
-// Lists this input. "lends 3,072 rows"; and the words that the reader borrows. Answers what the reader answered, or the writer's error.
+// Lists this input. "lends 3,072 rows"; and the words that the reader borrows. Answers what the reader answered, or the writer's error, which
+// leaves nothing of the caller's changed but the writer.
 pub fn print<W: Write>(edition: u32, input: &[u8], to: &mut W) -> io::Result<Reply>
     ensures { IfOk result (λ answer. PrintPromise edition input.now answer) }
 {
