@@ -1,14 +1,37 @@
 // What the stages of reader and writer answer.
-// "either a value with the place after it, or a refusal": the place and the count of rows so far, or document 01's number and place.
-#[derive(Drop)]
-pub enum Stage {
-    Go(usize, usize),
-    Refused { at: usize, refusal: u32 },
+ghost use Rattle.std.specs.Prelude.{◌≡◌};
+
+use crate::refusals::Refusal;
+
+// "a refusal": document 01's number and place.
+#[derive(Clone, Copy)]
+pub struct Fault {
+    pub refusal: Refusal,
+    pub at: usize,
 }
 
-// A refusal, or the bytes needed.
+// How far a reading has come: the place, and the count of rows so far.
+#[derive(Clone, Copy)]
+pub struct Reached {
+    pub at: usize,
+    pub rows: usize,
+}
+
+// "either a value with the place after it, or a refusal": what a stage of the reader answers, which the stage above takes apart with let .. else.
 #[derive(Drop)]
-pub enum Checked {
-    Bad { answer: u32, place: usize },
-    Needs(usize),
+pub enum Stage {
+    Go(Reached),
+    Refused(Fault),
+}
+
+impl Refusal {
+    // This refusal, at a place.
+    pub fn at(self, at: usize) -> Fault
+        ensures { result ≡ record { refusal = self; at = at } }
+    {
+        Fault {
+            refusal: self,
+            at: at,
+        }
+    }
 }

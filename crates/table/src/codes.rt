@@ -9,14 +9,8 @@ use crate::told::Edition;
 // The byte that ends a list, an agent, a received object, an envelope.
 pub const CLOSING: u8 = 0x01;
 
-// No byte: the value begins where the code would stand.
-pub const NO_CODE: u32 = 256;
-
-// No code either, and no value: such a row cannot stand here.
-pub const NOWHERE: u32 = 257;
-
 // "Extra: code 04 in B, 05 in D."
-pub fn agent_extra(edition: Edition) -> u32
+pub fn agent_extra(edition: Edition) -> u8
     ensures { result ≡ extra_code (edition_of edition) }
 {
     match edition {
@@ -26,11 +20,11 @@ pub fn agent_extra(edition: Edition) -> u32
 }
 
 // "Received object: .. then in D extras": in B it has none.
-pub fn received_extra(edition: Edition) -> u32
+pub fn received_extra(edition: Edition) -> Option<u8>
     ensures { result ≡ received_extra_code (edition_of edition) }
 {
     match edition {
-        Edition::B => NOWHERE,
-        Edition::D => 0x05,
+        Edition::B => None,
+        Edition::D => Some(0x05),
     }
 }

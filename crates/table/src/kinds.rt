@@ -1,58 +1,90 @@
 // Document 01, "The table": what a row's kind says. Nowhere else in the code does a kind stand as a number.
-pub const EXTENSION_OPENS: u32 = 1;
+ghost use Rattle.std.specs.Prelude.{◌≡◌};
+ghost use Rattle.table.specs.Kinds.{number_of, KindOf};
 
-pub const BASE_OPENS: u32 = 2;
+#[derive(Clone, Copy, PartialEq, Eq)]
+pub enum Kind {
+    ExtensionOpens = 1,
+    BaseOpens = 2,
+    StandardRepresentation = 3,
+    OwnRepresentation = 4,
+    DateAbsolute = 5,
+    DateForward = 6,
+    DateBackward = 7,
+    ReceivedBy = 8,
+    ReceivedFrom = 9,
+    ReceivedId = 10,
+    ReceivedVia = 11,
+    ToOpens = 12,
+    FromOpens = 13,
+    ReceiverOpens = 14,
+    AgentName = 15,
+    AddressesOpen = 16,
+    Address = 17,
+    ResolversOpen = 18,
+    ExtraKey = 19,
+    AnyText = 20,
+    AnyBytes = 21,
+    Comments = 22,
+    PayloadLength = 23,
+    PayloadEncoding = 24,
+    EncryptedOpens = 25,
+    EncryptedItem = 26,
+    OwnKey = 27,
+    OwnValue = 28,
+    BehaviourOpens = 29,
+}
 
-pub const STANDARD_REPRESENTATION: u32 = 3;
+// A number that is no kind's.
+#[derive(Clone, Copy)]
+pub struct UnknownKind(pub u32);
 
-pub const OWN_REPRESENTATION: u32 = 4;
+impl Kind {
+    // Answers the kind's number, as it stands in a row.
+    pub fn number(self) -> u32
+        ensures { result ≡ number_of self }
+    {
+        self as u32
+    }
+}
 
-pub const DATE_ABSOLUTE: u32 = 5;
+impl TryFrom<u32> for Kind {
+    type Error = UnknownKind;
 
-pub const DATE_FORWARD: u32 = 6;
+    ghost try_from_gives = { KindOf };
 
-pub const DATE_BACKWARD: u32 = 7;
-
-pub const RECEIVED_BY: u32 = 8;
-
-pub const RECEIVED_FROM: u32 = 9;
-
-pub const RECEIVED_ID: u32 = 10;
-
-pub const RECEIVED_VIA: u32 = 11;
-
-pub const TO_OPENS: u32 = 12;
-
-pub const FROM_OPENS: u32 = 13;
-
-pub const RECEIVER_OPENS: u32 = 14;
-
-pub const AGENT_NAME: u32 = 15;
-
-pub const ADDRESSES_OPEN: u32 = 16;
-
-pub const ADDRESS: u32 = 17;
-
-pub const RESOLVERS_OPEN: u32 = 18;
-
-pub const EXTRA_KEY: u32 = 19;
-
-pub const ANY_TEXT: u32 = 20;
-
-pub const ANY_BYTES: u32 = 21;
-
-pub const COMMENTS: u32 = 22;
-
-pub const PAYLOAD_LENGTH: u32 = 23;
-
-pub const PAYLOAD_ENCODING: u32 = 24;
-
-pub const ENCRYPTED_OPENS: u32 = 25;
-
-pub const ENCRYPTED_ITEM: u32 = 26;
-
-pub const OWN_KEY: u32 = 27;
-
-pub const OWN_VALUE: u32 = 28;
-
-pub const BEHAVIOUR_OPENS: u32 = 29;
+    fn try_from(number: u32) -> Result<Self, UnknownKind> {
+        match number {
+            1 => Ok(Kind::ExtensionOpens),
+            2 => Ok(Kind::BaseOpens),
+            3 => Ok(Kind::StandardRepresentation),
+            4 => Ok(Kind::OwnRepresentation),
+            5 => Ok(Kind::DateAbsolute),
+            6 => Ok(Kind::DateForward),
+            7 => Ok(Kind::DateBackward),
+            8 => Ok(Kind::ReceivedBy),
+            9 => Ok(Kind::ReceivedFrom),
+            10 => Ok(Kind::ReceivedId),
+            11 => Ok(Kind::ReceivedVia),
+            12 => Ok(Kind::ToOpens),
+            13 => Ok(Kind::FromOpens),
+            14 => Ok(Kind::ReceiverOpens),
+            15 => Ok(Kind::AgentName),
+            16 => Ok(Kind::AddressesOpen),
+            17 => Ok(Kind::Address),
+            18 => Ok(Kind::ResolversOpen),
+            19 => Ok(Kind::ExtraKey),
+            20 => Ok(Kind::AnyText),
+            21 => Ok(Kind::AnyBytes),
+            22 => Ok(Kind::Comments),
+            23 => Ok(Kind::PayloadLength),
+            24 => Ok(Kind::PayloadEncoding),
+            25 => Ok(Kind::EncryptedOpens),
+            26 => Ok(Kind::EncryptedItem),
+            27 => Ok(Kind::OwnKey),
+            28 => Ok(Kind::OwnValue),
+            29 => Ok(Kind::BehaviourOpens),
+            _ => Err(UnknownKind(number)),
+        }
+    }
+}

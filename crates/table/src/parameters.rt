@@ -2,11 +2,7 @@
 ghost use Rattle.std.specs.Prelude.{◌≡◌};
 ghost use Rattle.meaning.specs.Codes.{code_of, can_ask};
 
-use crate::kinds::{
-    BEHAVIOUR_OPENS, COMMENTS, DATE_ABSOLUTE, DATE_BACKWARD, DATE_FORWARD, ENCRYPTED_OPENS,
-    FROM_OPENS, OWN_KEY, OWN_REPRESENTATION, PAYLOAD_ENCODING, PAYLOAD_LENGTH, RECEIVED_BY,
-    RECEIVER_OPENS, STANDARD_REPRESENTATION, TO_OPENS,
-};
+use crate::kinds::Kind;
 
 // "20 for the base envelope's own date".
 pub const OWN_DATE: u32 = 0x20;
@@ -19,22 +15,22 @@ pub const NO_PARAMETER: u32 = 0x01;
 pub fn code_of(kind: u32) -> u32
     ensures { result ≡ code_of kind }
 {
-    match kind {
-        OWN_KEY => 0x00,
-        TO_OPENS => 0x02,
-        FROM_OPENS => 0x03,
-        STANDARD_REPRESENTATION => 0x04,
-        OWN_REPRESENTATION => 0x04,
-        COMMENTS => 0x05,
-        PAYLOAD_LENGTH => 0x06,
-        PAYLOAD_ENCODING => 0x07,
-        ENCRYPTED_OPENS => 0x08,
-        RECEIVER_OPENS => 0x09,
-        RECEIVED_BY => 0x0a,
-        BEHAVIOUR_OPENS => 0x0b,
-        DATE_ABSOLUTE => OWN_DATE,
-        DATE_FORWARD => OWN_DATE,
-        DATE_BACKWARD => OWN_DATE,
+    let Ok(known) = Kind::try_from(kind) else {
+        return NO_PARAMETER;
+    };
+    match known {
+        Kind::OwnKey => 0x00,
+        Kind::ToOpens => 0x02,
+        Kind::FromOpens => 0x03,
+        Kind::StandardRepresentation | Kind::OwnRepresentation => 0x04,
+        Kind::Comments => 0x05,
+        Kind::PayloadLength => 0x06,
+        Kind::PayloadEncoding => 0x07,
+        Kind::EncryptedOpens => 0x08,
+        Kind::ReceiverOpens => 0x09,
+        Kind::ReceivedBy => 0x0a,
+        Kind::BehaviourOpens => 0x0b,
+        Kind::DateAbsolute | Kind::DateForward | Kind::DateBackward => OWN_DATE,
         _ => NO_PARAMETER,
     }
 }
@@ -43,11 +39,5 @@ pub fn code_of(kind: u32) -> u32
 pub fn can_ask(code: u32) -> bool
     ensures { result ≡ can_ask code }
 {
-    if code == OWN_DATE {
-        return true;
-    }
-    if code < 0x02 {
-        return false;
-    }
-    code <= 0x0b
+    code == OWN_DATE || (0x02..=0x0b).contains(&code)
 }

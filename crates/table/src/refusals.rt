@@ -1,36 +1,34 @@
 // Document 01, "Answers by number": every answer but 0, by the name that the C header has for it.
-pub const EDITION_UNKNOWN: u32 = 1;
+ghost use Rattle.std.specs.Prelude.{◌≡◌};
+ghost use Rattle.table.specs.Refusals.{answer_of};
 
-pub const INPUT_ENDS: u32 = 2;
+#[derive(Clone, Copy, PartialEq, Eq)]
+pub enum Refusal {
+    EditionUnknown = 1,
+    InputEnds = 2,
+    IdentifierWrong = 3,
+    LengthWrong = 4,
+    EnvelopeLimit = 5,
+    EnvelopeEnds = 6,
+    CodeWrong = 7,
+    TextWrong = 8,
+    DateWrong = 9,
+    NumberWrong = 10,
+    LengthFormWide = 11,
+    AgentLevel = 12,
+    ClosedEarly = 13,
+    RowsShort = 14,
+    TableWrong = 15,
+    OutputShort = 16,
+    ParameterUnknown = 17,
+    FiguresFull = 19,
+}
 
-pub const IDENTIFIER_WRONG: u32 = 3;
-
-pub const LENGTH_WRONG: u32 = 4;
-
-pub const ENVELOPE_LIMIT: u32 = 5;
-
-pub const ENVELOPE_ENDS: u32 = 6;
-
-pub const CODE_WRONG: u32 = 7;
-
-pub const TEXT_WRONG: u32 = 8;
-
-pub const DATE_WRONG: u32 = 9;
-
-pub const NUMBER_WRONG: u32 = 10;
-
-pub const LENGTH_FORM_WIDE: u32 = 11;
-
-pub const AGENT_LEVEL: u32 = 12;
-
-pub const CLOSED_EARLY: u32 = 13;
-
-pub const ROWS_SHORT: u32 = 14;
-
-pub const TABLE_WRONG: u32 = 15;
-
-pub const OUTPUT_SHORT: u32 = 16;
-
-pub const PARAMETER_UNKNOWN: u32 = 17;
-
-pub const FIGURES_FULL: u32 = 19;
+impl Refusal {
+    // Answers the number under which callers are given the refusal.
+    pub fn answer(self) -> u32
+        ensures { result ≡ answer_of self }
+    {
+        self as u32
+    }
+}

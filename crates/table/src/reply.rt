@@ -1,7 +1,8 @@
 // "The reader gives answer, place, row count"; the writer too.
 ghost use Rattle.std.specs.Prelude.{◌≡◌};
-ghost use Rattle.meaning.specs.Memory.{reply};
-ghost use Rattle.table.specs.Reply.{reply_of};
+ghost use Rattle.table.specs.Reply.{reply_of, fault_reply};
+
+use crate::answers::Fault;
 
 #[repr(C)]
 #[derive(Drop)]
@@ -11,13 +12,15 @@ pub struct Reply {
     pub rows: usize,
 }
 
-// Takes a refusal's number and place. Answers them: "Refusals report 0 rows".
-pub fn refused(answer: u32, place: usize) -> Reply
-    ensures { reply_of result ≡ reply answer place 0 }
-{
-    Reply {
-        answer: answer,
-        place: place,
-        rows: 0,
+impl From<Fault> for Reply {
+    ghost from_gives = { λ fault r. reply_of r ≡ fault_reply fault };
+
+    // "Refusals report 0 rows".
+    fn from(fault: Fault) -> Self {
+        Reply {
+            answer: fault.refusal.answer(),
+            place: fault.at,
+            rows: 0,
+        }
     }
 }

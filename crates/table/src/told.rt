@@ -1,7 +1,5 @@
 // "Editions are numbered 1 (B) and 2 (D)."
-ghost use Rattle.std.specs.Prelude.{◌≡◌};
-ghost use Rattle.meaning.specs.Told.{label_of};
-ghost use Rattle.table.specs.Told.{label_is};
+ghost use Rattle.table.specs.Told.{EditionOf};
 
 #[derive(Clone, Copy)]
 pub enum Edition {
@@ -23,20 +21,20 @@ pub struct Told {
     pub strictness: Strictness,
 }
 
-// What an edition's number says.
-#[derive(Drop)]
-pub enum Label {
-    Known(Edition),
-    Unknown,
-}
+// A number that no edition has.
+#[derive(Clone, Copy)]
+pub struct UnknownEdition;
 
-// Takes an edition's number. Answers the edition, or that the number has none.
-pub fn label_of(number: u32) -> Label
-    ensures { label_is result ≡ label_of number }
-{
-    match number {
-        1 => Label::Known(Edition::B),
-        2 => Label::Known(Edition::D),
-        _ => Label::Unknown,
+impl TryFrom<u32> for Edition {
+    type Error = UnknownEdition;
+
+    ghost try_from_gives = { EditionOf };
+
+    fn try_from(number: u32) -> Result<Self, UnknownEdition> {
+        match number {
+            1 => Ok(Edition::B),
+            2 => Ok(Edition::D),
+            _ => Err(UnknownEdition),
+        }
     }
 }
