@@ -8,19 +8,13 @@ ghost use Rattle.table.specs.Told.{told_of};
 ghost use Rattle.values.specs.Stages.{Inside, Valued, Coded};
 ghost use Rattle.values.specs.Blocks.{BlockAt, IsWidth, LengthRead};
 
-use crate::bytes::{four_bytes, one_byte, two_bytes};
+use crate::bytes::{four_bytes, two_bytes};
 use crate::text::Rule;
 use crate::{Value, text};
-use table::kinds::{ANY_BYTES, ANY_TEXT};
-use table::refusals::{CODE_WRONG, ENVELOPE_ENDS, LENGTH_FORM_WIDE};
+use table::answers::Fault;
+use table::kinds::Kind;
+use table::refusals::Refusal;
 use table::told::{Strictness, Told};
-
-// A number of some bytes and the place after it, or too few bytes.
-#[derive(Drop)]
-pub enum Length {
-    Says { value: usize, after: usize },
-    Short,
-}
 
 // An any-value from its code on.
 pub fn take(s: &[u8], end: usize, at: usize, told: Told) -> Value
@@ -28,22 +22,16 @@ pub fn take(s: &[u8], end: usize, at: usize, told: Told) -> Value
     ensures { Coded (told_of told) any_values 7 s.now end at result }
 {
     if end <= at {
-        return Value::Refused {
-            refusal: ENVELOPE_ENDS,
-            at: at,
-        };
+        return Value::Refused(Refusal::EnvelopeEnds.at(at));
     }
     let code = s[at];
     let first = at + 1;
     match code {
-        0x14 => text::take(s, end, first, ANY_TEXT, Rule::Note),
+        0x14 => text::take(s, end, first, Kind::AnyText, Rule::Note),
         0x16 => block(s, end, at, 1, told),
         0x17 => block(s, end, at, 2, told),
         0x19 => block(s, end, at, 4, told),
-        _ => Value::Refused {
-            refusal: CODE_WRONG,
-            at: at,
-        },
+        _ => Value::Refused(Refusal::CodeWrong.at(at)),
     }
 }
 
@@ -87,10 +75,10 @@ fn in_parts(v: Value) -> Value
             length: length,
             after: after,
         },
-        Value::Refused { refusal, at } => Value::Refused {
+        Value::Refused(Fault { refusal, at }) => Value::Refused(Fault {
             refusal: refusal,
             at: at,
-        },
+        }),
     }
 }
 
@@ -100,31 +88,21 @@ fn block(s: &[u8], end: usize, at: usize, width: usize, told: Told) -> Value
     ensures { (w : Width) → bytes_of w ≡ width → Valued s.now end (at + 1) any_bytes 0 (take_block (told_of told) w (end - at) (from s.now (at + 1) end)) result }
 {
     let first = at + 1;
-    let n = length_at(s, end, first, width);
-    let Length::Says { value, after } = n else {
-        return Value::Refused {
-            refusal: ENVELOPE_ENDS,
-            at: end,
-        };
+    let Some(length) = length_at(s, end, first, width) else {
+        return Value::Refused(Refusal::EnvelopeEnds.at(end));
     };
-    if too_wide(width, value, told) {
-        return Value::Refused {
-            refusal: LENGTH_FORM_WIDE,
-            at: at,
-        };
+    if too_wide(width, length, told) {
+        return Value::Refused(Refusal::LengthFormWide.at(at));
     }
-    if end - after < value {
-        return Value::Refused {
-            refusal: ENVELOPE_ENDS,
-            at: end,
-        };
+    let start = first + width;
+    if end - start < length {
+        return Value::Refused(Refusal::EnvelopeEnds.at(end));
     }
-    let behind = after + value;
     Value::Is {
-        kind: ANY_BYTES,
-        start: after,
-        length: value,
-        after: behind,
+        kind: Kind::AnyBytes,
+        start: start,
+        length: length,
+        after: start + length,
     }
 }
 
@@ -150,27 +128,17 @@ fn wider_than_needed(width: usize, n: usize) -> bool
     }
 }
 
-// Takes the place of a length of 1, 2 or 4 bytes, high first. Answers it and the place behind it; or that bytes are missing.
-fn length_at(s: &[u8], end: usize, at: usize, width: usize) -> Length
+// Takes the place of a length of 1, 2 or 4 bytes, high first. Answers the length, or that bytes are missing.
+fn length_at(s: &[u8], end: usize, at: usize, width: usize) -> Option<usize>
     requires { (Inside s.now end at) × (IsWidth width) }
     ensures { LengthRead s.now end at width result }
 {
     if end - at < width {
-        return Length::Short;
+        return None;
     }
-    let after = at + width;
     match width {
-        1 => Length::Says {
-            value: one_byte(s, at),
-            after: after,
-        },
-        2 => Length::Says {
-            value: two_bytes(s, at),
-            after: after,
-        },
-        _ => Length::Says {
-            value: four_bytes(s, at),
-            after: after,
-        },
+        1 => Some(usize::from(s[at])),
+        2 => Some(two_bytes(s, at)),
+        _ => Some(four_bytes(s, at)),
     }
 }
