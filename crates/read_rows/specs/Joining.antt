@@ -1,6 +1,7 @@
 -- How the stages' answers are put together: a refusal goes up, reading goes on from where a stage went to, an equation stands before or behind it.
-use Rattle.std.specs.Prelude.{ℕ, ◌+◌, ◌≤◌, ◌<◌, List, Bool, true, false, ◌≡◌, ltb}
-use Rattle.std.proofs.Common.{ap, ◌∙◌, arith}
+use Rattle.std.specs.Prelude.{ℕ, ◌+◌, ◌≤◌, ◌<◌, List, Bool, true, false, Option, None, Some, ◌≡◌, eqb, ltb}
+use Rattle.std.specs.Option.{option_eq}
+use Rattle.std.proofs.Common.{ap, ◌∙◌, arith, eqb-true, eqb-false}
 use Rattle.meaning.specs.Basics.{pick}
 use Rattle.meaning.specs.Editions.{State, moves}
 use Rattle.meaning.specs.Reading.{look, none, is_closed, strange}
@@ -9,27 +10,31 @@ use Rattle.laws_steps.specs.ReadAt.{foreign, passed_at}
 use Rattle.laws_steps.specs.Shapes.{Extras}
 use Rattle.table.specs.Rows.{u32_most}
 use Rattle.values.specs.Stages.{Inside}
+use Rattle.table.specs.declared.answers.Fault.{Fault}
+use Rattle.table.specs.declared.answers.Reached.{Reached}
 use Rattle.table.specs.declared.answers.Stage.{Stage}
 use Rattle.table.specs.declared.answers.Stage.TheVariants.{Go, Refused}
-use Rattle.read_rows.specs.Stages.{after, Moved, Ran, fault_of}
+use Rattle.table.specs.declared.refusals.Refusal.TheVariants.{CodeWrong, EnvelopeEnds}
+use Rattle.table.specs.Refusals.{answer_of}
+use Rattle.read_rows.specs.Stages.{after, Moved, Ran, found, fault_of}
 
 less_moved : (end least lower : ℕ) (r : Stage) → lower ≤ least → Moved least end r → Moved lower end r
 unfolding Moved
-less_moved end least lower (Go p n) h a = (omega arith, a.1, a.2)
-less_moved end least lower (Refused p refusal) h a = tt
+less_moved end least lower (Go to) h a = (omega arith, a.1, a.2)
+less_moved end least lower (Refused fault) h a = tt
 
 module _ {i : Source} where
   -- a refusal is handed up, whatever the state and the memory
-  pub handed : {least lower : ℕ} {o : Filling} {q d : State} {m k : List ℕ} {r : Stage} {refusal p : ℕ} → r ≡ Refused p refusal → Ran i least o r q m → Ran i lower o r d k
+  pub handed : {least lower : ℕ} {o : Filling} {q d : State} {m k : List ℕ} {r : Stage} {fault : Fault} → r ≡ Refused fault → Ran i least o r q m → Ran i lower o r d k
   unfolding after Moved
   handed h a = record { goes = a.goes ∙ rw h; moved = rw h tt }
 
   -- from where a stage went to, reading goes on
-  pub went : {least : ℕ} {o : Filling} {q : State} {m : List ℕ} {r : Stage} {p n : ℕ} → r ≡ Go p n → Ran i least o r q m → o ≡ run_at i q p n m
+  pub went : {least : ℕ} {o : Filling} {q : State} {m : List ℕ} {r : Stage} {to : Reached} → r ≡ Go to → Ran i least o r q m → o ≡ run_at i q to.at to.rows m
   unfolding after
   went h a = a.goes ∙ rw h
 
-  pub moved_to : {least : ℕ} {o : Filling} {q : State} {m : List ℕ} {r : Stage} {p n : ℕ} → r ≡ Go p n → Ran i least o r q m → (least ≤ p) × (p ≤ i.end) × (n ≤ p)
+  pub moved_to : {least : ℕ} {o : Filling} {q : State} {m : List ℕ} {r : Stage} {to : Reached} → r ≡ Go to → Ran i least o r q m → (least ≤ to.at) × (to.at ≤ i.end) × (to.rows ≤ to.at)
   unfolding Moved
   moved_to h a = rw h at a.moved
 
@@ -42,11 +47,11 @@ module _ {i : Source} where
   arrives h a = rw h at a
 
   -- a stage's own step
-  pub going : {least : ℕ} {o : Filling} {q : State} {m : List ℕ} {p n : ℕ} → o ≡ run_at i q p n m → least ≤ p → p ≤ i.end → n ≤ p → Ran i least o (Go p n) q m
+  pub going : {least : ℕ} {o : Filling} {q : State} {m : List ℕ} {to : Reached} → o ≡ run_at i q to.at to.rows m → least ≤ to.at → to.at ≤ i.end → to.rows ≤ to.at → Ran i least o (Go to) q m
   unfolding after Moved
   going h a b c = record { goes = h; moved = (a, b, c) }
 
-  pub refusing : {least : ℕ} {o : Filling} {q : State} {m : List ℕ} {refusal p : ℕ} → o ≡ stopped refusal p → Ran i least o (Refused p refusal) q m
+  pub refusing : {least : ℕ} {o : Filling} {q : State} {m : List ℕ} {fault : Fault} → o ≡ stopped (answer_of fault.refusal) fault.at → Ran i least o (Refused fault) q m
   unfolding after Moved
   refusing h = record { goes = h; moved = tt }
 
@@ -59,7 +64,7 @@ module _ {s : List ℕ} {end at n : ℕ} (h : Ready s end at n) where
 
 -- the 01 where an extra could stand
 pub no_extras : (i : Source) (at n : ℕ) (m : List ℕ) (b : ℕ) → Peeked i.bytes i.end at b → b ≡ 1 → n ≤ at → {q any d : State} {code level : ℕ} → Extras i.told q any d code level
-    → Ran i at (run_at i q at n m) (Go (at + 1) n) d m
+    → Ran i at (run_at i q at n m) (Go (record { at = at + 1; rows = n })) d m
 no_extras i at n m b a h few {q} e =
     let k : at < i.end = a.inside (omega arith) in
     arrives e.leads (going (passed_at i at n m b a 1 h (omega arith) q e.out e.stop) (omega arith) (omega arith) (omega arith))
@@ -69,6 +74,15 @@ pub foreign_byte : (i : Source) (at n : ℕ) (m : List ℕ) (b : ℕ) → Peeked
     → look b (moves i.told.edition q.room) ≡ none → is_closed q.room ≡ false → strange q.room ≡ 7 → Ran i least (run_at i q at n m) r d k
 foreign_byte i at n m b a {least} q {d} {k} h y c o = rw h (by (ltb b 256) (foreign i at n m b a q y c ∙ ap (λ (x : ℕ). pick (ltb b 256) (stopped x at) (stopped 6 at)) o))
   where
-    by : (z : Bool) → run_at i q at n m ≡ pick z (stopped 7 at) (stopped 6 at) → Ran i least (run_at i q at n m) (pick z (Refused at 7) (Refused at 6)) d k
+    by : (z : Bool) → run_at i q at n m ≡ pick z (stopped 7 at) (stopped 6 at) → Ran i least (run_at i q at n m) (pick z (Refused (record { refusal = CodeWrong; at = at })) (Refused (record { refusal = EnvelopeEnds; at = at }))) d k
     by true e = refusing e
     by false e = refusing e
+
+-- what a test of a look says: the byte is this code, or another is there or none
+pub found_is : (b : Option ℕ) (code : ℕ) {z : Bool} → z ≡ option_eq eqb b (Some code) → z ≡ true → found b ≡ code
+found_is None code h q = absurd (cc)
+found_is (Some b) code {z} h q = let k : eqb b code ≡ true = cc in eqb-true b code k
+
+pub not_found : (b : Option ℕ) (code : ℕ) {z : Bool} → code < 256 → z ≡ option_eq eqb b (Some code) → z ≡ false → found b ≡ code → ⊥
+not_found None code l h q k = omega arith
+not_found (Some b) code l h q k = let n : eqb b code ≡ false = cc in eqb-false b code n k
