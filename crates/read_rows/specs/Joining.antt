@@ -1,10 +1,11 @@
 -- How the stages' answers are put together: a refusal goes up, reading goes on from where a stage went to, an equation stands before or behind it.
-use Rattle.std.specs.Prelude.{ℕ, ◌+◌, ◌≤◌, ◌<◌, List, Bool, true, false, Option, None, Some, ◌≡◌, eqb, ltb}
+use Rattle.std.specs.Prelude.{ℕ, ◌+◌, ◌≤◌, ◌<◌, List, Bool, true, false, Option, None, Some, ◌≡◌, refl, eqb, ltb, not}
 use Rattle.std.specs.Option.{option_eq}
-use Rattle.std.proofs.Common.{ap, ◌∙◌, arith, eqb-true, eqb-false}
+use Rattle.std.proofs.Common.{ap, ◌∙◌, arith, eqb-true}
+use Rattle.std.proofs.lemmas.Bool.{eqb-false}
 use Rattle.meaning.specs.Basics.{pick}
-use Rattle.meaning.specs.Editions.{State, moves}
-use Rattle.meaning.specs.Reading.{look, none, is_closed, strange}
+use Rattle.meaning.specs.Editions.{State, Next, go, moves, closing, pass◌▸◌}
+use Rattle.meaning.specs.Reading.{look, none, hit, is_closed, strange}
 use Rattle.laws_steps.specs.Pouring.{Filling, stopped, Source, run_at, Ready, Peeked}
 use Rattle.laws_steps.specs.ReadAt.{foreign, passed_at}
 use Rattle.laws_steps.specs.Shapes.{Extras}
@@ -62,12 +63,17 @@ module _ {s : List ℕ} {end at n : ℕ} (h : Ready s end at n) where
   pub row_fits : (n ≤ u32_most) × (at ≤ u32_most) × (0 ≤ u32_most)
   row_fits = (omega (arith, h.small, h.before, h.few), omega (arith, h.small, h.before), omega arith)
 
+-- the 01 that leads out of a state's room
+pub closes : (i : Source) (q : State) (here : Reached) (m : List ℕ) (b : ℕ) → Peeked i.bytes i.end here.at b → b ≡ 1 → {least : ℕ} {o : Filling} {d : State} {out : Next} {to : Reached} → look 1 (moves i.told.edition q.room) ≡ hit (pass closing ▸ out) → go out q ≡ d
+    → to.at ≡ here.at + 1 → to.rows ≡ here.rows → o ≡ run_at i q here.at here.rows m → least ≤ here.at → here.rows ≤ here.at → Ran i least o (Go to) d m
+closes i q here m b a h {out = out} stop leads x y same low few =
+    let k : here.at < i.end = a.inside (omega arith) in
+    arrives leads (going (same ∙ passed_at i here.at here.rows m b a 1 h (omega arith) q out stop ∙ rw (x, y) refl) (omega arith) (omega arith) (omega arith))
+
 -- the 01 where an extra could stand
-pub no_extras : (i : Source) (at n : ℕ) (m : List ℕ) (b : ℕ) → Peeked i.bytes i.end at b → b ≡ 1 → n ≤ at → {q any d : State} {code level : ℕ} → Extras i.told q any d code level
-    → Ran i at (run_at i q at n m) (Go (record { at = at + 1; rows = n })) d m
-no_extras i at n m b a h few {q} e =
-    let k : at < i.end = a.inside (omega arith) in
-    arrives e.leads (going (passed_at i at n m b a 1 h (omega arith) q e.out e.stop) (omega arith) (omega arith) (omega arith))
+pub no_extras : (i : Source) (here : Reached) (m : List ℕ) (b : ℕ) → Peeked i.bytes i.end here.at b → b ≡ 1 → here.rows ≤ here.at → (q : State) {any d : State} {code level : ℕ} {to : Reached} → Extras i.told q any d code level
+    → to.at ≡ here.at + 1 → to.rows ≡ here.rows → Ran i here.at (run_at i q here.at here.rows m) (Go to) d m
+no_extras i here m b a h few q e x y = closes i q here m b a h e.stop e.leads x y refl (omega arith) few
 
 -- a byte that the room does not take
 pub foreign_byte : (i : Source) (at n : ℕ) (m : List ℕ) (b : ℕ) → Peeked i.bytes i.end at b → {least : ℕ} (q : State) {d : State} {k : List ℕ} {r : Stage} → r ≡ fault_of b at
@@ -86,3 +92,18 @@ found_is (Some b) code {z} h q = let k : eqb b code ≡ true = cc in eqb-true b 
 pub not_found : (b : Option ℕ) (code : ℕ) {z : Bool} → code < 256 → z ≡ option_eq eqb b (Some code) → z ≡ false → found b ≡ code → ⊥
 not_found None code l h q k = omega arith
 not_found (Some b) code l h q k = let n : eqb b code ≡ false = cc in eqb-false b code n k
+
+not_true : (z : Bool) → not z ≡ true → z ≡ false
+not_true true h = absurd (cc)
+not_true false h = refl
+
+not_false : (z : Bool) → not z ≡ false → z ≡ true
+not_false true h = refl
+not_false false h = absurd (cc)
+
+-- .. and what a test for another says
+pub same_found : (b : Option ℕ) (code : ℕ) {z : Bool} → z ≡ not (option_eq eqb b (Some code)) → z ≡ false → found b ≡ code
+same_found b code h q = found_is b code refl (not_false _ (cc))
+
+pub other_found : (b : Option ℕ) (code : ℕ) {z : Bool} → code < 256 → z ≡ not (option_eq eqb b (Some code)) → z ≡ true → found b ≡ code → ⊥
+other_found b code l h q = not_found b code l refl (not_true _ (cc))

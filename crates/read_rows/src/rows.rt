@@ -122,7 +122,9 @@ fn keep(value: Value, rows: &mut [u32], n: usize, level: u32) -> Stage
 // Puts the row, of this kind and level, that the code at a place opens. Answers the place behind the code and one row more.
 pub fn open(rows: &mut [u32], from: Reached, kind: Kind, level: u32) -> Reached
     requires { (from.at ≤ u32_most) × (from.rows ≤ u32_most) }
-    ensures { (result ≡ record { at = from.at + 1; rows = from.rows + 1 }) × (rows.new ≡ put rows.old from.rows (number_of kind) level from.at 0) }
+    ensures at { result.at ≡ from.at + 1 }
+    ensures rows { result.rows ≡ from.rows + 1 }
+    ensures put { rows.new ≡ put rows.old from.rows (number_of kind) level from.at 0 }
 {
     put_row(rows, from.rows, kind, level, from.at, 0);
     Reached {

@@ -22,7 +22,8 @@ impl Reached {
     // Behind the byte at this place, which has no row of its own.
     pub fn passed(self) -> Reached
         requires { self.at ≤ u32_most }
-        ensures { result ≡ record { at = self.at + 1; rows = self.rows } }
+        ensures at { result.at ≡ self.at + 1 }
+        ensures rows { result.rows ≡ self.rows }
     {
         Reached {
             at: self.at + 1,
