@@ -47,14 +47,7 @@ pub fn number(s: &[u8], end: usize, from: Reached, rows: &mut [u32]) -> Stage
 }
 
 // An any-value, whose row has this level.
-pub fn any(
-    s: &[u8],
-    end: usize,
-    from: Reached,
-    rows: &mut [u32],
-    level: u32,
-    told: Told,
-) -> Stage
+pub fn any(s: &[u8], end: usize, from: Reached, rows: &mut [u32], level: u32, told: Told) -> Stage
     requires { Ready s.now end from.at from.rows }
     ensures { (q d : State) → Shaped (told_of told) q d level 7 any_values → StateRead (told_of told) s.now end q from.at from.rows rows.old result d rows.new }
 {
@@ -81,14 +74,7 @@ pub fn representation(s: &[u8], end: usize, from: Reached, rows: &mut [u32]) -> 
 }
 
 // A date, whose row has this level.
-pub fn date(
-    s: &[u8],
-    end: usize,
-    from: Reached,
-    rows: &mut [u32],
-    level: u32,
-    told: Told,
-) -> Stage
+pub fn date(s: &[u8], end: usize, from: Reached, rows: &mut [u32], level: u32, told: Told) -> Stage
     requires { Ready s.now end from.at from.rows }
     ensures { (q d : State) → Shaped (told_of told) q d level 9 (dates_of (edition_of told.edition)) →
         StateRead (told_of told) s.now end q from.at from.rows rows.old result d rows.new }

@@ -38,14 +38,7 @@ pub fn optional(
 }
 
 // Lines of one kind and level, and the 01 behind them: "In a list of texts, 01 where an item would begin ends the list."
-pub fn texts(
-    s: &[u8],
-    end: usize,
-    from: Reached,
-    rows: &mut [u32],
-    kind: Kind,
-    level: u32,
-) -> Stage
+pub fn texts(s: &[u8], end: usize, from: Reached, rows: &mut [u32], kind: Kind, level: u32) -> Stage
     requires { Ready s.now end from.at from.rows }
     ensures { (t : meaning.Told) (q d : State) → Texts t q d (number_of kind) level → StateRead t s.now end q from.at from.rows rows.old result d rows.new }
 {
@@ -93,14 +86,7 @@ pub fn extras(
 }
 
 // An extra, after its code: "key text; any-value".
-fn extra(
-    s: &[u8],
-    end: usize,
-    from: Reached,
-    rows: &mut [u32],
-    level: u32,
-    told: Told,
-) -> Stage
+fn extra(s: &[u8], end: usize, from: Reached, rows: &mut [u32], level: u32, told: Told) -> Stage
     requires { Ready s.now end from.at from.rows }
     ensures { (q d : State) → Shaped (told_of told) q d level 7 any_values → TextRead (told_of told) s.now end extra_key line level q from.at from.rows rows.old result d rows.new }
 {
