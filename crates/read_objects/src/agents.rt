@@ -103,13 +103,7 @@ fn read_agent(
 }
 
 // After an agent's 02: its name, and its addresses where it has them.
-fn name_and_addresses(
-    s: &[u8],
-    end: usize,
-    from: Reached,
-    rows: &mut [u32],
-    level: u32,
-) -> Stage
+fn name_and_addresses(s: &[u8], end: usize, from: Reached, rows: &mut [u32], level: u32) -> Stage
     requires { Ready s.now end from.at from.rows }
     ensures { (t : meaning.Told) (single : Bool) →
         TextRead t s.now end agent_name line level (state after_name level single) from.at from.rows rows.old result (state after_addresses level single) rows.new }

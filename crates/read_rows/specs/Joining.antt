@@ -4,9 +4,10 @@ use Rattle.std.specs.Option.{option_eq}
 use Rattle.std.proofs.Common.{ap, ◌∙◌, arith, eqb-true}
 use Rattle.std.proofs.lemmas.Bool.{eqb-false}
 use Rattle.meaning.specs.Basics.{pick}
+use Rattle.meaning.specs.Told.{Told}
 use Rattle.meaning.specs.Editions.{State, Next, go, moves, closing, pass◌▸◌}
 use Rattle.meaning.specs.Reading.{look, none, hit, is_closed, strange}
-use Rattle.laws_steps.specs.Pouring.{Filling, stopped, Source, run_at, Ready, Peeked}
+use Rattle.laws_steps.specs.Pouring.{Filling, stopped, Source, source, run_at, Ready, ready_to, Peeked}
 use Rattle.laws_steps.specs.ReadAt.{foreign, passed_at}
 use Rattle.laws_steps.specs.Shapes.{Extras}
 use Rattle.table.specs.Rows.{u32_most}
@@ -43,6 +44,10 @@ module _ {i : Source} where
   pub begun : {least lower : ℕ} {o b : Filling} {r : Stage} {q : State} {m : List ℕ} → lower ≤ least → o ≡ b → Ran i least b r q m → Ran i lower o r q m
   begun {least} {lower} {r = r} h d a = record { goes = d ∙ a.goes; moved = less_moved i.end least lower r h a.moved }
 
+  -- a stage behind a stage
+  pub onward : {least : ℕ} {o : Filling} {r next : Stage} {q d : State} {m k : List ℕ} {to : Reached} → r ≡ Go to → Ran i least o r q m → Ran i to.at (run_at i q to.at to.rows m) next d k → Ran i least o next d k
+  onward h a b = begun (moved_to h a).0 (went h a) b
+
   -- an equation behind a stage
   pub arrives : {least : ℕ} {o : Filling} {r : Stage} {q d : State} {m : List ℕ} → q ≡ d → Ran i least o r q m → Ran i least o r d m
   arrives h a = rw h at a
@@ -62,6 +67,10 @@ module _ {s : List ℕ} {end at n : ℕ} (h : Ready s end at n) where
 
   pub row_fits : (n ≤ u32_most) × (at ≤ u32_most) × (0 ≤ u32_most)
   row_fits = (omega (arith, h.small, h.before, h.few), omega (arith, h.small, h.before), omega arith)
+
+-- where a stage went to, another may begin
+pub ready_on : {t : Told} {s : List ℕ} {end at n least : ℕ} {o : Filling} {r : Stage} {q : State} {m : List ℕ} {to : Reached} → Ready s end at n → r ≡ Go to → Ran (source t s end) least o r q m → Ready s end to.at to.rows
+ready_on h w a = ready_to h (moved_to w a)
 
 -- the 01 that leads out of a state's room
 pub closes : (i : Source) (q : State) (here : Reached) (m : List ℕ) (b : ℕ) → Peeked i.bytes i.end here.at b → b ≡ 1 → {least : ℕ} {o : Filling} {d : State} {out : Next} {to : Reached} → look 1 (moves i.told.edition q.room) ≡ hit (pass closing ▸ out) → go out q ≡ d
