@@ -2,11 +2,10 @@
 // Each function answers the place behind what it read with the rows then, or the first refusal.
 ghost use Rattle.std.specs.Prelude.{◌≡◌, true, false, ◌<◌};
 ghost use Rattle.meaning.specs.Bytes.{line};
-ghost use Rattle.meaning.specs.Kinds.{own_key, from_opens, behaviour_opens, encrypted_opens};
+ghost use Rattle.meaning.specs.Kinds.{own_key, from_opens, behaviour_opens};
 ghost use Rattle.meaning.specs.Told as meaning;
-ghost use Rattle.meaning.specs.Editions.{state, parameters, own_text, agent_list, one_agent, received_begins, behaviour_value, encrypted_texts, closed};
+ghost use Rattle.meaning.specs.Editions.{state, parameters, own_text, agent_list, one_agent, received_begins, behaviour_value, closed};
 ghost use Rattle.laws_steps.specs.Pouring.{Ready, Peeked};
-ghost use Rattle.laws_steps.specs.Shapes.{NoCode};
 ghost use Rattle.table.specs.Kinds.{number_of};
 ghost use Rattle.table.specs.Told.{told_of};
 ghost use Rattle.read_rows.specs.Stages.{StateRead, TextRead};
@@ -24,13 +23,7 @@ use table::told::{Edition, Told};
 use values::text::Rule;
 
 // All parameters, and the 01 that closes the envelope.
-pub fn read_parameters(
-    s: &[u8],
-    end: usize,
-    from: Reached,
-    rows: &mut [u32],
-    told: Told,
-) -> Stage
+pub fn read_parameters(s: &[u8], end: usize, from: Reached, rows: &mut [u32], told: Told) -> Stage
     requires { Ready s.now end from.at from.rows }
     ensures { StateRead (told_of told) s.now end (state parameters 0 false) from.at from.rows rows.old result (state closed 0 false) rows.new }
 {
@@ -70,11 +63,20 @@ fn read_parameter(
         0x04 => rows::representation(s, end, from.passed(), rows),
         0x05 => rows::text(s, end, from.passed(), rows, Kind::Comments, Rule::Note, 0),
         0x06 => rows::number(s, end, from.passed(), rows),
-        0x07 => rows::text(s, end, from.passed(), rows, Kind::PayloadEncoding, Rule::Line, 0),
+        0x07 => rows::text(
+            s,
+            end,
+            from.passed(),
+            rows,
+            Kind::PayloadEncoding,
+            Rule::Line,
+            0,
+        ),
+        0x08 => open_encrypted(s, end, from, rows, told),
         0x09 => open_list(s, end, from, rows, Kind::ReceiverOpens, told),
         0x0a => received_object(s, end, from.passed(), rows, told),
         0x0b => open_behaviour(s, end, from, rows, told),
-        _ => encrypted_in_b(s, end, from, rows, code, told),
+        _ => Stage::Refused(Refusal::CodeWrong.at(from.at)),
     }
 }
 
@@ -100,14 +102,7 @@ fn own_parameter(s: &[u8], end: usize, from: Reached, rows: &mut [u32]) -> Stage
 
 // "02 `to`, agent list"; "09 intended receiver, agent list", from the code on. The opening row has this kind.
 // The 01 of an empty list is looked for before anything is called.
-fn open_list(
-    s: &[u8],
-    end: usize,
-    from: Reached,
-    rows: &mut [u32],
-    kind: Kind,
-    told: Told,
-) -> Stage
+fn open_list(s: &[u8], end: usize, from: Reached, rows: &mut [u32], kind: Kind, told: Told) -> Stage
     requires { (Ready s.now end from.at from.rows) × (from.at < end) }
     ensures { OpenedRead (told_of told) s.now end (number_of kind) (state agent_list 1 false) from.at from.rows rows.old result (state parameters 0 false) rows.new }
 {
@@ -136,29 +131,14 @@ fn open_behaviour(s: &[u8], end: usize, from: Reached, rows: &mut [u32], told: T
     rows::behaviour(s, end, opened, rows, told)
 }
 
-// "08 encrypted .. (B only)", from the code on; any other code is refused, and 08 too in D.
-fn encrypted_in_b(
-    s: &[u8],
-    end: usize,
-    from: Reached,
-    rows: &mut [u32],
-    code: u8,
-    told: Told,
-) -> Stage
-    requires { (Ready s.now end from.at from.rows) × (Peeked s.now end from.at code) × (NoCode code) }
+// "08 encrypted, texts then 01 (B only)", from the code on; in D the code is refused.
+fn open_encrypted(s: &[u8], end: usize, from: Reached, rows: &mut [u32], told: Told) -> Stage
+    requires { (Ready s.now end from.at from.rows) × (Peeked s.now end from.at 8) }
     ensures { ParameterRead (told_of told) s.now end from.at from.rows rows.old result rows.new }
 {
-    match (told.edition, code) {
-        (Edition::B, 0x08) => open_encrypted(s, end, from, rows),
-        _ => Stage::Refused(Refusal::CodeWrong.at(from.at)),
-    }
-}
-
-// "08 encrypted, texts then 01", from the code on.
-fn open_encrypted(s: &[u8], end: usize, from: Reached, rows: &mut [u32]) -> Stage
-    requires { (Ready s.now end from.at from.rows) × (from.at < end) }
-    ensures { (t : meaning.Told) → OpenedRead t s.now end encrypted_opens (state encrypted_texts 0 false) from.at from.rows rows.old result (state parameters 0 false) rows.new }
-{
+    let Edition::B = told.edition else {
+        return Stage::Refused(Refusal::CodeWrong.at(from.at));
+    };
     let opened = rows::open(rows, from, Kind::EncryptedOpens, 0);
     texts::texts(s, end, opened, rows, Kind::EncryptedItem, 0)
 }
