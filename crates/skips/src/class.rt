@@ -51,24 +51,24 @@ const CLASSES: [u16; 30] = [
     0x0800, // transport behaviour
 ];
 
-// All classes, for a pass to lay down once.
-pub fn all_classes() -> [u16; 30]
-    ensures { ClassesAre result }
-{
-    CLASSES
+// The classes of all kinds, for a pass to lay down once.
+pub struct Classes {
+    numbers: [u16; 30],
+    pub ghost are: { ClassesAre numbers },
 }
 
-// Takes the classes, lent so that they are laid down once, and a kind. Answers its class.
-pub fn class_of(classes: &[u16; 30], kind: u32) -> u32
-    requires { (kind ≤ kind_most) × ClassesAre classes.now }
-    ensures { result ≡ class_of kind }
-{
-    let k = kind as usize;
-    wide(classes[k])
-}
+impl Classes {
+    // Answers all classes.
+    pub fn new() -> Self {
+        Classes { numbers: CLASSES }
+    }
 
-fn wide(class: u16) -> u32
-    ensures { result ≡ class }
-{
-    class as u32
+    // Takes a kind's number. Answers its class.
+    pub fn of(&self, kind: u32) -> u32
+        requires { kind ≤ kind_most }
+        ensures { result ≡ class_of kind }
+    {
+        let k = kind as usize;
+        u32::from(self.numbers[k])
+    }
 }
