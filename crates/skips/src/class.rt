@@ -3,16 +3,18 @@
 ghost use Rattle.std.specs.Prelude.{◌≡◌, ◌≤◌};
 ghost use Rattle.laws_tables.specs.Neighbours.{kind_most};
 ghost use Rattle.skips.specs.Classes.{class_of, ClassesAre};
+ghost use Rattle.skips.specs.Ways.{WayIs};
 
-// All classes below this one have no rows when the pass comes to them.
-pub const HOLDS_DEEPER: u32 = 0x1000;
-
-pub const IS_AGENT: u32 = 0x2000;
-
-// An address, an item of an encrypted list, a value behind its key.
-pub const FOLLOWS: u32 = 0x3000;
-
-pub const IS_ENVELOPE: u32 = 0x4000;
+// How a row's own rows are found, where a pass comes to it from behind: it has none then; all deeper rows are its own; it is an agent's; it follows
+// another itself, as an address, an item of an encrypted list or a value behind its key does; or it is an envelope's own.
+#[derive(Clone, Copy)]
+pub enum Way {
+    Alone,
+    Deeper,
+    Agent,
+    Follows,
+    Envelope,
+}
 
 // The bits of a word are below this one.
 pub const BITS: u32 = 0x1000;
@@ -71,4 +73,23 @@ impl Classes {
         let k = kind as usize;
         u32::from(self.numbers[k])
     }
+}
+
+// Takes a class. Answers how the rows of its kinds are found. By tests in this order: most rows need one.
+pub fn way_of(class: u32) -> Way
+    ensures { WayIs class result }
+{
+    if class < 0x1000 {
+        return Way::Alone;
+    }
+    if class < 0x2000 {
+        return Way::Deeper;
+    }
+    if class < 0x3000 {
+        return Way::Agent;
+    }
+    if class < 0x4000 {
+        return Way::Follows;
+    }
+    Way::Envelope
 }
