@@ -261,14 +261,6 @@ back_begins {m} {n} {rows} {end} f =
       seen = sym no_word ∙ ap (λ (k : ℕ). word_of (ranks_for m end k)) (sym none);
     }
 
-pub turned_on : {m : List ℕ} {n end next word : ℕ} {rows : List ℕ} {t : Option Laid} {laid : Laid} → t ≡ Some laid → Turned m n end next word rows t → LaidBack m n end rows laid.row laid.word × (laid.row < next)
-unfolding Turned
-turned_on q h = rw q at h
-
-pub turned_out : {m : List ℕ} {n end next word : ℕ} {rows : List ℕ} {t : Option Laid} → t ≡ None → Turned m n end next word rows t → InsideLaid m n end rows (next - 1) (word % 4096)
-unfolding Turned
-turned_out q h = rw q at h
-
 -- memory stays as long as it was
 pub from_long : {m : List ℕ} {n : ℕ} {rows : List ℕ} {end : ℕ} → LaidFrom m n rows end → length rows ≡ length m
 from_long {m} {n} {rows} {end} f = stays_long m rows n (n - end) f.is

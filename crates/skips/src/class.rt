@@ -54,6 +54,7 @@ const CLASSES: [u16; 30] = [
 ];
 
 // The classes of all kinds, for a pass to lay down once.
+#[derive(Drop)]
 pub struct Classes {
     numbers: [u16; 30],
     pub ghost are: { ClassesAre numbers },
