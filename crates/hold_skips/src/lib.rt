@@ -23,7 +23,7 @@ pub struct Held {
 
 // Takes all rows. Answers the lowest whose skip number is wrong, if any is.
 pub fn first_wrong(rows: &[u32]) -> Option<usize>
-    ensures { skips_held rows.now ≡ held_as (room_of rows.now) result }
+    ensures { skips_held rows.now ≡ held_as result }
 {
     let n = room(rows.len());
     if all_right(rows, n) {
@@ -59,18 +59,16 @@ fn hold_row(rows: &[u32], n: usize, next: usize, end: usize, classes: &Classes) 
 {
     let i = next - 1;
     let kind = kind_at(rows, i);
-    if is_known(kind) {
-        return match way_of(classes.of(kind)) {
-            Way::Alone => hold_as(rows, i, next, end),
-            Way::Deeper => hold_as(rows, i, deeper_end(rows, n, i), end),
-            Way::Agent => {
-                hold_as(rows, i, above_end(rows, n, i, Kind::AgentName.number()), end)
-            }
-            Way::Follows => hold_run(rows, i, kind, end),
-            Way::Envelope => hold_envelope(rows, i, end),
-        };
+    if !is_known(kind) {
+        return None;
     }
-    None
+    match way_of(classes.of(kind)) {
+        Way::Alone => hold_as(rows, i, next, end),
+        Way::Deeper => hold_as(rows, i, deeper_end(rows, n, i), end),
+        Way::Agent => hold_as(rows, i, above_end(rows, n, i, Kind::AgentName.number()), end),
+        Way::Follows => hold_run(rows, i, kind, end),
+        Way::Envelope => hold_envelope(rows, i, end),
+    }
 }
 
 // Whether a row's kind is one of document 01's.
@@ -127,21 +125,29 @@ fn hold_run(rows: &[u32], last: usize, kind: u32, end: usize) -> Option<Held>
 fn opens_run(first: u32, kind: u32) -> bool
     ensures { result ≡ leads first kind }
 {
-    let opens = |opener: Kind| first == opener.number();
-    match Kind::try_from(kind) {
-        Ok(Kind::Address) => opens(Kind::AddressesOpen),
-        Ok(Kind::EncryptedItem) => opens(Kind::EncryptedOpens),
-        Ok(Kind::OwnValue) => opens(Kind::OwnKey),
-        _ => opens(Kind::ExtraKey) || opens(Kind::BehaviourOpens),
+    if kind == Kind::Address.number() {
+        return first == Kind::AddressesOpen.number();
     }
+    if kind == Kind::EncryptedItem.number() {
+        return first == Kind::EncryptedOpens.number();
+    }
+    if kind == Kind::OwnValue.number() {
+        return first == Kind::OwnKey.number();
+    }
+    first == Kind::ExtraKey.number() || first == Kind::BehaviourOpens.number()
 }
 
 // Takes n rows, some skip number of which is wrong. Answers the lowest: the right ones are found row by row, since no hop can be trusted.
 fn lowest_wrong(rows: &[u32], n: usize) -> Option<usize>
     requires { n ≤ room_of rows.now }
-    ensures { held_at rows.now n 0 ≡ held_as n result }
+    ensures { held_at rows.now n 0 ≡ held_as result }
 {
-    (0..n).find(|i| skip_at(rows, *i) != walked_end(rows, n, *i))
+    for i in 0..n {
+        if skip_at(rows, i) != walked_end(rows, n, i) {
+            return Some(i);
+        }
+    }
+    None
 }
 
 // Takes row i of n. Answers the row behind all that belongs to it, row by row.
@@ -151,6 +157,10 @@ fn walked_end(rows: &[u32], n: usize, i: usize) -> usize
 {
     let owner = owner_of(kind_at(rows, i));
     let at = level_at(rows, i);
-    let is_left = |j: &usize| !is_owned(owner, at, kind_at(rows, *j), level_at(rows, *j));
-    (i + 1..n).find(is_left).unwrap_or(n)
+    for j in i + 1..n {
+        if !is_owned(owner, at, kind_at(rows, j), level_at(rows, j)) {
+            return j;
+        }
+    }
+    n
 }
