@@ -83,9 +83,5 @@ fn lines(answer: u32, count: usize, rows: &[u32]) -> usize
     if answer != 0 {
         return 0;
     }
-    let most = room(rows.len());
-    if count <= most {
-        return count;
-    }
-    most
+    count.min(room(rows.len()))
 }

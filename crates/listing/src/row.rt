@@ -1,5 +1,5 @@
 // "per row kind, level, start, length", skip, "viewed bytes in lower-case hex, or `-` if none": a row's numbers are one piece, its view one or more.
-ghost use Rattle.std.specs.Prelude.{◌≡◌, [], ◌∷◌, ◌++◌, ◌+◌, ◌-◌, ◌*◌, ◌≤◌, ◌<◌, min, length};
+ghost use Rattle.std.specs.Prelude.{◌≡◌, [], ◌∷◌, ◌++◌, ◌+◌, ◌-◌, ◌*◌, ◌≤◌, ◌<◌, length};
 ghost use Rattle.meaning.specs.Memory.{row_width, room_of};
 ghost use Rattle.meaning.specs.Listing.{hex_of};
 ghost use Rattle.listing.specs.Text.{row_of, view_of};
@@ -39,10 +39,8 @@ fn numbers(row: &[u32], out: &mut [u8]) -> usize
     ensures { Wrote out.old out.new 0 (fields_of row.now) result }
 {
     let mut end: usize = 0;
-    let mut j: usize = 0;
-    while j < row.len() {
-        end = row_field(out, end, row[j]);
-        j += 1;
+    for number in row {
+        end = row_field(out, end, *number);
     }
     end
 }
@@ -61,20 +59,9 @@ fn view_line(row: &[u32], bytes: &[u8], gone: usize, line: usize, out: &mut [u8]
     ensures { ViewPiece (view_of row.now bytes.now) gone line out.old out.new result }
 {
     let there = bytes.len();
-    let start = least(row[2], there);
-    let end = start + least(row[3], there - start);
+    let start = there.min(row[2] as usize);
+    let end = start + (there - start).min(row[3] as usize);
     view_piece(&bytes[start..end], gone, line, out)
-}
-
-// The smaller of a row's number and a place.
-fn least(number: u32, most: usize) -> usize
-    ensures { result ≡ min number most }
-{
-    let n = number as usize;
-    if n <= most {
-        return n;
-    }
-    most
 }
 
 // A view from a byte of it on: the rest with its line's end, or as much as `out` holds.

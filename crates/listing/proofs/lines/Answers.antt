@@ -9,10 +9,6 @@ pub returns-then-answer-ne0 : goal.returns-then-answer-ne0
 unfolding lines_of
 returns-then-answer-ne0 c = rw (ne_eqb c.args.answer 0 c.if-answer-ne0.true) refl
 
-pub returns-then-count-most : goal.returns-then-count-most
-unfolding lines_of
-returns-then-count-most c = rw (eq-eqb c.args.answer 0 c.if-answer-ne0.false) (omega (arith, c.room-most.ensures))
-
 pub returns : goal.returns
 unfolding lines_of
-returns c = rw (eq-eqb c.args.answer 0 c.if-answer-ne0.false) (omega (arith, c.room-most.ensures))
+returns c = rw (eq-eqb c.args.answer 0 c.if-answer-ne0.false) (omega (arith, c.room.ensures, c.min.ensures))
