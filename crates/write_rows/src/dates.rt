@@ -8,6 +8,7 @@ ghost use Rattle.write_rows.specs.Stages.{StageRequires, TriedIs};
 
 use crate::lay::{copy, put};
 use crate::value::date_ok;
+use date::Form;
 use table::kinds::Kind;
 use table::rows::look_ahead;
 use table::told::Edition;
@@ -57,7 +58,11 @@ pub fn date(
     let designated = bytes.len() == 10;
     let code = date_code(kind, designated, edition)?;
     let absolute = r.kind == Kind::DateAbsolute.number();
-    if date_ok(bytes, absolute, designated) {
+    let form = Form {
+        absolute,
+        designated,
+    };
+    if date_ok(bytes, form) {
         let p = put(output, at, code);
         return Some(copy(bytes, output, p));
     }

@@ -8,6 +8,7 @@ use Rattle.write_rows.specs.Onward.{tried_as}
 use Rattle.write_rows.specs.Rooms.{NotAmong}
 use Rattle.write_rows.proofs.Forms.{ahead_none, date_of_none, date_taken, date_unknown, date_wrong}
 use mathlib.Core.Path.{◌∙◌, refl, sym}
+use native.Mathlib.Omega.{arith}
 use Rattle.write_rows.proofs.dates.date.Goals as goal
 
 pub returns-in_err-r : goal.returns-in_err-r
@@ -22,7 +23,11 @@ returns-in_err-code c n =
     (refl, ahead_none (dates_of (edition_of c.args.edition) n) c.args.level c.in_ok-r.ensures (λ q. date_unknown _ n (edition_of c.args.edition) _ (rw (← c.in-Ok.ensures) c.in_err-code.ensures)))
 
 pub returns-then-date_ok : goal.returns-then-date_ok
-returns-then-date_ok c n = let e = c.number.ensures in let o = c.date_ok.ensures in let z = c.in_ok-code in let s = c.type_inv in ?
+returns-then-date_ok c n =
+    let ok = rw (c.number.ensures) at (sym c.date_ok.ensures ∙ c.if-date_ok.true) in
+    date_taken (edition_of c.args.edition) c.args.level n _ c.in_ok-r.ensures c.if-r-level.false (rw (← c.in-Ok.ensures) c.in_ok-code.ensures) (omega arith) ok (laid_then c.put-p.ensures c.requires.layable.small c.copy.ensures)
 
 pub returns : goal.returns
-returns c n = let e = c.number.ensures in let o = c.date_ok.ensures in ?
+returns c n =
+    let wrong = rw (c.number.ensures) at (sym c.date_ok.ensures ∙ c.if-date_ok.false) in
+    (refl, ahead_none (dates_of (edition_of c.args.edition) n) c.args.level c.in_ok-r.ensures (λ q. date_wrong _ n (edition_of c.args.edition) c.in_ok-r.r.kind wrong))

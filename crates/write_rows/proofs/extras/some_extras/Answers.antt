@@ -3,7 +3,11 @@ use Rattle.meaning.specs.Editions.{stay, list_ends}
 use Rattle.write_rows.specs.Onward.{tried_as, advance_as, laid_from, onward_stuck, onward_then}
 use Rattle.write_rows.specs.Laying.{laid_layable, laid_length}
 use Rattle.write_rows.proofs.Lists.{extras_end, key_on, value_lost, value_on}
-use mathlib.Core.Path.{◌∙◌, sym}
+use Rattle.write_rows.specs.declared.advance.Onto.{Onto}
+use Rattle.write_rows.specs.declared.advance.Misfit.{Misfit}
+use Rattle.std.specs.Prelude.{Result, Err, ◌+◌}
+use Rattle.std.proofs.lemmas.Grind.{common_steps}
+use mathlib.Core.Path.{◌≡◌, ◌∙◌}
 use native.Mathlib.Omega.{arith}
 use Rattle.write_rows.proofs.extras.some_extras.Goals as goal
 
@@ -23,8 +27,8 @@ returns-in_err-p c edition room single st₁ t =
     let small = c.requires.layable.small in
     let key = key_on edition _ _ t (c.in-Some.ensures (stay t.value)) in
     let other = tried_as _ _ _ _ _ _ _ _ c.in_err-p.ensures.ok_part (c.any-v.ensures (stay room)) in
-    let z = c.in_err-p.ensures in let y = c.from_residual.ensures in let w = c.in_err-p.field-0 in
-    advance_as _ _ _ _ _ _ _ _ _ ? (onward_stuck small (onward_then small (c.loop-q.invariant.3 edition room single st₁ t) key) (value_lost edition _ _ t other.1))
+    let lost : ◌≡◌ {A = Result Onto Misfit} (Err (record { row = c.loop-q.i + 1 })) c.from_residual.result = grind (arith, common_steps) in
+    advance_as _ _ _ _ _ _ _ _ _ lost (onward_stuck small (onward_then small (c.loop-q.invariant.3 edition room single st₁ t) key) (value_lost edition _ _ t other.1))
 
 pub loop-q-smaller : goal.loop-q-smaller
 loop-q-smaller c = omega (arith, (c.in-Some.ensures list_ends).ahead.within)
