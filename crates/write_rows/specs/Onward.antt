@@ -1,5 +1,5 @@
 -- Stages one behind the other, and the steps that they are made of: a row by its own move, a closing, an optional part left out.
-use Rattle.std.specs.Prelude.{ℕ, ◌+◌, ◌≤◌, ◌<◌, List, [], ◌∷◌, ◌++◌, Bool, true, false, ◌≡◌, refl, eqb, length, Option, None, Some, Result, Ok, Err}
+use Rattle.std.specs.Prelude.{ℕ, ◌+◌, ◌≤◌, ◌<◌, List, [], ◌∷◌, ◌++◌, Bool, true, false, ◌≡◌, refl, eqb, length, Option, None, Some, Result, Ok, Err, IsErr, IsErrAnd}
 use Rattle.std.proofs.Common.{append_assoc, ap, sym, ◌∙◌, subst, arith}
 use Rattle.meaning.specs.Basics.{pick}
 use Rattle.meaning.specs.Told.{Edition}
@@ -62,6 +62,19 @@ advance_as edition pool rows i st st₁ before at after q s = subst (λ (x : Res
 
 pub tried_as : (l : List Move) (level : ℕ) (pool rows : List ℕ) (i : ℕ) (before : List ℕ) (at : ℕ) (after : List ℕ) {r r₁ : Option ℕ} → r ≡ r₁ → TriedIs l level pool rows i before at r after → TriedIs l level pool rows i before at r₁ after
 tried_as l level pool rows i before at after q t = subst (λ (x : Option ℕ). TriedIs l level pool rows i before at x after) q t
+
+-- a row that fits nowhere, handed up
+pub handed_up : {T : Type 0} (r : Result T Misfit) {misfit : Misfit} → IsErr r × IsErrAnd r (λ e. e ≡ misfit) → Err misfit ≡ r
+handed_up (Ok x) q = absurd q.1
+handed_up (Err e) q = ap Err (sym q.1)
+
+-- what had to stand in row i stood there
+pub needed_beyond : (i : ℕ) (t : Option ℕ) {r : Result Onto Misfit} → r ≡ after_needed i t → Beyond i r
+needed_beyond i t q = subst (Beyond i) (sym q) (by t)
+  where
+    by : (t : Option ℕ) → Beyond i (after_needed i t)
+    by (Some p) = omega arith
+    by None = tt
 
 -- memory that a row which stands elsewhere left as it was
 pub laid_from : {before after : List ℕ} {at : ℕ} {bytes m : List ℕ} {p : ℕ} → after ≡ before → Laid after at bytes m p → Laid before at bytes m p

@@ -1,6 +1,5 @@
 -- `dates::date`: kind and length pick a code; the row ahead is of another level, has no code, or its bytes are or are no date of that code.
 use Rattle.date.specs.Dates.{dates_of}
-use Rattle.meaning.specs.Editions.{Next}
 use Rattle.table.specs.Rows.{no_row_lem}
 use Rattle.table.specs.Told.{edition_of}
 use Rattle.write_rows.specs.Laying.{laid_then}
