@@ -1,6 +1,6 @@
 -- A row taken off the lent numbers, and the row ahead as a cell of the table.
-use Rattle.std.specs.Prelude.{ℕ, ◌+◌, ◌-◌, ◌*◌, ◌≤◌, ◌<◌, List, [], ◌∷◌, Bool, true, false, ◌⊎◌, ◌≡◌, refl, length, get_or, take, drop}
-use Rattle.std.proofs.Common.{inl, inr, ap, sym, ◌∙◌, subst, arith, le-leb}
+use Rattle.std.specs.Prelude.{ℕ, ◌+◌, ◌-◌, ◌*◌, ◌≤◌, ◌<◌, List, [], ◌∷◌, Bool, true, false, Option, None, Some, ◌≡◌, refl, length, get_or, take, drop}
+use Rattle.std.proofs.Common.{ap, sym, ◌∙◌, subst, arith, le-leb}
 use Rattle.std.proofs.lemmas.Bool.{lt-leb}
 use Rattle.meaning.specs.Basics.{pick}
 use Rattle.meaning.specs.Reading as meaning
@@ -26,9 +26,6 @@ pub record RowIs (rows : List ℕ) (i : ℕ) (r : Row) : Type 0 where
 abbrev pub row_with : ℕ → ℕ → List ℕ → meaning.Row
 row_with kind level v = record { kind = kind; level = level; view = v }
 
-abbrev pub no_row : Ahead
-no_row = record { kind = 0; level = 0; start = 0; end = 0 }
-
 -- the bytes that a row views
 abbrev pub viewed : List ℕ → Ahead → List ℕ
 viewed pool r = take (r.end - r.start) (drop r.start pool)
@@ -46,19 +43,21 @@ pub record RowAhead (pool rows : List ℕ) (i : ℕ) (row : meaning.Row) : Type 
   pub within : i < room_of rows
   pub cells : cells_at pool rows i ≡ cell row ∷ cells_at pool rows (i + 1)
 
-pub record AheadIs (pool rows : List ℕ) (i : ℕ) (r : Ahead) : Type 0 where
+-- r is the row ahead, and its bytes are all in the pool
+pub record IsAhead (pool rows : List ℕ) (i : ℕ) (r : Ahead) : Type 0 where
   pub ordered : r.start ≤ r.end
   pub inside : r.end ≤ length pool
   pub short : r.end ≤ r.start + u32_most
-  pub is : RowAhead pool rows i (row_ahead pool r) ⊎ ((r.kind ≡ 0) × NoRow (cells_at pool rows i))
+  pub row : RowAhead pool rows i (row_ahead pool r)
+
+abbrev pub AheadIs : List ℕ → List ℕ → ℕ → Option Ahead → Type 0
+AheadIs pool rows i None = NoRow (cells_at pool rows i)
+AheadIs pool rows i (Some r) = IsAhead pool rows i r
 
 -- Laws of the row ahead
 
-nothing_is : (pool rows : List ℕ) (i : ℕ) {r : Ahead} → r ≡ no_row → NoRow (cells_at pool rows i) → AheadIs pool rows i r
-nothing_is pool rows i q n = subst (AheadIs pool rows i) (sym q) (record { ordered = omega arith; inside = omega arith; short = omega arith; is = inr (refl, n) })
-
-pub ahead_end : (pool rows : List ℕ) (i : ℕ) {r : Ahead} → room_of rows ≤ i → r ≡ no_row → AheadIs pool rows i r
-ahead_end pool rows i h q = nothing_is pool rows i q (subst NoRow (sym (cells_last pool rows i h)) (at (whole_rows rows)))
+pub ahead_end : (pool rows : List ℕ) (i : ℕ) → room_of rows ≤ i → NoRow (cells_at pool rows i)
+ahead_end pool rows i h = subst NoRow (sym (cells_last pool rows i h)) (at (whole_rows rows))
   where
     at : (b : Bool) → NoRow (pick b [] (broken ∷ []))
     at true = tt
@@ -68,27 +67,19 @@ module _ (pool rows : List ℕ) {i : ℕ} {n : Row} (h : i < room_of rows) (w : 
   row_cell_lem : row_cell pool rows i ≡ cell_of pool n.kind n.level n.start n.length
   row_cell_lem = rw (w.kind_is, w.level_is, w.start_is, w.length_is) refl
 
-  pub ahead_out : {r : Ahead} → length pool < n.start + n.length → r ≡ no_row → AheadIs pool rows i r
-  ahead_out k q =
+  pub ahead_out : length pool < n.start + n.length → NoRow (cells_at pool rows i)
+  ahead_out k =
       let c : cells_at pool rows i ≡ broken ∷ cells_at pool rows (i + 1)
       = cells_next pool rows i h ∙ ap (λ (x : Cell). x ∷ cells_at pool rows (i + 1)) (row_cell_lem ∙ rw (lt-leb (n.start + n.length) (length pool) k) refl) in
-      nothing_is pool rows i q (subst NoRow (sym c) tt)
+      subst NoRow (sym c) tt
 
-  pub ahead_in : n.start + n.length ≤ length pool → AheadIs pool rows i (record { kind = n.kind; level = n.level; start = n.start; end = n.start + n.length })
+  pub ahead_in : n.start + n.length ≤ length pool → IsAhead pool rows i (record { kind = n.kind; level = n.level; start = n.start; end = n.start + n.length })
   ahead_in k =
       let q : n.length ≡ n.start + n.length - n.start = omega arith in
       let c = cells_next pool rows i h
       ∙ ap (λ (x : Cell). x ∷ cells_at pool rows (i + 1))
       (row_cell_lem ∙ (rw (le-leb (n.start + n.length) (length pool) k) refl) ∙ ap (λ (x : ℕ). cell (row_with n.kind n.level (take x (drop n.start pool)))) q) in
-      record { ordered = omega arith; inside = k; short = omega (arith, w.length_most); is = inl (record { within = h; cells = c }) }
-
--- a row of a kind that is not 0 is there
-pub ahead_row : {pool rows : List ℕ} {i : ℕ} {r : Ahead} → AheadIs pool rows i r → (r.kind ≡ 0 → ⊥) → RowAhead pool rows i (row_ahead pool r)
-ahead_row {pool} {rows} {i} {r} a h = at a.is
-  where
-    at : RowAhead pool rows i (row_ahead pool r) ⊎ ((r.kind ≡ 0) × NoRow (cells_at pool rows i)) → RowAhead pool rows i (row_ahead pool r)
-    at (inl x) = x
-    at (inr x) = absurd (h x.0)
+      record { ordered = omega arith; inside = k; short = omega (arith, w.length_most); row = record { within = h; cells = c } }
 
 pub no_row_lem : (P : List Cell → Type 0) → P [] → ((cs : List Cell) → P (broken ∷ cs)) → (cs : List Cell) → NoRow cs → P cs
 no_row_lem P end out [] x = end
@@ -96,9 +87,6 @@ no_row_lem P end out (broken ∷ cs) x = out cs
 no_row_lem P end out (cell row ∷ cs) x = absurd x
 
 -- what holds of the row ahead, and where there is none, holds of the cells
-pub ahead_cells : (P : List Cell → Type 0) {pool rows : List ℕ} {i : ℕ} {r : Ahead} → AheadIs pool rows i r → P [] → ((cs : List Cell) → P (broken ∷ cs)) → P (cell (row_ahead pool r) ∷ cells_at pool rows (i + 1)) → P (cells_at pool rows i)
-ahead_cells P {pool} {rows} {i} {r} a end out row = at a.is
-  where
-    at : RowAhead pool rows i (row_ahead pool r) ⊎ ((r.kind ≡ 0) × NoRow (cells_at pool rows i)) → P (cells_at pool rows i)
-    at (inl x) = subst P (sym x.cells) row
-    at (inr x) = no_row_lem P end out (cells_at pool rows i) x.1
+pub ahead_cells : (P : List Cell → Type 0) (pool rows : List ℕ) (i : ℕ) (o : Option Ahead) → AheadIs pool rows i o → P [] → ((cs : List Cell) → P (broken ∷ cs)) → ((r : Ahead) → IsAhead pool rows i r → P (cell (row_ahead pool r) ∷ cells_at pool rows (i + 1))) → P (cells_at pool rows i)
+ahead_cells P pool rows i None a end out row = no_row_lem P end out (cells_at pool rows i) a
+ahead_cells P pool rows i (Some r) a end out row = subst P (sym a.row.cells) (row r a)

@@ -4,7 +4,7 @@ ghost use Rattle.meaning.specs.Memory.{row_width, room_of};
 ghost use Rattle.laws_steps.specs.Rows.{put};
 ghost use Rattle.laws_steps.specs.Hopping.{given_at};
 ghost use Rattle.table.specs.Kinds.{number_of};
-ghost use Rattle.table.specs.Rows.{u32_most, RowIs, no_row, AheadIs};
+ghost use Rattle.table.specs.Rows.{u32_most, RowIs, AheadIs};
 
 use crate::kinds::Kind;
 
@@ -110,35 +110,23 @@ fn number_at(rows: &[u32], k: usize) -> usize
     rows[k] as usize
 }
 
-// The row at i. Where there is none, or its bytes are not all in the pool: a row of kind 0, which no room takes.
-pub fn look_ahead(rows: &[u32], pool: &[u8], i: usize) -> Ahead
+// The row at i, if there is one and its bytes are all in the pool.
+pub fn look_ahead(rows: &[u32], pool: &[u8], i: usize) -> Option<Ahead>
     requires { i ≤ room_of rows.now }
     ensures { AheadIs pool.now rows.now i result }
 {
     if room(rows.len()) <= i {
-        return nothing();
+        return None;
     }
     let r = row_at(rows, i);
     let end = r.start + r.length;
     if pool.len() < end {
-        return nothing();
+        return None;
     }
-    Ahead {
+    Some(Ahead {
         kind: r.kind,
         level: r.level,
         start: r.start,
         end: end,
-    }
-}
-
-// No row: of a kind that no row has, with no bytes.
-pub fn nothing() -> Ahead
-    ensures { result ≡ no_row }
-{
-    Ahead {
-        kind: 0,
-        level: 0,
-        start: 0,
-        end: 0,
-    }
+    })
 }

@@ -2,10 +2,10 @@
 use Prim.Native.Nat.{ℕ, ◌≤◌}
 use mathlib.Core.List.{List, [], ◌∷◌}
 use mathlib.Core.Bool.{false}
-use mathlib.Core.Path.{◌≡◌, ap, sym, ◌∙◌, subst}
-use native.Mathlib.Omega.{arith}
+use mathlib.Core.Path.{◌≡◌, sym, subst}
+use Rattle.std.specs.Prelude.{None, Some}
 use Rattle.table.specs.Codes.{received_extra_code}
-use Rattle.meaning.specs.Editions.{state, after_via, no_code}
+use Rattle.meaning.specs.Editions.{state, after_via}
 use Rattle.meaning.specs.Told.{Edition, B, D}
 use Rattle.meaning.specs.Memory.{room_of}
 use Rattle.write_rows.specs.Laying.{Laid}
@@ -16,13 +16,10 @@ use Rattle.write_rows.specs.Among.{nothing_among}
 use Rattle.write_rows.specs.Onward.{close_on}
 use Rattle.write_objects.proofs.Rooms.{received_ends, received_extras_lem}
 
-pub extras_when : {edition : Edition} → edition ≡ D → {code : ℕ} → code ≡ received_extra_code edition → ExtrasIn edition after_via 1 false code at_parameters
-extras_when q c = rw (c, q) received_extras_lem
+pub extras_when : (edition : Edition) {code : ℕ} → Some code ≡ received_extra_code edition → ExtrasIn edition after_via 1 false code at_parameters
+extras_when D {code} q = let z : code ≡ 5 = cc in subst (λ (k : ℕ). ExtrasIn D after_via 1 false k at_parameters) (sym z) received_extras_lem
+extras_when B q = absurd cc
 
-pub extra_small : {edition : Edition} → edition ≡ D → {code : ℕ} → code ≡ received_extra_code edition → code ≤ no_code
-extra_small q c = let z = c ∙ ap received_extra_code q in omega arith
-
-pub received_closes : (edition : Edition) (pool rows : List ℕ) {i : ℕ} {before : List ℕ} {at : ℕ} {after : List ℕ} {p : ℕ} → edition ≡ B → i ≤ room_of rows → Laid before at (1 ∷ []) after p → Onward edition pool rows i (state after_via 1 false) i at_parameters before at after p
-received_closes edition pool rows {i} {before} {at} {after} {p} q h l =
-    subst (λ (e : Edition). Onward e pool rows i (state after_via 1 false) i at_parameters before at after p) (sym q)
-    (close_on B pool rows (state after_via 1 false) received_ends.0 (nothing_among 1 (cells_at pool rows i)) received_ends.1 h l)
+pub received_closes : (edition : Edition) (pool rows : List ℕ) {i : ℕ} {before : List ℕ} {at : ℕ} {after : List ℕ} {p : ℕ} → None ≡ received_extra_code edition → i ≤ room_of rows → Laid before at (1 ∷ []) after p → Onward edition pool rows i (state after_via 1 false) i at_parameters before at after p
+received_closes D pool rows q h l = absurd cc
+received_closes B pool rows {i} q h l = close_on B pool rows (state after_via 1 false) received_ends.0 (nothing_among 1 (cells_at pool rows i)) received_ends.1 h l

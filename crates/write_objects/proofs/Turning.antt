@@ -11,7 +11,7 @@ use borrow.Author.Tests.{ne_eqb, lt-ltb, le-ltb}
 use Rattle.meaning.specs.Basics.{pick}
 use Rattle.meaning.specs.Editions.{State, state, parameters, agent_list, one_agent, after_name, after_resolvers, stay, list_ends, agent_ends, closing, Move, go, pass◌▸◌, extra_code}
 use Rattle.meaning.specs.Reading.{none, hit, too_deep, level_most}
-use Rattle.meaning.specs.Told.{Edition, B, D}
+use Rattle.meaning.specs.Told.{Edition}
 use Rattle.meaning.specs.Memory.{room_of}
 use Rattle.meaning.specs.Headers.{envelope_most}
 use Rattle.write_rows.specs.Laying.{Laid}
@@ -21,7 +21,9 @@ use Rattle.write_rows.specs.Rooms.{NotAmong, Closes, ExtrasIn}
 use Rattle.write_rows.specs.Stages.{body_at, RowTaken, Onward}
 use Rattle.write_objects.specs.Turns.{agent_names, agents_at, ListTurnIs}
 use Rattle.write_objects.specs.declared.agents.ListTurn.{ListTurn}
-use Rattle.write_objects.specs.declared.agents.ListTurn.TheVariants.{On, Done, Stuck}
+use Rattle.write_objects.specs.declared.agents.ListTurn.TheVariants.{On, Done}
+use Rattle.write_rows.specs.declared.advance.Misfit.{Misfit}
+use Rattle.std.specs.Prelude.{Result, Ok, Err}
 use Rattle.write_rows.specs.Among.{sole_move}
 use Rattle.write_objects.proofs.Rooms.{agent_extras_lem, agent_names_lem, list_closes, one_agent_lem}
 use Rattle.write_rows.specs.Onward.{leading, onward_then, onward_stuck, taken_on, taken_deep, close_on, lost_on}
@@ -29,10 +31,6 @@ use Rattle.write_rows.specs.Onward.{leading, onward_then, onward_stuck, taken_on
 -- the code is what the edition says
 pub extras_coded : (edition : Edition) (level : ℕ) (single : Bool) {code : ℕ} → code ≡ extra_code edition → ExtrasIn edition after_resolvers level single code (go agent_ends (state after_resolvers level single))
 extras_coded edition level single q = subst (λ (k : ℕ). ExtrasIn edition after_resolvers level single k (go agent_ends (state after_resolvers level single))) (sym q) (agent_extras_lem edition level single)
-
-pub extra_coded : (edition : Edition) {code : ℕ} → code ≡ extra_code edition → code ≤ 256
-extra_coded D q = omega arith
-extra_coded B q = omega arith
 
 -- Where an agent and a list end
 
@@ -104,14 +102,14 @@ module _ (edition : Edition) (pool rows : List ℕ) {i : ℕ} (level : ℕ) (sin
 
 -- Turns
 
-pub turn_then : {edition : Edition} (single : Bool) {pool rows : List ℕ} {i : ℕ} {st : State} {k : ℕ} {st₁ : State} {m : List ℕ} {at : ℕ} {m₁ : List ℕ} {p₁ : ℕ} (left left₁ : ℕ) (r : ListTurn) (m₂ : List ℕ) → length m ≤ envelope_most → left ≤ left₁ → Onward edition pool rows i st k st₁ m at m₁ p₁ → ListTurnIs edition single pool rows k st₁ left m₁ p₁ r m₂ → ListTurnIs edition single pool rows i st left₁ m at r m₂
-turn_then single left left₁ (On k level p) m₂ small h a t = (onward_then small a t.0, t.1, t.2, omega (arith, t.3))
-turn_then single left left₁ (Done k p) m₂ small h a t = onward_then small a t
-turn_then single left left₁ (Stuck j) m₂ small h a t = onward_stuck small a t
+pub turn_then : {edition : Edition} (single : Bool) {pool rows : List ℕ} {i : ℕ} {st : State} {k : ℕ} {st₁ : State} {m : List ℕ} {at : ℕ} {m₁ : List ℕ} {p₁ : ℕ} (left left₁ : ℕ) (r : Result ListTurn Misfit) (m₂ : List ℕ) → length m ≤ envelope_most → left ≤ left₁ → Onward edition pool rows i st k st₁ m at m₁ p₁ → ListTurnIs edition single pool rows k st₁ left m₁ p₁ r m₂ → ListTurnIs edition single pool rows i st left₁ m at r m₂
+turn_then single left left₁ (Ok (On onto level)) m₂ small h a t = (onward_then small a t.0, t.1, t.2, omega (arith, t.3))
+turn_then single left left₁ (Ok (Done onto)) m₂ small h a t = onward_then small a t
+turn_then single left left₁ (Err misfit) m₂ small h a t = onward_stuck small a t
 
-pub turn_as : (edition : Edition) (single : Bool) (pool rows : List ℕ) (i : ℕ) (st : State) (left : ℕ) (before : List ℕ) (at : ℕ) (after : List ℕ) {r r₁ : ListTurn} → r ≡ r₁ → ListTurnIs edition single pool rows i st left before at r after → ListTurnIs edition single pool rows i st left before at r₁ after
-turn_as edition single pool rows i st left before at after q t = subst (λ (x : ListTurn). ListTurnIs edition single pool rows i st left before at x after) q t
+pub turn_as : (edition : Edition) (single : Bool) (pool rows : List ℕ) (i : ℕ) (st : State) (left : ℕ) (before : List ℕ) (at : ℕ) (after : List ℕ) {r r₁ : Result ListTurn Misfit} → r ≡ r₁ → ListTurnIs edition single pool rows i st left before at r after → ListTurnIs edition single pool rows i st left before at r₁ after
+turn_as edition single pool rows i st left before at after q t = subst (λ (x : Result ListTurn Misfit). ListTurnIs edition single pool rows i st left before at x after) q t
 
 -- memory that a row which stands elsewhere left as it was
-pub turn_from : (edition : Edition) (single : Bool) (pool rows : List ℕ) (i : ℕ) (st : State) (left : ℕ) (at : ℕ) (r : ListTurn) (after : List ℕ) {before m : List ℕ} → before ≡ m → ListTurnIs edition single pool rows i st left before at r after → ListTurnIs edition single pool rows i st left m at r after
+pub turn_from : (edition : Edition) (single : Bool) (pool rows : List ℕ) (i : ℕ) (st : State) (left : ℕ) (at : ℕ) (r : Result ListTurn Misfit) (after : List ℕ) {before m : List ℕ} → before ≡ m → ListTurnIs edition single pool rows i st left before at r after → ListTurnIs edition single pool rows i st left m at r after
 turn_from edition single pool rows i st left at r after q t = subst (λ (x : List ℕ). ListTurnIs edition single pool rows i st left x at r after) q t

@@ -1,5 +1,5 @@
 -- What the stages of agents promise: turns of a list, each an agent or the end of one.
-use Rattle.std.specs.Prelude.{ℕ, ◌+◌, ◌*◌, ◌-◌, ◌≤◌, List, [], ◌∷◌, Bool, false, ◌&&◌, ◌≡◌, eqb}
+use Rattle.std.specs.Prelude.{ℕ, ◌+◌, ◌*◌, ◌-◌, ◌≤◌, List, [], ◌∷◌, Bool, false, ◌&&◌, ◌≡◌, eqb, Result, Ok, Err}
 use Rattle.meaning.specs.Basics.{pick}
 use Rattle.meaning.specs.Bytes.{line}
 use Rattle.meaning.specs.Kinds.{agent_name}
@@ -11,7 +11,8 @@ use Rattle.write_rows.specs.Laying.{Layable}
 use Rattle.write_rows.specs.Bodies.{halt}
 use Rattle.write_rows.specs.Stages.{body_at, Onward}
 use Rattle.write_objects.specs.declared.agents.ListTurn.{ListTurn}
-use Rattle.write_objects.specs.declared.agents.ListTurn.TheVariants.{On, Done, Stuck}
+use Rattle.write_objects.specs.declared.agents.ListTurn.TheVariants.{On, Done}
+use Rattle.write_rows.specs.declared.advance.Misfit.{Misfit}
 
 abbrev pub agent_names : List Move
 agent_names = on 0x02 ▸ agent_name ▸ text line ▸ stay after_name ∷ []
@@ -30,8 +31,8 @@ pub record ListTurnRequires (rows : List ℕ) (i level : ℕ) (part : List ℕ) 
   pub most : level ≤ level_most + 1
   pub layable : Layable part at
 
-abbrev pub ListTurnIs : Edition → Bool → List ℕ → List ℕ → ℕ → State → ℕ → List ℕ → ℕ → ListTurn → List ℕ → Type 0
-ListTurnIs edition single pool rows i st left before at (On k level p) after =
-    Onward edition pool rows i st k (agents_at level single) before at after p × (1 ≤ level) × (level ≤ level_most + 1) × (rows_and_levels rows k level ≤ left)
-ListTurnIs edition single pool rows i st left before at (Done k p) after = Onward edition pool rows i st k (state parameters 0 false) before at after p
-ListTurnIs edition single pool rows i st left before at (Stuck j) after = body_at edition pool rows i st ≡ halt j
+abbrev pub ListTurnIs : Edition → Bool → List ℕ → List ℕ → ℕ → State → ℕ → List ℕ → ℕ → Result ListTurn Misfit → List ℕ → Type 0
+ListTurnIs edition single pool rows i st left before at (Ok (On onto level)) after =
+    Onward edition pool rows i st onto.row (agents_at level single) before at after onto.at × (1 ≤ level) × (level ≤ level_most + 1) × (rows_and_levels rows onto.row level ≤ left)
+ListTurnIs edition single pool rows i st left before at (Ok (Done onto)) after = Onward edition pool rows i st onto.row (state parameters 0 false) before at after onto.at
+ListTurnIs edition single pool rows i st left before at (Err misfit) after = body_at edition pool rows i st ≡ halt misfit.row

@@ -10,22 +10,21 @@ ghost use Rattle.write_rows.specs.Stages.{StageRequires, Onward, AdvanceIs};
 ghost use Rattle.write_objects.specs.Turns.{agent_names, agents_at, ListTurnRequires, ListTurnIs, rows_and_levels};
 
 use table::codes::{CLOSING, agent_extra};
-use table::kinds::{ADDRESS, ADDRESSES_OPEN, AGENT_NAME, RESOLVERS_OPEN};
+use table::kinds::Kind;
 use table::limits::LEVEL_MOST;
 use table::told::Edition;
 use values::text::Rule;
-use write_rows::advance::{Advance, Onto, Tried};
+use write_rows::advance::{Misfit, Onto};
 use write_rows::ahead::{opened, text};
 use write_rows::extras::extras;
 use write_rows::lay::put;
 use write_rows::texts::texts;
 
-// Where a list of agents goes on, at which level; where the whole list has ended; or the row that fits nowhere.
-#[derive(Drop)]
+// Where a list of agents goes on, and at which level; or where the whole list has ended.
+#[derive(Clone, Copy)]
 pub enum ListTurn {
-    On { row: usize, level: u32, at: usize },
-    Done { row: usize, at: usize },
-    Stuck(usize),
+    On { onto: Onto, level: u32 },
+    Done(Onto),
 }
 
 // "optionally 02 and addresses (texts, then 01)": lays an agent's addresses from row i on. Answers the row and the place behind them;
@@ -34,16 +33,16 @@ fn addresses(rows: &[u32], pool: &[u8], i: usize, level: u32, output: &mut [u8],
     requires { StageRequires rows.now i output.old at }
     ensures { (edition : Told.Edition) (single : Bool) → Onward edition pool.now rows.now i (state after_name level single) result.row (state after_addresses level single) output.old at output.new result.at }
 {
-    let t = opened(rows, pool, i, ADDRESSES_OPEN, level, 0x02, output, at);
-    let Tried::To(p) = t else {
-        return Onto { row: i, at: at };
+    let code = Some(0x02);
+    let t = opened(rows, pool, i, Kind::AddressesOpen, level, code, output, at);
+    let Some(p) = t else {
+        return Onto { row: i, at };
     };
-    let next = i + 1;
-    texts(rows, pool, next, ADDRESS, level, output, p)
+    texts(rows, pool, i + 1, Kind::Address, level, output, p)
 }
 
 // "extras, 01": lays the end of an agent from row i on. Answers that its list goes on at this level; for the one agent of `from`,
-// that its parameter has ended. Stuck at the row behind an extra's key that is no any-value.
+// that its parameter has ended. Refuses the row behind an extra's key that is no any-value.
 fn agent_ends(
     rows: &[u32],
     pool: &[u8],
@@ -53,28 +52,20 @@ fn agent_ends(
     edition: Edition,
     output: &mut [u8],
     at: usize,
-) -> ListTurn
+) -> Result<ListTurn, Misfit>
     requires { ListTurnRequires rows.now i level output.old at }
     ensures { ListTurnIs (edition_of edition) single pool.now rows.now i (state after_resolvers level single) (rows_and_levels rows.now i level) output.old at result output.new }
 {
-    let s = extras(rows, pool, i, level, agent_extra(edition), output, at);
-    match s {
-        Advance::Stuck(j) => ListTurn::Stuck(j),
-        Advance::Go { row, at: p } => {
-            if single & (level == 1) {
-                return ListTurn::Done { row: row, at: p };
-            }
-            ListTurn::On {
-                row: row,
-                level: level,
-                at: p,
-            }
-        }
+    let code = Some(agent_extra(edition));
+    let onto = extras(rows, pool, i, level, code, output, at)?;
+    if single & (level == 1) {
+        return Ok(ListTurn::Done(onto));
     }
+    Ok(ListTurn::On { onto, level })
 }
 
 // Lays the 01 of a list before row i, which names no agent of this level. At level 1 that ends the parameter; deeper it ends the resolvers
-// of the agent above, and that agent too. Stuck at row i where the one agent of `from` has to stand.
+// of the agent above, and that agent too. Refuses row i where the one agent of `from` has to stand.
 fn list_ends(
     rows: &[u32],
     pool: &[u8],
@@ -84,23 +75,23 @@ fn list_ends(
     edition: Edition,
     output: &mut [u8],
     at: usize,
-) -> ListTurn
+) -> Result<ListTurn, Misfit>
     requires { (ListTurnRequires rows.now i level output.old at) × NotAmong agent_names level (cells_at pool.now rows.now i) }
     ensures { ListTurnIs (edition_of edition) single pool.now rows.now i (agents_at level single) (rows_and_levels rows.now i level - 1) output.old at result output.new }
 {
     if level == 1 {
         if single {
-            return ListTurn::Stuck(i);
+            return Err(Misfit { row: i });
         }
         let end = put(output, at, CLOSING);
-        return ListTurn::Done { row: i, at: end };
+        return Ok(ListTurn::Done(Onto { row: i, at: end }));
     }
     let p = put(output, at, CLOSING);
     agent_ends(rows, pool, i, level - 1, single, edition, output, p)
 }
 
 // "optionally 02 and addresses .., optionally 03 and resolvers": lays what stands behind an agent's name, from row i on, up to where its
-// resolvers open, or all of it. Stuck where the agent's end is.
+// resolvers open, or all of it. Refuses what the agent's end does.
 fn behind_name(
     rows: &[u32],
     pool: &[u8],
@@ -110,28 +101,37 @@ fn behind_name(
     edition: Edition,
     output: &mut [u8],
     at: usize,
-) -> ListTurn
+) -> Result<ListTurn, Misfit>
     requires { (ListTurnRequires rows.now i level output.old at) × (level ≤ level_most) }
     ensures { ListTurnIs (edition_of edition) single pool.now rows.now i (state after_name level single) (rows_and_levels rows.now i level) output.old at result output.new }
 {
     let s = addresses(rows, pool, i, level, output, at);
     let row = s.row;
     let p = s.at;
-    let o = opened(rows, pool, row, RESOLVERS_OPEN, level, 0x03, output, p);
-    let Tried::To(behind) = o else {
+    let o = opened(
+        rows,
+        pool,
+        row,
+        Kind::ResolversOpen,
+        level,
+        Some(0x03),
+        output,
+        p,
+    );
+    let Some(behind) = o else {
         return agent_ends(rows, pool, row, level, single, edition, output, p);
     };
-    let resolver = row + 1;
-    let deeper = level + 1;
-    ListTurn::On {
-        row: resolver,
-        level: deeper,
-        at: behind,
-    }
+    Ok(ListTurn::On {
+        onto: Onto {
+            row: row + 1,
+            at: behind,
+        },
+        level: level + 1,
+    })
 }
 
 // "Agent: 02, name text, ..": lays the agent that row i names, up to where its resolvers open, or all of it; or the list's end, where row i names none.
-// Stuck at row i if its level is past the limit, or where the agent's or the list's end is.
+// Refuses row i if its level is past the limit, and what the agent's or the list's end does.
 fn agent(
     rows: &[u32],
     pool: &[u8],
@@ -141,7 +141,7 @@ fn agent(
     edition: Edition,
     output: &mut [u8],
     at: usize,
-) -> ListTurn
+) -> Result<ListTurn, Misfit>
     requires { ListTurnRequires rows.now i level output.old at }
     ensures { ListTurnIs (edition_of edition) single pool.now rows.now i (agents_at level single) (rows_and_levels rows.now i level - 1) output.old at result output.new }
 {
@@ -149,25 +149,24 @@ fn agent(
         rows,
         pool,
         i,
-        AGENT_NAME,
+        Kind::AgentName,
         Rule::Line,
         level,
-        0x02,
+        Some(0x02),
         output,
         at,
     );
-    let Tried::To(p) = t else {
+    let Some(p) = t else {
         return list_ends(rows, pool, i, level, single, edition, output, at);
     };
     if LEVEL_MOST < level {
-        return ListTurn::Stuck(i);
+        return Err(Misfit { row: i });
     }
-    let after_name = i + 1;
-    behind_name(rows, pool, after_name, level, single, edition, output, p)
+    behind_name(rows, pool, i + 1, level, single, edition, output, p)
 }
 
 // "Agent list: agents, then 01"; or the one agent of `from`. Lays it from row `from` on. Answers the row and the place behind it.
-// Stuck where a turn of the list is.
+// Refuses what a turn of the list does.
 pub fn agents(
     rows: &[u32],
     pool: &[u8],
@@ -176,26 +175,21 @@ pub fn agents(
     edition: Edition,
     output: &mut [u8],
     at: usize,
-) -> Advance
+) -> Result<Onto, Misfit>
     requires { StageRequires rows.now from output.old at }
     ensures { AdvanceIs (edition_of edition) pool.now rows.now from (agents_at 1 single) (state parameters 0 false) output.old at result output.new }
 {
-    let mut i = from;
+    let mut here = Onto { row: from, at };
     let mut level: u32 = 1;
-    let mut p = at;
     loop {
-        let t = agent(rows, pool, i, level, single, edition, output, p);
-        match t {
-            ListTurn::Stuck(j) => return Advance::Stuck(j),
-            ListTurn::Done { row, at: q } => return Advance::Go { row: row, at: q },
-            ListTurn::On {
-                row,
-                level: n,
-                at: q,
-            } => {
-                i = row;
-                level = n;
-                p = q;
+        let turn = agent(
+            rows, pool, here.row, level, single, edition, output, here.at,
+        )?;
+        match turn {
+            ListTurn::Done(end) => return Ok(end),
+            ListTurn::On { onto, level: next } => {
+                here = onto;
+                level = next;
             }
         }
     }

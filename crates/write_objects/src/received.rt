@@ -4,11 +4,11 @@ ghost use Rattle.meaning.specs.Editions.{state, received_begins, after_date, par
 ghost use Rattle.table.specs.Told.{edition_of};
 ghost use Rattle.write_rows.specs.Stages.{StageRequires, AdvanceIs, Beyond};
 
-use table::codes::{CLOSING, NO_CODE, received_extra};
-use table::kinds::{RECEIVED_BY, RECEIVED_FROM, RECEIVED_ID, RECEIVED_VIA};
+use table::codes::{CLOSING, received_extra};
+use table::kinds::Kind;
 use table::told::Edition;
 use values::text::Rule;
-use write_rows::advance::{Advance, Tried};
+use write_rows::advance::{Misfit, Onto, needed};
 use write_rows::ahead::text;
 use write_rows::dates::date;
 use write_rows::extras::some_extras;
@@ -16,7 +16,7 @@ use write_rows::lay::put;
 use write_rows::texts::optional;
 
 // Lays what stands behind a received object's date, from row i on: from, id and via where they are there, extras in D, and the 01.
-// Stuck at the row behind an extra's key that is no any-value.
+// Refuses the row behind an extra's key that is no any-value.
 fn behind_date(
     rows: &[u32],
     pool: &[u8],
@@ -24,26 +24,42 @@ fn behind_date(
     edition: Edition,
     output: &mut [u8],
     at: usize,
-) -> Advance
+) -> Result<Onto, Misfit>
     requires { StageRequires rows.now i output.old at }
     ensures { AdvanceIs (edition_of edition) pool.now rows.now i (state after_date 1 false) (state parameters 0 false) output.old at result output.new }
 {
-    let a = optional(rows, pool, i, RECEIVED_FROM, 1, 0x02, output, at);
-    let b = optional(rows, pool, a.row, RECEIVED_ID, 1, 0x03, output, a.at);
-    let c = optional(rows, pool, b.row, RECEIVED_VIA, 1, 0x04, output, b.at);
-    let row = c.row;
-    let p = c.at;
-    match edition {
-        Edition::B => Advance::Go {
-            row: row,
-            at: put(output, p, CLOSING),
-        },
-        Edition::D => some_extras(rows, pool, row, 1, received_extra(edition), output, p),
-    }
+    let a = optional(rows, pool, i, Kind::ReceivedFrom, 1, Some(0x02), output, at);
+    let b = optional(
+        rows,
+        pool,
+        a.row,
+        Kind::ReceivedId,
+        1,
+        Some(0x03),
+        output,
+        a.at,
+    );
+    let c = optional(
+        rows,
+        pool,
+        b.row,
+        Kind::ReceivedVia,
+        1,
+        Some(0x04),
+        output,
+        b.at,
+    );
+    let Some(code) = received_extra(edition) else {
+        return Ok(Onto {
+            row: c.row,
+            at: put(output, c.at, CLOSING),
+        });
+    };
+    some_extras(rows, pool, c.row, 1, Some(code), output, c.at)
 }
 
 // Lays a received object from row i on, which views its `by`. Answers the row and the place behind it.
-// Stuck at row i if it is no `by`, at the next if that is no date, or where `behind_date` is.
+// Refuses row i if it is no `by`, the next if that is no date, and what `behind_date` does.
 pub fn received(
     rows: &[u32],
     pool: &[u8],
@@ -51,7 +67,7 @@ pub fn received(
     edition: Edition,
     output: &mut [u8],
     at: usize,
-) -> Advance
+) -> Result<Onto, Misfit>
     requires { StageRequires rows.now i output.old at }
     ensures { (AdvanceIs (edition_of edition) pool.now rows.now i (state received_begins 0 false) (state parameters 0 false) output.old at result output.new) × Beyond i result }
 {
@@ -59,21 +75,15 @@ pub fn received(
         rows,
         pool,
         i,
-        RECEIVED_BY,
+        Kind::ReceivedBy,
         Rule::Line,
         0,
-        NO_CODE,
+        None,
         output,
         at,
     );
-    let Tried::To(p) = t else {
-        return Advance::Stuck(i);
-    };
-    let named = i + 1;
-    let d = date(rows, pool, named, 1, edition, output, p);
-    let Tried::To(q) = d else {
-        return Advance::Stuck(named);
-    };
-    let dated = named + 1;
-    behind_date(rows, pool, dated, edition, output, q)
+    let by = needed(t, i)?;
+    let d = date(rows, pool, by.row, 1, edition, output, by.at);
+    let dated = needed(d, by.row)?;
+    behind_date(rows, pool, dated.row, edition, output, dated.at)
 }

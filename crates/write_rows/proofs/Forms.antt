@@ -17,21 +17,25 @@ use Rattle.meaning.specs.Writing.{valid, at_level, stands_for, lead, write_value
 use Rattle.laws_steps.specs.Logic.{right_of}
 use Rattle.laws_steps.specs.From.{from, from_length}
 use Rattle.date.specs.Dates.{reaching, dates_of}
-use Rattle.table.specs.Rows.{row_with, RowAhead, AheadIs, viewed, row_ahead, ahead_cells, ahead_row, u32_most}
+use Rattle.table.specs.Rows.{row_with, RowAhead, IsAhead, viewed, row_ahead, u32_most}
 use Rattle.meaning.specs.Told.{Edition, B, D}
 use Rattle.write_rows.specs.Laying.{one, Laid, laid_as}
 use Rattle.laws_steps.specs.Rows.{cells_at}
 use Rattle.write_rows.specs.Codes.{date_code, block_bytes}
 use Rattle.write_rows.specs.Rooms.{of_kind, standards, own_among, NotAmong}
-use Rattle.write_rows.specs.Stages.{SoughtIs, RowTaken}
+use Rattle.write_rows.specs.Stages.{IsSought, RowTaken}
+use Rattle.table.specs.Kinds.{number_of}
+use Rattle.table.specs.declared.kinds.Kind.{Kind}
+use Rattle.table.specs.declared.kinds.Kind.TheVariants.{DateAbsolute, DateForward, DateBackward}
 use Rattle.table.specs.declared.rows.Ahead.{Ahead}
+use Rattle.std.specs.Prelude.{Option, None, Some}
 use Rattle.write_rows.proofs.Values.{date_length_lem, only_byte, only_other, empty_is}
 use Rattle.write_rows.specs.Openings.{opens_past}
-use Rattle.write_rows.specs.Among.{takes, find_kind, row_none, sought_row}
+use Rattle.write_rows.specs.Among.{takes, find_kind, row_none}
 
 -- The bytes that a row views
 
-module _ {pool rows : List ℕ} {i kind level : ℕ} {r : Ahead} (s : SoughtIs pool rows i kind level r) where
+module _ {pool rows : List ℕ} {i kind level : ℕ} {r : Ahead} (s : IsSought pool rows i kind level r) where
   pub view_length : length (viewed pool r) ≡ r.end - r.start
   unfolding from
   view_length = from_length pool r.start r.end s.ordered s.inside
@@ -66,8 +70,8 @@ module _ (l : List Move) (level kind lvl : ℕ) (v : List ℕ) (q : lvl ≡ leve
   pub unpicked : find (takes v) (of_kind kind l) ≡ none → NotAmong l level (cells_at pool rows i)
   unpicked z = row_none l level a (own_is none z)
 
-pub ahead_none : (l : List Move) (level : ℕ) {pool rows : List ℕ} {i : ℕ} {r : Ahead} → AheadIs pool rows i r → (r.level ≡ level → find (takes (viewed pool r)) (of_kind r.kind l) ≡ none) → NotAmong l level (cells_at pool rows i)
-ahead_none l level {pool} {r = r} a f = ahead_cells (NotAmong l level) a tt (λ cs. tt) (by (eqb r.level level) refl)
+pub ahead_none : (l : List Move) (level : ℕ) {pool rows : List ℕ} {i : ℕ} {r : Ahead} → IsAhead pool rows i r → (r.level ≡ level → find (takes (viewed pool r)) (of_kind r.kind l) ≡ none) → NotAmong l level (cells_at pool rows i)
+ahead_none l level {pool} {r = r} a f = row_none l level a.row (by (eqb r.level level) refl)
   where
     by : (b : Bool) → eqb r.level level ≡ b → at_level b (find (stands_for (row_ahead pool r)) l) ≡ none
     by true q = find_kind (row_ahead pool r) l ∙ f (eqb-true r.level level q)
@@ -131,7 +135,7 @@ module _ (n : Next) (v : List ℕ) where
   unfolding find valid
   standard_none h = rw (sym (only_other 0x10 v h), sym (only_other 0x11 v h), sym (only_other 0x12 v h)) refl
 
-module _ (n : Next) {pool rows : List ℕ} {i : ℕ} {r : Ahead} (s : SoughtIs pool rows i standard_representation 0 r) (h : r.kind ≡ 0 → ⊥) (k : r.end - r.start ≡ 1) where
+module _ (n : Next) {pool rows : List ℕ} {i : ℕ} {r : Ahead} (s : IsSought pool rows i standard_representation 0 r) (k : r.end - r.start ≡ 1) where
   found_byte : CodeOf n (get_or pool r.start 0) (find (takes (viewed pool r)) (of_kind standard_representation (representations n)))
   found_byte = standard_found n (viewed pool r) (view_length s ∙ k) (view_byte s (omega arith))
 
@@ -140,10 +144,10 @@ module _ (n : Next) {pool rows : List ℕ} {i : ℕ} {r : Ahead} (s : SoughtIs p
   standard_taken t l =
       let b : ℕ = get_or pool r.start 0 in
       let small = leb→le b 0x12 (right_of (leb 0x10 b) (leb b 0x12) (subst T (sym t) tt)) in
-      picked (standards n) 0 standard_representation 0 (viewed pool r) refl (sought_row s h) (standard n b) (omega arith) (found_byte ∙ ap (λ (x : Bool). pick x (hit (standard n b)) none) t) (laid_as l _ (sym (ap (λ (x : Bool). pick x [] (one b) ++ []) (ne_eqb b 256 (λ q. omega arith)))))
+      picked (standards n) 0 standard_representation 0 (viewed pool r) refl s.row (standard n b) (omega arith) (found_byte ∙ ap (λ (x : Bool). pick x (hit (standard n b)) none) t) (laid_as l _ (sym (ap (λ (x : Bool). pick x [] (one b) ++ []) (ne_eqb b 256 (λ q. omega arith)))))
 
   pub standard_other : (leb 0x10 (get_or pool r.start 0) && leb (get_or pool r.start 0) 0x12) ≡ false → NotAmong (standards n) 0 (cells_at pool rows i)
-  standard_other t = unpicked (standards n) 0 standard_representation 0 (viewed pool r) refl (sought_row s h) (found_byte ∙ ap (λ (x : Bool). pick x (hit (standard n (get_or pool r.start 0))) none) t)
+  standard_other t = unpicked (standards n) 0 standard_representation 0 (viewed pool r) refl s.row (found_byte ∙ ap (λ (x : Bool). pick x (hit (standard n (get_or pool r.start 0))) none) t)
 
 -- "Length 9 or 10 picks the date code"
 
@@ -154,36 +158,22 @@ code_between kind q = at (ltb kind 5) refl q
     at true e z = let w : ◌≡◌ {A = ℕ} 0 1 = cc z in absurd (omega arith)
     at false e z = (ltb-false kind 5 e, ltb-false 7 kind z)
 
-code_none : (edition : Edition) (kind : ℕ) (d : Bool) → (kind ≡ 5 → ⊥) → (kind ≡ 6 → ⊥) → (kind ≡ 7 → ⊥) → date_code edition kind d ≡ 0
+code_none : (edition : Edition) (kind : ℕ) (d : Bool) → (kind ≡ 5 → ⊥) → (kind ≡ 6 → ⊥) → (kind ≡ 7 → ⊥) → date_code edition kind d ≡ None
 code_none D kind d h₅ h₆ h₇ = at (ltb kind 5) refl
   where
-    at : (b : Bool) → ltb kind 5 ≡ b → pick (b || ltb 7 kind) 0 (kind + pick d 0x1f 0x1b) ≡ 0
+    at : (b : Bool) → ltb kind 5 ≡ b → pick (b || ltb 7 kind) None (Some (kind + pick d 0x1f 0x1b)) ≡ None
     at true e = refl
-    at false e = let h = ltb-false kind 5 e in ap (λ (b : Bool). pick b 0 (kind + pick d 0x1f 0x1b)) (lt-ltb 7 kind (omega arith))
-code_none B kind d h₅ h₆ h₇ = ap (λ (b : Bool). pick b (pick d 0x21 0x20) 0) (ne_eqb kind 5 h₅)
+    at false e = let h = ltb-false kind 5 e in ap (λ (b : Bool). pick b None (Some (kind + pick d 0x1f 0x1b))) (lt-ltb 7 kind (omega arith))
+code_none B kind d h₅ h₆ h₇ = ap (λ (b : Bool). pick b (Some (pick d 0x21 0x20)) None) (ne_eqb kind 5 h₅)
 
-code_most : (edition : Edition) (kind : ℕ) (d : Bool) → date_code edition kind d < 256
-code_most D kind d = at (ltb kind 5 || ltb 7 kind) refl d
-  where
-    at : (b : Bool) → (ltb kind 5 || ltb 7 kind) ≡ b → (d : Bool) → pick b 0 (kind + pick d 0x1f 0x1b) < 256
-    at true e d = omega arith
-    at false e true = let h = (code_between kind e).1 in omega arith
-    at false e false = let h = (code_between kind e).1 in omega arith
-code_most B kind d = at (eqb kind 5) d
-  where
-    at : (b d : Bool) → pick b (pick d 0x21 0x20) 0 < 256
-    at true true = omega arith
-    at true false = omega arith
-    at false d = omega arith
-
-pub code_small : (edition : Edition) (kind : ℕ) (d : Bool) {code : ℕ} → code ≡ date_code edition kind d → code < 256
-code_small edition kind d q = omega (arith, code_most edition kind d)
-
-code_kind : (edition : Edition) (kind : ℕ) (d : Bool) → (date_code edition kind d ≡ 0 → ⊥) → 5 ≤ kind
-code_kind edition kind d h = at (ltb kind 5) refl
+code_kind : (edition : Edition) (kind : ℕ) (d : Bool) {code : ℕ} → Some code ≡ date_code edition kind d → 5 ≤ kind
+code_kind edition kind d {code} h = at (ltb kind 5) refl
   where
     at : (b : Bool) → ltb kind 5 ≡ b → 5 ≤ kind
-    at true e = let k = ltb-true kind 5 e in absurd (h (code_none edition kind d (λ q. omega arith) (λ q. omega arith) (λ q. omega arith)))
+    at true e =
+        let k = ltb-true kind 5 e in
+        let z : Some code ≡ None = h ∙ code_none edition kind d (λ q. omega arith) (λ q. omega arith) (λ q. omega arith) in
+        cc
     at false e = ltb-false kind 5 e
 
 module _ (v : List ℕ) where
@@ -192,9 +182,9 @@ module _ (v : List ℕ) where
   by_length reach m m₁ true q = ap (λ (b : Bool). pick b (hit m) (pick (date_ok (date_checks reach true) [] v) (hit m₁) none)) (sym (date_length_lem reach false v (λ z. omega (arith, eqb-true (length v) 10 q))))
   by_length reach m m₁ false q = ap (λ (b : Bool). pick (date_ok (date_checks reach false) [] v) (hit m) (pick b (hit m₁) none)) (sym (date_length_lem reach true v (eqb-false (length v) 10 q)))
 
-  abbrev dated : ℕ → ℕ → Bool → Next → Found
-  dated code kind d n =
-      pick (eqb code 0) none (pick (date_ok (date_checks (reaching (eqb kind 5)) d) [] v) (hit (on code ▸ kind ▸ date (reaching (eqb kind 5)) d ▸ n)) none)
+  abbrev dated : Option ℕ → ℕ → Bool → Next → Found
+  dated None kind d n = none
+  dated (Some code) kind d n = pick (date_ok (date_checks (reaching (eqb kind 5)) d) [] v) (hit (on code ▸ kind ▸ date (reaching (eqb kind 5)) d ▸ n)) none
 
   module _ (n : Next) where
     abbrev Dated : Edition → Bool → ℕ → Type 0
@@ -223,26 +213,29 @@ module _ (v : List ℕ) where
             let x = eqb-false kind 5 e in
             let y = eqb-false kind 6 f in
             let z = eqb-false kind 7 g in
-            no_date_lem edition kind x y z ∙ sym (ap (λ (c : ℕ). dated c kind d n) (code_none edition kind d x y z))
+            no_date_lem edition kind x y z ∙ sym (ap (λ (c : Option ℕ). dated c kind d n) (code_none edition kind d x y z))
 
     module _ (edition : Edition) (kind : ℕ) where
-      pub date_unknown : date_code edition kind (eqb (length v) 10) ≡ 0 → find (takes v) (of_kind kind (dates_of edition n)) ≡ none
-      date_unknown q = date_found edition kind (eqb (length v) 10) refl ∙ ap (λ (c : ℕ). dated c kind (eqb (length v) 10) n) q
+      pub date_unknown : None ≡ date_code edition kind (eqb (length v) 10) → find (takes v) (of_kind kind (dates_of edition n)) ≡ none
+      date_unknown q = date_found edition kind (eqb (length v) 10) refl ∙ ap (λ (c : Option ℕ). dated c kind (eqb (length v) 10) n) (sym q)
 
       pub date_wrong : date_ok (date_checks (reaching (eqb kind 5)) (eqb (length v) 10)) [] v ≡ false → find (takes v) (of_kind kind (dates_of edition n)) ≡ none
-      date_wrong q = date_found edition kind (eqb (length v) 10) refl ∙ rw q (at (eqb (date_code edition kind (eqb (length v) 10)) 0))
+      date_wrong q = date_found edition kind (eqb (length v) 10) refl ∙ at (date_code edition kind (eqb (length v) 10))
         where
-          at : (b : Bool) → pick b none none ≡ none
-          at true = refl
-          at false = refl
+          at : (o : Option ℕ) → dated o kind (eqb (length v) 10) n ≡ none
+          at None = refl
+          at (Some code) = ap (λ (b : Bool). pick b (hit (on code ▸ kind ▸ date (reaching (eqb kind 5)) (eqb (length v) 10) ▸ n)) none) q
 
-pub date_taken : (edition : Edition) (level : ℕ) (n : Next) {pool rows : List ℕ} {i : ℕ} {r : Ahead} (code : ℕ) {before : List ℕ} {at : ℕ} {after : List ℕ} {p : ℕ} → AheadIs pool rows i r → r.level ≡ level → code ≡ date_code edition r.kind (eqb (length (viewed pool r)) 10) → (code ≡ 0 → ⊥) → date_ok (date_checks (reaching (eqb r.kind 5)) (eqb (length (viewed pool r)) 10)) [] (viewed pool r) ≡ true → Laid before at (code ∷ viewed pool r) after p → RowTaken (dates_of edition n) level pool rows i before at after p
+-- a number that is no kind's is no date's
+pub date_of_none : (edition : Edition) (n : Next) (v : List ℕ) (kind : ℕ) → ((k : Kind) → number_of k ≡ kind → ⊥) → find (takes v) (of_kind kind (dates_of edition n)) ≡ none
+date_of_none edition n v kind h = no_date_lem v n edition kind (λ q. h DateAbsolute (sym q)) (λ q. h DateForward (sym q)) (λ q. h DateBackward (sym q))
+
+pub date_taken : (edition : Edition) (level : ℕ) (n : Next) {pool rows : List ℕ} {i : ℕ} {r : Ahead} (code : ℕ) {before : List ℕ} {at : ℕ} {after : List ℕ} {p : ℕ} → IsAhead pool rows i r → r.level ≡ level → Some code ≡ date_code edition r.kind (eqb (length (viewed pool r)) 10) → code < 256 → date_ok (date_checks (reaching (eqb r.kind 5)) (eqb (length (viewed pool r)) 10)) [] (viewed pool r) ≡ true → Laid before at (code ∷ viewed pool r) after p → RowTaken (dates_of edition n) level pool rows i before at after p
 unfolding write_value
 date_taken edition level n {pool} {rows} {i} {r} code a z q h t l =
     let v : List ℕ = viewed pool r in
     let d : Bool = eqb (length v) 10 in
-    let known : date_code edition r.kind d ≡ 0 → ⊥ = λ e. h (q ∙ e) in
-    let past = code_kind edition r.kind d known in
-    picked (dates_of edition n) level r.kind r.level v z (ahead_row a (λ e. omega arith)) (on code ▸ r.kind ▸ date (reaching (eqb r.kind 5)) d ▸ n) (omega arith)
-    (date_found v n edition r.kind d refl ∙ rw (sym q, ne_eqb code 0 h, t) refl)
-    (laid_as l _ (sym (ap (λ (b : Bool). pick b [] (code ∷ []) ++ v) (ne_eqb code 256 (λ e. omega (arith, code_small edition r.kind d q))))))
+    let past = code_kind edition r.kind d q in
+    picked (dates_of edition n) level r.kind r.level v z a.row (on code ▸ r.kind ▸ date (reaching (eqb r.kind 5)) d ▸ n) (omega arith)
+    (date_found v n edition r.kind d refl ∙ rw (sym q, t) refl)
+    (laid_as l _ (sym (ap (λ (b : Bool). pick b [] (code ∷ []) ++ v) (ne_eqb code 256 (λ e. omega arith)))))

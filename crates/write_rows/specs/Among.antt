@@ -1,6 +1,6 @@
 -- A row's own move among some: the search is one among those of its kind, or those that have a row at all.
-use Rattle.std.specs.Prelude.{ℕ, ◌≤◌, List, [], ◌∷◌, ◌++◌, Bool, true, false, ◌&&◌, not, ◌≡◌, refl}
-use Rattle.std.proofs.Common.{⊎_elim, sym, ◌∙◌, subst, arith, eq-eqb, eqb-true}
+use Rattle.std.specs.Prelude.{ℕ, ◌≤◌, List, [], ◌∷◌, ◌++◌, Bool, true, false, ◌&&◌, not, ◌≡◌, refl, Option, None, Some}
+use Rattle.std.proofs.Common.{sym, ◌∙◌, subst, arith, eq-eqb, eqb-true}
 use Rattle.std.proofs.Math.Path.{ap}
 use Rattle.std.proofs.Math.Dec.{eqb}
 use Rattle.meaning.specs.Basics.{pick}
@@ -11,10 +11,8 @@ use Rattle.table.specs.Rows.{row_with, RowAhead, viewed}
 use Rattle.write_rows.specs.Laying.{Laid}
 use Rattle.laws_steps.specs.Rows.{cells_at}
 use Rattle.write_rows.specs.Rooms.{rows_of, of_kind, own_among, NotAmong, AllLead}
-use Rattle.write_rows.specs.Stages.{NotOf, SoughtIs, RowTaken, TriedIs}
+use Rattle.write_rows.specs.Stages.{NotOf, IsSought, RowTaken, TriedIs}
 use Rattle.table.specs.declared.rows.Ahead.{Ahead}
-use Rattle.write_rows.specs.declared.advance.Tried.{Tried}
-use Rattle.write_rows.specs.declared.advance.Tried.TheVariants.{To, Other}
 use Rattle.write_rows.specs.Openings.{opens_past}
 
 abbrev pub takes : List ℕ → Move → Bool
@@ -116,34 +114,23 @@ module _ (m : Move) (level : ℕ) (q : is_quiet m.form ≡ false) where
 pub row_none : {pool rows : List ℕ} {i : ℕ} {row : Row} (l : List Move) (level : ℕ) → RowAhead pool rows i row → own_among l level row ≡ none → NotAmong l level (cells_at pool rows i)
 row_none l level a q = subst (NotAmong l level) (sym a.cells) q
 
--- The row sought
+-- The row sought, for one move
 
-module _ {pool rows : List ℕ} {i kind level : ℕ} {r : Ahead} (s : SoughtIs pool rows i kind level r) where
-  pub sought_row : (r.kind ≡ 0 → ⊥) → RowAhead pool rows i (row_with kind level (viewed pool r))
-  sought_row h = ⊎_elim (λ x. x.1) (λ x. absurd (h x.0)) s.is
-
-  pub sought_away : 3 ≤ kind → r.kind ≡ 0 → NotOf kind level (cells_at pool rows i)
-  sought_away h z = ⊎_elim (λ x. absurd (omega (arith, x.0))) (λ x. x.1) s.is
-
--- for one move
-module _ {pool rows : List ℕ} {i : ℕ} (m : Move) (level : ℕ) {r : Ahead} (q : is_quiet m.form ≡ false) (s : SoughtIs pool rows i m.kind level r) where
-  pub sought_taken : {before : List ℕ} {at : ℕ} {after : List ℕ} {p : ℕ} → 3 ≤ m.kind → (r.kind ≡ 0 → ⊥) → takes (viewed pool r) m ≡ true → Laid before at (lead m ++ write_value m.form (viewed pool r)) after p → RowTaken (m ∷ []) level pool rows i before at after p
-  sought_taken k h t l =
+module _ {pool rows : List ℕ} {i : ℕ} (m : Move) (level : ℕ) {r : Ahead} (q : is_quiet m.form ≡ false) (s : IsSought pool rows i m.kind level r) where
+  pub sought_taken : {before : List ℕ} {at : ℕ} {after : List ℕ} {p : ℕ} → 3 ≤ m.kind → takes (viewed pool r) m ≡ true → Laid before at (lead m ++ write_value m.form (viewed pool r)) after p → RowTaken (m ∷ []) level pool rows i before at after p
+  sought_taken k t l =
       record {
         row = row_with m.kind level (viewed pool r);
         move = m;
-        ahead = sought_row s h;
+        ahead = s.row;
         inner = sym (opens_past m.kind level (viewed pool r) (omega arith));
         stands = sole_hit m level q (viewed pool r) t;
         laid = l;
       }
 
-  -- nothing of the kind and level is ahead, or what is has other bytes
-  pub sought_none : (r.kind ≡ 0 → ⊥) → takes (viewed pool r) m ≡ false → NotAmong (m ∷ []) level (cells_at pool rows i)
-  sought_none h t = row_none (m ∷ []) level (sought_row s h) (sole_none m level q _ (λ k l. t))
-
-  pub sought_not : 3 ≤ m.kind → r.kind ≡ 0 → NotAmong (m ∷ []) level (cells_at pool rows i)
-  sought_not h z = cells_none m level q (cells_at pool rows i) (sought_away s h z)
+  -- what is ahead has other bytes
+  pub sought_none : takes (viewed pool r) m ≡ false → NotAmong (m ∷ []) level (cells_at pool rows i)
+  sought_none t = row_none (m ∷ []) level s.row (sole_none m level q _ (λ k l. t))
 
 -- Among none
 
@@ -177,13 +164,13 @@ module _ (l l₁ : List Move) (level : ℕ) where
   none_same (broken ∷ cs) same x = tt
   none_same (cell row ∷ cs) same x = own_same row same ∙ x
 
-  pub tried_same : (pool rows : List ℕ) (i : ℕ) → SameAhead l l₁ level (cells_at pool rows i) → (before : List ℕ) (at : ℕ) (after : List ℕ) (t : Tried) → TriedIs l level pool rows i before at t after → TriedIs l₁ level pool rows i before at t after
-  tried_same pool rows i same before at after (To p) x =
+  pub tried_same : (pool rows : List ℕ) (i : ℕ) → SameAhead l l₁ level (cells_at pool rows i) → (before : List ℕ) (at : ℕ) (after : List ℕ) (t : Option ℕ) → TriedIs l level pool rows i before at t after → TriedIs l₁ level pool rows i before at t after
+  tried_same pool rows i same before at after (Some p) x =
       record { row = x.row; move = x.move; ahead = x.ahead; inner = x.inner; stands = own_same x.row (subst (SameAhead l l₁ level) x.ahead.cells same) ∙ x.stands; laid = x.laid }
-  tried_same pool rows i same before at after Other x = (x.0, none_same (cells_at pool rows i) same x.1)
+  tried_same pool rows i same before at after None x = (x.0, none_same (cells_at pool rows i) same x.1)
 
 -- moves of a kind that is not ahead change nothing
-pub tried_away : (k level : ℕ) (l l₁ : List Move) → ((j : ℕ) → (j ≡ k → ⊥) → of_kind j l ≡ of_kind j l₁) → (pool rows : List ℕ) (i : ℕ) → NotOf k level (cells_at pool rows i) → (before : List ℕ) (at : ℕ) (after : List ℕ) (t : Tried) → TriedIs l level pool rows i before at t after → TriedIs l₁ level pool rows i before at t after
+pub tried_away : (k level : ℕ) (l l₁ : List Move) → ((j : ℕ) → (j ≡ k → ⊥) → of_kind j l ≡ of_kind j l₁) → (pool rows : List ℕ) (i : ℕ) → NotOf k level (cells_at pool rows i) → (before : List ℕ) (at : ℕ) (after : List ℕ) (t : Option ℕ) → TriedIs l level pool rows i before at t after → TriedIs l₁ level pool rows i before at t after
 tried_away k level l l₁ same pool rows i away = tried_same l l₁ level pool rows i (by (cells_at pool rows i) away)
   where
     by : (cs : List Cell) → NotOf k level cs → SameAhead l l₁ level cs
@@ -218,7 +205,7 @@ module _ (l l₁ : List Move) (level : ℕ) where
   pub taken_first : {pool rows : List ℕ} {i : ℕ} {before : List ℕ} {at : ℕ} {after : List ℕ} {p : ℕ} → RowTaken l level pool rows i before at after p → RowTaken (l ++ l₁) level pool rows i before at after p
   taken_first x = record { row = x.row; move = x.move; ahead = x.ahead; inner = x.inner; stands = own_else x.row x.stands; laid = x.laid }
 
-  pub tried_else : (pool rows : List ℕ) (i : ℕ) → NotAmong l level (cells_at pool rows i) → (before : List ℕ) (at : ℕ) (after : List ℕ) (t : Tried) → TriedIs l₁ level pool rows i before at t after → TriedIs (l ++ l₁) level pool rows i before at t after
-  tried_else pool rows i none_there before at after (To p) x =
+  pub tried_else : (pool rows : List ℕ) (i : ℕ) → NotAmong l level (cells_at pool rows i) → (before : List ℕ) (at : ℕ) (after : List ℕ) (t : Option ℕ) → TriedIs l₁ level pool rows i before at t after → TriedIs (l ++ l₁) level pool rows i before at t after
+  tried_else pool rows i none_there before at after (Some p) x =
       record { row = x.row; move = x.move; ahead = x.ahead; inner = x.inner; stands = own_else x.row (subst (NotAmong l level) x.ahead.cells none_there) ∙ x.stands; laid = x.laid }
-  tried_else pool rows i none_there before at after Other x = (x.0, none_else (cells_at pool rows i) none_there x.1)
+  tried_else pool rows i none_there before at after None x = (x.0, none_else (cells_at pool rows i) none_there x.1)

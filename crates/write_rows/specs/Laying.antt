@@ -1,5 +1,7 @@
 -- Bytes laid one behind the other, where the part lent has room for them, and counted up to the limit of an envelope.
 use Rattle.std.specs.Prelude.{ℕ, ◌+◌, ◌-◌, ◌≤◌, zero, suc, ◌/◌, ◌%◌, ◌<◌, List, [], ◌∷◌, ◌++◌, ◌≡◌, refl, eqb, ltb, length, take, get_or, set, Bool, true, false}
+use Rattle.std.specs.Prelude.{min}
+use Rattle.std.specs.Int.{to_be_bytes, w16, w32}
 use Rattle.std.proofs.Common.{sym, ap, ◌∙◌, subst, length-append, length-set, take-suc, length-take-le, arith, add-one, le-ltb, ltb-true, ltb-false}
 use Rattle.std.proofs.lemmas.List.Edits.{sets}
 use Rattle.std.proofs.Math.Seq.{length-sets, set_out, take-nil, take-length}
@@ -144,10 +146,19 @@ copied v m at {n} f q c = record { memory = q ∙ by (ltb (length m - at) (lengt
 pub capped_past : (n : ℕ) → envelope_most ≤ n → envelope_most ≡ capped n
 capped_past n h = sym (ap (λ (b : Bool). pick b n envelope_most) (le-ltb n envelope_most h))
 
-pub four_is : (n : ℕ) → length_bytes two_bytes (n / 65536) ++ length_bytes two_bytes (n % 65536) ≡ length_bytes four_bytes n
-four_is n =
-    let a : n / 65536 / 256 ≡ n / 16777216 = omega arith in
-    let b : n / 65536 % 256 ≡ n / 65536 % 256 = refl in
-    let c : n % 65536 / 256 ≡ n / 256 % 256 = omega arith in
-    let d : n % 65536 % 256 ≡ n % 256 = omega arith in
-    rw (a, c, d) refl
+pub capped_min : (many at : ℕ) → at ≤ envelope_most → at + min many (envelope_most - at) ≡ capped (at + many)
+capped_min many at h = by (ltb (at + many) envelope_most) refl
+  where
+    by : (b : Bool) → ltb (at + many) envelope_most ≡ b → at + min many (envelope_most - at) ≡ pick b (at + many) envelope_most
+    by true q = let k = ltb-true (at + many) envelope_most q in omega arith
+    by false q = let k = ltb-false (at + many) envelope_most q in omega arith
+
+pub two_is : (n : ℕ) → n < 65536 → to_be_bytes w16 n ≡ length_bytes two_bytes n
+two_is n h =
+    let a : n / 256 % 256 ≡ n / 256 = omega arith in
+    rw a refl
+
+pub four_is : (n : ℕ) → n ≤ 4294967295 → to_be_bytes w32 n ≡ length_bytes four_bytes n
+four_is n h =
+    let a : n / 16777216 % 256 ≡ n / 16777216 = omega arith in
+    rw a refl

@@ -1,5 +1,5 @@
 -- Stages one behind the other, and the steps that they are made of: a row by its own move, a closing, an optional part left out.
-use Rattle.std.specs.Prelude.{ℕ, ◌+◌, ◌≤◌, ◌<◌, List, [], ◌∷◌, ◌++◌, Bool, true, false, ◌≡◌, refl, eqb, length}
+use Rattle.std.specs.Prelude.{ℕ, ◌+◌, ◌≤◌, ◌<◌, List, [], ◌∷◌, ◌++◌, Bool, true, false, ◌≡◌, refl, eqb, length, Option, None, Some, Result, Ok, Err, IsErr, IsErrAnd}
 use Rattle.std.proofs.Common.{append_assoc, ap, sym, ◌∙◌, subst, arith}
 use Rattle.meaning.specs.Basics.{pick}
 use Rattle.meaning.specs.Told.{Edition}
@@ -13,10 +13,8 @@ use Rattle.write_rows.specs.Bodies.{Body, halt, body, on_body, row_body, body_of
 use Rattle.laws_steps.specs.Rows.{cells_at}
 use Rattle.write_rows.specs.Rooms.{rows_of, own_among, NotAmong, AllLead, Closes, Needs}
 use Rattle.write_rows.specs.Stages.{body_at, RowTaken, TriedIs, Onward, AdvanceIs, Beyond, after_needed}
-use Rattle.write_rows.specs.declared.advance.Tried.{Tried}
-use Rattle.write_rows.specs.declared.advance.Tried.TheVariants.{To, Other}
-use Rattle.write_rows.specs.declared.advance.Advance.{Advance}
-use Rattle.write_rows.specs.declared.advance.Advance.TheVariants.{Go, Stuck}
+use Rattle.write_rows.specs.declared.advance.Onto.{Onto}
+use Rattle.write_rows.specs.declared.advance.Misfit.{Misfit}
 use Rattle.write_rows.specs.Among.{find_rows, hit_leads, level_hit}
 use Rattle.write_rows.specs.Stands.{fits_own, body_closes, body_lost}
 
@@ -46,30 +44,43 @@ module _ {edition : Edition} {pool rows : List ℕ} {i : ℕ} {st : State} {k : 
   pub onward_stuck : {j : ℕ} → body_at edition pool rows k st₁ ≡ halt j → body_at edition pool rows i st ≡ halt j
   onward_stuck b = a.onto.is ∙ ap (on_body a.onto.bytes) b
 
-  pub advance_then : (st₂ : State) (m₂ : List ℕ) (r : Advance) → AdvanceIs edition pool rows k st₁ st₂ m₁ p₁ r m₂ → AdvanceIs edition pool rows i st st₂ m at r m₂
-  advance_then st₂ m₂ (Go n p) b = onward_then b
-  advance_then st₂ m₂ (Stuck j) b = onward_stuck b
+  pub advance_then : (st₂ : State) (m₂ : List ℕ) (r : Result Onto Misfit) → AdvanceIs edition pool rows k st₁ st₂ m₁ p₁ r m₂ → AdvanceIs edition pool rows i st st₂ m at r m₂
+  advance_then st₂ m₂ (Ok onto) b = onward_then b
+  advance_then st₂ m₂ (Err misfit) b = onward_stuck b
 
-pub beyond : (edition : Edition) (pool rows : List ℕ) (k : ℕ) (st st₁ : State) (m : List ℕ) (at : ℕ) (r : Advance) (m₁ : List ℕ) {i : ℕ} → i < k → AdvanceIs edition pool rows k st st₁ m at r m₁ → Beyond i r
-beyond edition pool rows k st st₁ m at (Go n p) m₁ h s = omega (arith, s.later)
-beyond edition pool rows k st st₁ m at (Stuck j) m₁ h s = tt
+pub beyond : (edition : Edition) (pool rows : List ℕ) (k : ℕ) (st st₁ : State) (m : List ℕ) (at : ℕ) (r : Result Onto Misfit) (m₁ : List ℕ) {i : ℕ} → i < k → AdvanceIs edition pool rows k st st₁ m at r m₁ → Beyond i r
+beyond edition pool rows k st st₁ m at (Ok onto) m₁ h s = omega (arith, s.later)
+beyond edition pool rows k st st₁ m at (Err misfit) m₁ h s = tt
 
 -- to the same state, said otherwise
 pub leading : {edition : Edition} {pool rows : List ℕ} {i : ℕ} {st : State} {k : ℕ} {st₁ st₂ : State} {before : List ℕ} {at : ℕ} {after : List ℕ} {p : ℕ} → st₁ ≡ st₂ → Onward edition pool rows i st k st₁ before at after p → Onward edition pool rows i st k st₂ before at after p
 leading {edition} {pool} {rows} {i} {st} {k} {before = before} {at = at} {after = after} {p = p} q a = subst (λ (s : State). Onward edition pool rows i st k s before at after p) q a
 
 -- the same by the answer
-pub advance_as : (edition : Edition) (pool rows : List ℕ) (i : ℕ) (st st₁ : State) (before : List ℕ) (at : ℕ) (after : List ℕ) {r r₁ : Advance} → r ≡ r₁ → AdvanceIs edition pool rows i st st₁ before at r after → AdvanceIs edition pool rows i st st₁ before at r₁ after
-advance_as edition pool rows i st st₁ before at after q s = subst (λ (x : Advance). AdvanceIs edition pool rows i st st₁ before at x after) q s
+pub advance_as : (edition : Edition) (pool rows : List ℕ) (i : ℕ) (st st₁ : State) (before : List ℕ) (at : ℕ) (after : List ℕ) {r r₁ : Result Onto Misfit} → r ≡ r₁ → AdvanceIs edition pool rows i st st₁ before at r after → AdvanceIs edition pool rows i st st₁ before at r₁ after
+advance_as edition pool rows i st st₁ before at after q s = subst (λ (x : Result Onto Misfit). AdvanceIs edition pool rows i st st₁ before at x after) q s
 
-pub tried_as : (l : List Move) (level : ℕ) (pool rows : List ℕ) (i : ℕ) (before : List ℕ) (at : ℕ) (after : List ℕ) {r r₁ : Tried} → r ≡ r₁ → TriedIs l level pool rows i before at r after → TriedIs l level pool rows i before at r₁ after
-tried_as l level pool rows i before at after q t = subst (λ (x : Tried). TriedIs l level pool rows i before at x after) q t
+pub tried_as : (l : List Move) (level : ℕ) (pool rows : List ℕ) (i : ℕ) (before : List ℕ) (at : ℕ) (after : List ℕ) {r r₁ : Option ℕ} → r ≡ r₁ → TriedIs l level pool rows i before at r after → TriedIs l level pool rows i before at r₁ after
+tried_as l level pool rows i before at after q t = subst (λ (x : Option ℕ). TriedIs l level pool rows i before at x after) q t
+
+-- a row that fits nowhere, handed up
+pub handed_up : {T : Type 0} (r : Result T Misfit) {misfit : Misfit} → IsErr r × IsErrAnd r (λ e. e ≡ misfit) → Err misfit ≡ r
+handed_up (Ok x) q = absurd q.1
+handed_up (Err e) q = ap Err (sym q.1)
+
+-- what had to stand in row i stood there
+pub needed_beyond : (i : ℕ) (t : Option ℕ) {r : Result Onto Misfit} → r ≡ after_needed i t → Beyond i r
+needed_beyond i t q = subst (Beyond i) (sym q) (by t)
+  where
+    by : (t : Option ℕ) → Beyond i (after_needed i t)
+    by (Some p) = omega arith
+    by None = tt
 
 -- memory that a row which stands elsewhere left as it was
 pub laid_from : {before after : List ℕ} {at : ℕ} {bytes m : List ℕ} {p : ℕ} → after ≡ before → Laid after at bytes m p → Laid before at bytes m p
 laid_from {at = at} {bytes = bytes} {m = m} {p = p} q l = subst (λ (x : List ℕ). Laid x at bytes m p) q l
 
-pub tried_from : (l : List Move) (level : ℕ) (pool rows : List ℕ) (i : ℕ) {before after : List ℕ} (at : ℕ) (t : Tried) (m : List ℕ) → after ≡ before → TriedIs l level pool rows i after at t m → TriedIs l level pool rows i before at t m
+pub tried_from : (l : List Move) (level : ℕ) (pool rows : List ℕ) (i : ℕ) {before after : List ℕ} (at : ℕ) (t : Option ℕ) (m : List ℕ) → after ≡ before → TriedIs l level pool rows i after at t m → TriedIs l level pool rows i before at t m
 tried_from l level pool rows i at t m q x = subst (λ (y : List ℕ). TriedIs l level pool rows i y at t m) q x
 
 pub layable_from : {before after : List ℕ} {at : ℕ} → after ≡ before → Layable before at → Layable after at
@@ -141,9 +152,9 @@ module _ (edition : Edition) (pool rows : List ℕ) {i : ℕ} (st : State) {l : 
   pub needed_lost : NotAmong l st.level (cells_at pool rows i) → body_at edition pool rows i st ≡ halt i
   needed_lost x = lost_on edition pool rows st w.rows x w.lost
 
-pub needed_is : (edition : Edition) (pool rows : List ℕ) (i : ℕ) (st : State) {l : List Move} {n : Next} → Needs edition st l n → (before : List ℕ) (at : ℕ) (t : Tried) (after : List ℕ) {r : Advance} → TriedIs l st.level pool rows i before at t after → r ≡ after_needed i t → AdvanceIs edition pool rows i st (go n st) before at r after
+pub needed_is : (edition : Edition) (pool rows : List ℕ) (i : ℕ) (st : State) {l : List Move} {n : Next} → Needs edition st l n → (before : List ℕ) (at : ℕ) (t : Option ℕ) (after : List ℕ) {r : Result Onto Misfit} → TriedIs l st.level pool rows i before at t after → r ≡ after_needed i t → AdvanceIs edition pool rows i st (go n st) before at r after
 needed_is edition pool rows i st {l} {n} w before at t after x q = advance_as edition pool rows i st (go n st) before at after (sym q) (by t x)
   where
-    by : (t : Tried) → TriedIs l st.level pool rows i before at t after → AdvanceIs edition pool rows i st (go n st) before at (after_needed i t) after
-    by (To p) y = needed_on edition pool rows st w y
-    by Other y = needed_lost edition pool rows st w y.1
+    by : (t : Option ℕ) → TriedIs l st.level pool rows i before at t after → AdvanceIs edition pool rows i st (go n st) before at (after_needed i t) after
+    by (Some p) y = needed_on edition pool rows st w y
+    by None y = needed_lost edition pool rows st w y.1

@@ -1,6 +1,6 @@
 -- What a stage of the writer promises, by the row ahead of it.
-use Rattle.std.specs.Prelude.{ℕ, ◌+◌, ◌≤◌, ◌<◌, List, [], ◌∷◌, ◌++◌, false, ◌⊎◌, ◌≡◌, length}
-use Rattle.meaning.specs.Editions.{state, parameters, State, Move, no_code}
+use Rattle.std.specs.Prelude.{ℕ, ◌+◌, ◌≤◌, ◌<◌, List, [], ◌∷◌, ◌++◌, false, ◌≡◌, length, Option, None, Some, Result, Ok, Err}
+use Rattle.meaning.specs.Editions.{state, parameters, State, Move}
 use Rattle.meaning.specs.Reading.{Row, hit}
 use Rattle.meaning.specs.Writing.{Cell, cell, broken, lead, write_value, opens_of}
 use Rattle.table.specs.Rows.{row_with, u32_most, RowAhead, viewed}
@@ -11,10 +11,8 @@ use Rattle.write_rows.specs.Bodies.{Body, halt, body_of, opens_number, BodyOnto}
 use Rattle.laws_steps.specs.Rows.{cells_at}
 use Rattle.write_rows.specs.Rooms.{own_among, NotAmong}
 use Rattle.table.specs.declared.rows.Ahead.{Ahead}
-use Rattle.write_rows.specs.declared.advance.Tried.{Tried}
-use Rattle.write_rows.specs.declared.advance.Tried.TheVariants.{To, Other}
-use Rattle.write_rows.specs.declared.advance.Advance.{Advance}
-use Rattle.write_rows.specs.declared.advance.Advance.TheVariants.{Go, Stuck}
+use Rattle.write_rows.specs.declared.advance.Onto.{Onto}
+use Rattle.write_rows.specs.declared.advance.Misfit.{Misfit}
 
 -- the row ahead is not of this kind and level
 abbrev pub NotOf : ℕ → ℕ → List Cell → Type 0
@@ -22,11 +20,16 @@ NotOf kind level [] = Unit {0}
 NotOf kind level (broken ∷ cs) = Unit {0}
 NotOf kind level (cell row ∷ cs) = row.kind ≡ kind → row.level ≡ level → ⊥
 
-pub record SoughtIs (pool rows : List ℕ) (i kind level : ℕ) (r : Ahead) : Type 0 where
+-- or it is r
+pub record IsSought (pool rows : List ℕ) (i kind level : ℕ) (r : Ahead) : Type 0 where
   pub ordered : r.start ≤ r.end
   pub inside : r.end ≤ length pool
   pub short : r.end ≤ r.start + u32_most
-  pub is : ((r.kind ≡ kind) × RowAhead pool rows i (row_with kind level (viewed pool r))) ⊎ ((r.kind ≡ 0) × NotOf kind level (cells_at pool rows i))
+  pub row : RowAhead pool rows i (row_with kind level (viewed pool r))
+
+abbrev pub SoughtIs : List ℕ → List ℕ → ℕ → ℕ → ℕ → Option Ahead → Type 0
+SoughtIs pool rows i kind level None = NotOf kind level (cells_at pool rows i)
+SoughtIs pool rows i kind level (Some r) = IsSought pool rows i kind level r
 
 -- One row, by its own move among some
 
@@ -43,17 +46,16 @@ pub record StageRequires (rows : List ℕ) (i : ℕ) (part : List ℕ) (at : ℕ
   pub inside : i ≤ room_of rows
   pub layable : Layable part at
 
--- and what one asks that is told its row's kind and code
-pub record TakeRequires (rows : List ℕ) (i kind code : ℕ) (part : List ℕ) (at : ℕ) : Type 0 where
+-- and what one asks that is told its row's kind
+pub record TakeRequires (rows : List ℕ) (i kind : ℕ) (part : List ℕ) (at : ℕ) : Type 0 where
   pub inside : i ≤ room_of rows
   pub inner : 3 ≤ kind
-  pub coded : code ≤ no_code
   pub layable : Layable part at
 
 -- the row ahead was laid, or it has no move among these and nothing was
-abbrev pub TriedIs : List Move → ℕ → List ℕ → List ℕ → ℕ → List ℕ → ℕ → Tried → List ℕ → Type 0
-TriedIs l level pool rows i before at (To p) after = RowTaken l level pool rows i before at after p
-TriedIs l level pool rows i before at Other after = (after ≡ before) × NotAmong l level (cells_at pool rows i)
+abbrev pub TriedIs : List Move → ℕ → List ℕ → List ℕ → ℕ → List ℕ → ℕ → Option ℕ → List ℕ → Type 0
+TriedIs l level pool rows i before at (Some p) after = RowTaken l level pool rows i before at after p
+TriedIs l level pool rows i before at None after = (after ≡ before) × NotAmong l level (cells_at pool rows i)
 
 -- Stages, by the body of the envelope
 
@@ -67,19 +69,19 @@ pub record Onward (edition : Edition) (pool rows : List ℕ) (i : ℕ) (st : Sta
   pub later : i ≤ k
   pub inside : k ≤ room_of rows
 
-abbrev pub AdvanceIs : Edition → List ℕ → List ℕ → ℕ → State → State → List ℕ → ℕ → Advance → List ℕ → Type 0
-AdvanceIs edition pool rows i st st₁ before at (Go k p) after = Onward edition pool rows i st k st₁ before at after p
-AdvanceIs edition pool rows i st st₁ before at (Stuck j) after = body_at edition pool rows i st ≡ halt j
+abbrev pub AdvanceIs : Edition → List ℕ → List ℕ → ℕ → State → State → List ℕ → ℕ → Result Onto Misfit → List ℕ → Type 0
+AdvanceIs edition pool rows i st st₁ before at (Ok onto) after = Onward edition pool rows i st onto.row st₁ before at after onto.at
+AdvanceIs edition pool rows i st st₁ before at (Err misfit) after = body_at edition pool rows i st ≡ halt misfit.row
 
 -- and rows were taken
-abbrev pub Beyond : ℕ → Advance → Type 0
-Beyond i (Go k p) = i < k
-Beyond i (Stuck j) = Unit {0}
+abbrev pub Beyond : ℕ → Result Onto Misfit → Type 0
+Beyond i (Ok onto) = i < onto.row
+Beyond i (Err misfit) = Unit {0}
 
 -- what has to stand in row i
-abbrev pub after_needed : ℕ → Tried → Advance
-after_needed i (To p) = Go (i + 1) p
-after_needed i Other = Stuck i
+abbrev pub after_needed : ℕ → Option ℕ → Result Onto Misfit
+after_needed i (Some p) = Ok (record { row = i + 1; at = p })
+after_needed i None = Err (record { row = i })
 
 -- between two parameters
 abbrev pub at_parameters : State

@@ -6,10 +6,9 @@ ghost use Rattle.write_rows.specs.Laying.{Layable, Laid};
 ghost use Rattle.write_rows.specs.Codes.{block_bytes};
 ghost use Rattle.write_rows.specs.Stages.{StageRequires, TriedIs};
 
-use crate::advance::Tried;
 use crate::ahead::{look_for, text};
-use crate::lay::{copy, put, put_four, put_two};
-use table::kinds::{ANY_BYTES, ANY_TEXT};
+use crate::lay::{copy, put};
+use table::kinds::Kind;
 use values::text::Rule;
 
 // "16, 17, 19 with a length of 1, 2, 4 bytes .. and that many bytes": lays the code of the shortest length form that the bytes
@@ -26,39 +25,43 @@ fn block(bytes: &[u8], output: &mut [u8], at: usize) -> usize
     }
     if many < 65536 {
         let p = put(output, at, 0x17);
-        let q = put_two(many, output, p);
+        let q = copy(&(many as u16).to_be_bytes(), output, p);
         return copy(bytes, output, q);
     }
     let p = put(output, at, 0x19);
-    let q = put_four(many, output, p);
+    let q = copy(&(many as u32).to_be_bytes(), output, p);
     copy(bytes, output, q)
 }
 
 // "Any-value: 14 and a text, or .. that many bytes": tries row i as one of this level, and lays it.
 // Its text is a note. Where it is another row, or of the text's kind with a byte that no note has, nothing is laid.
-pub fn any(rows: &[u32], pool: &[u8], i: usize, level: u32, output: &mut [u8], at: usize) -> Tried
+// It is put in place where it is called, so that a level that is a number there stays one.
+#[inline(always)]
+pub fn any(
+    rows: &[u32],
+    pool: &[u8],
+    i: usize,
+    level: u32,
+    output: &mut [u8],
+    at: usize,
+) -> Option<usize>
     requires { StageRequires rows.now i output.old at }
     ensures { (n : Next) → TriedIs (any_values n) level pool.now rows.now i output.old at result output.new }
 {
-    let r = look_for(rows, pool, i, ANY_BYTES, level);
-    if r.kind == 0 {
-        return text(rows, pool, i, ANY_TEXT, Rule::Note, level, 0x14, output, at);
-    }
+    let Some(r) = look_for(rows, pool, i, Kind::AnyBytes, level) else {
+        return text(
+            rows,
+            pool,
+            i,
+            Kind::AnyText,
+            Rule::Note,
+            level,
+            Some(0x14),
+            output,
+            at,
+        );
+    };
     let start = r.start;
     let end = r.end;
-    Tried::To(block(&pool[start..end], output, at))
-}
-
-// The same of a transport behaviour, whose value has level 0: called from one place each, both are put in place.
-pub fn any_on_top(rows: &[u32], pool: &[u8], i: usize, output: &mut [u8], at: usize) -> Tried
-    requires { StageRequires rows.now i output.old at }
-    ensures { (n : Next) → TriedIs (any_values n) 0 pool.now rows.now i output.old at result output.new }
-{
-    let r = look_for(rows, pool, i, ANY_BYTES, 0);
-    if r.kind == 0 {
-        return text(rows, pool, i, ANY_TEXT, Rule::Note, 0, 0x14, output, at);
-    }
-    let start = r.start;
-    let end = r.end;
-    Tried::To(block(&pool[start..end], output, at))
+    Some(block(&pool[start..end], output, at))
 }

@@ -1,52 +1,33 @@
 // A date, whose kind and length pick its code.
 ghost use Rattle.std.specs.Prelude.{◌≡◌, ◌++◌};
 ghost use Rattle.meaning.specs.Editions.{Next, shared_date, own_dates};
+ghost use Rattle.table.specs.Kinds.{number_of};
 ghost use Rattle.table.specs.Told.{edition_of};
-ghost use Rattle.write_rows.specs.Codes.{code_in_b, code_in_d, date_code};
+ghost use Rattle.write_rows.specs.Codes.{date_code};
 ghost use Rattle.write_rows.specs.Stages.{StageRequires, TriedIs};
 
-use crate::advance::Tried;
 use crate::lay::{copy, put};
 use crate::value::date_ok;
-use table::kinds::{DATE_ABSOLUTE, DATE_BACKWARD};
+use date::Form;
+use table::kinds::Kind;
 use table::rows::look_ahead;
 use table::told::Edition;
 
-// "Codes in B: 20 absolute, 21 absolute with designator." Takes a row's kind, and whether its bytes have a designator's length.
-// Answers the code; 0 where a row of this kind is no date of B.
-fn code_in_b(kind: u32, designated: bool) -> u32
-    ensures { result ≡ code_in_b kind designated }
+// "Codes in B: 20 absolute, 21 absolute with designator. In D: 20, 21, 22 absolute, forward, backward; 24, 25, 26 the same with
+// designator." Takes a row's kind, whether its bytes have a designator's length, and the edition. Answers the date's code there; None
+// where a row of this kind is no date there.
+fn date_code(kind: Kind, designated: bool, edition: Edition) -> Option<u8>
+    ensures { result ≡ date_code (edition_of edition) (number_of kind) designated }
 {
-    if kind != DATE_ABSOLUTE {
-        return 0;
-    }
-    if designated {
-        return 0x21;
-    }
-    0x20
-}
-
-// "In D: 20, 21, 22 absolute, forward, backward; 24, 25, 26 the same with designator." Takes the same.
-// Answers the code; 0 where a row of this kind is no date.
-fn code_in_d(kind: u32, designated: bool) -> u32
-    ensures { result ≡ code_in_d kind designated }
-{
-    if (kind < DATE_ABSOLUTE) | (DATE_BACKWARD < kind) {
-        return 0;
-    }
-    if designated {
-        return kind + 0x1f;
-    }
-    kind + 0x1b
-}
-
-// Takes the same, and the edition. Answers the date's code there; 0 where a row of this kind is no date there.
-fn date_code(kind: u32, designated: bool, edition: Edition) -> u32
-    ensures { result ≡ date_code (edition_of edition) kind designated }
-{
-    match edition {
-        Edition::B => code_in_b(kind, designated),
-        Edition::D => code_in_d(kind, designated),
+    match (edition, kind, designated) {
+        (_, Kind::DateAbsolute, false) => Some(0x20),
+        (Edition::B, Kind::DateAbsolute, true) => Some(0x21),
+        (Edition::D, Kind::DateForward, false) => Some(0x21),
+        (Edition::D, Kind::DateBackward, false) => Some(0x22),
+        (Edition::D, Kind::DateAbsolute, true) => Some(0x24),
+        (Edition::D, Kind::DateForward, true) => Some(0x25),
+        (Edition::D, Kind::DateBackward, true) => Some(0x26),
+        _ => None,
     }
 }
 
@@ -60,25 +41,30 @@ pub fn date(
     edition: Edition,
     output: &mut [u8],
     at: usize,
-) -> Tried
+) -> Option<usize>
     requires { StageRequires rows.now i output.old at }
     ensures { (n : Next) → TriedIs (shared_date n ++ own_dates (edition_of edition) n) level pool.now rows.now i output.old at result output.new }
 {
-    let r = look_ahead(rows, pool, i);
+    let r = look_ahead(rows, pool, i)?;
     if r.level != level {
-        return Tried::Other;
+        return None;
     }
+    let Ok(kind) = Kind::try_from(r.kind) else {
+        return None;
+    };
     let start = r.start;
     let end = r.end;
     let bytes = &pool[start..end];
     let designated = bytes.len() == 10;
-    let code = date_code(r.kind, designated, edition);
-    if code == 0 {
-        return Tried::Other;
+    let code = date_code(kind, designated, edition)?;
+    let absolute = r.kind == Kind::DateAbsolute.number();
+    let form = Form {
+        absolute,
+        designated,
+    };
+    if date_ok(bytes, form) {
+        let p = put(output, at, code);
+        return Some(copy(bytes, output, p));
     }
-    if date_ok(bytes, r.kind == DATE_ABSOLUTE, designated) {
-        let p = put(output, at, code as u8);
-        return Tried::To(copy(bytes, output, p));
-    }
-    Tried::Other
+    None
 }

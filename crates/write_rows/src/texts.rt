@@ -1,14 +1,17 @@
 // Texts one behind the other, and a text that may be left out: all of them are lines.
 ghost use Rattle.std.specs.Prelude.{Bool};
 ghost use Rattle.meaning.specs.Told.{Edition};
-ghost use Rattle.meaning.specs.Editions.{Room, State, state, no_code};
+ghost use Rattle.meaning.specs.Editions.{Room, State, state};
+ghost use Rattle.table.specs.Codes.{code_number};
+ghost use Rattle.table.specs.Kinds.{number_of};
 ghost use Rattle.write_rows.specs.Rooms.{TextsIn, OptionalIn};
 ghost use Rattle.write_rows.specs.Stages.{TakeRequires, Onward};
 
-use crate::advance::{Onto, Tried};
+use crate::advance::Onto;
 use crate::ahead::text;
 use crate::lay::put;
-use table::codes::{CLOSING, NO_CODE};
+use table::codes::CLOSING;
+use table::kinds::Kind;
 use values::text::Rule;
 
 // "In a list of texts, 01 where an item would begin ends the list": lays every text of this kind and level from row `from` on,
@@ -17,27 +20,24 @@ pub fn texts(
     rows: &[u32],
     pool: &[u8],
     from: usize,
-    kind: u32,
+    kind: Kind,
     level: u32,
     output: &mut [u8],
     at: usize,
 ) -> Onto
-    requires { TakeRequires rows.now from kind no_code output.old at }
-    ensures { (edition : Edition) (room : Room) (single : Bool) (st₁ : State) → TextsIn edition room kind level single st₁ →
+    requires { TakeRequires rows.now from (number_of kind) output.old at }
+    ensures { (edition : Edition) (room : Room) (single : Bool) (st₁ : State) → TextsIn edition room (number_of kind) level single st₁ →
         Onward edition pool.now rows.now from (state room level single) result.row st₁ output.old at output.new result.at }
 {
     let mut i = from;
     let mut p = at;
-    loop {
-        let t = text(rows, pool, i, kind, Rule::Line, level, NO_CODE, output, p);
-        let Tried::To(q) = t else {
-            return Onto {
-                row: i,
-                at: put(output, p, CLOSING),
-            };
-        };
+    while let Some(q) = text(rows, pool, i, kind, Rule::Line, level, None, output, p) {
         i += 1;
         p = q;
+    }
+    Onto {
+        row: i,
+        at: put(output, p, CLOSING),
     }
 }
 
@@ -47,20 +47,19 @@ pub fn optional(
     rows: &[u32],
     pool: &[u8],
     i: usize,
-    kind: u32,
+    kind: Kind,
     level: u32,
-    code: u32,
+    code: Option<u8>,
     output: &mut [u8],
     at: usize,
 ) -> Onto
-    requires { TakeRequires rows.now i kind code output.old at }
-    ensures { (edition : Edition) (room room₁ : Room) (single : Bool) → OptionalIn edition room room₁ kind code →
+    requires { TakeRequires rows.now i (number_of kind) output.old at }
+    ensures { (edition : Edition) (room room₁ : Room) (single : Bool) → OptionalIn edition room room₁ (number_of kind) (code_number code) →
         Onward edition pool.now rows.now i (state room level single) result.row (state room₁ level single) output.old at output.new result.at }
 {
     let t = text(rows, pool, i, kind, Rule::Line, level, code, output, at);
-    let Tried::To(p) = t else {
-        return Onto { row: i, at: at };
+    let Some(p) = t else {
+        return Onto { row: i, at };
     };
-    let next = i + 1;
-    Onto { row: next, at: p }
+    Onto { row: i + 1, at: p }
 }

@@ -4,6 +4,7 @@ ghost use Rattle.meaning.specs.Bytes.{text_ok, number_ok, date_ok, date_checks};
 ghost use Rattle.values.specs.Stages.{rule_of};
 ghost use Rattle.date.specs.Dates.{reaching};
 
+use date::Form;
 use values::Value;
 use values::text::Rule;
 
@@ -24,36 +25,21 @@ pub fn number_ok(bytes: &[u8]) -> bool
     ensures { result ≡ number_ok 0 true bytes.now }
 {
     let end = bytes.len();
-    let r = values::number::take(bytes, end, 0);
-    let Value::Is {
-        kind: _,
-        start: _,
-        length: _,
-        after,
-    } = r
-    else {
+    let Value::Is { after, .. } = values::number::take(bytes, end, 0) else {
         return false;
     };
     end <= after
 }
 
-// Answers whether the bytes are a date of this reach, with a designator or without. Those of another length are none, and the reader's
-// own stage looks at the others.
-pub fn date_ok(bytes: &[u8], absolute: bool, designated: bool) -> bool
-    ensures { result ≡ date_ok (date_checks (reaching absolute) designated) [] bytes.now }
+// Answers whether the bytes are a date of this form. Those of another length are none, and the reader's own stage looks at the others.
+pub fn date_ok(bytes: &[u8], form: Form) -> bool
+    ensures { result ≡ date_ok (date_checks (reaching form.absolute) form.designated) [] bytes.now }
 {
     let end = bytes.len();
-    if end != date::length_of(designated) {
+    if end != date::length_of(form.designated) {
         return false;
     }
-    let r = date::bytes(bytes, end, 0, 0, absolute, designated);
-    let Value::Is {
-        kind: _,
-        start: _,
-        length: _,
-        after,
-    } = r
-    else {
+    let Ok(after) = date::bytes(bytes, end, 0, form) else {
         return false;
     };
     end <= after

@@ -4,10 +4,10 @@ use native.Mathlib.Omega.{arith}
 use Rattle.table.proofs.rows.look_ahead.Goals as goal
 
 pub returns-then-room-i : goal.returns-then-room-i
-returns-then-room-i c = let a = c.args in ahead_end a.pool.now a.rows.now a.i (omega arith) c.nothing.ensures
+returns-then-room-i c = let a = c.args in ahead_end a.pool.now a.rows.now a.i (omega arith)
 
 pub returns-then-pool-end : goal.returns-then-pool-end
-returns-then-pool-end c = let a = c.args in ahead_out a.pool.now a.rows.now (omega arith) c.row_at-r.ensures c.if-pool-end.true c.nothing-then-pool-end.ensures
+returns-then-pool-end c = let a = c.args in ahead_out a.pool.now a.rows.now (omega arith) c.row_at-r.ensures c.if-pool-end.true
 
 pub returns : goal.returns
 returns c = let a = c.args in ahead_in a.pool.now a.rows.now (omega arith) c.row_at-r.ensures c.if-pool-end.false

@@ -10,9 +10,9 @@ use lib.ListN.{length}
 use mathlib.Core.Path.{◌≡◌}
 use Rattle.write_objects.proofs.agents.agents.Given as goal
 
-abbrev pub invariant-loop-j : goal.invariant-loop-j
-invariant-loop-j l =
-    (l.i ≤ room_of l.rows) × (1 ≤ l.level) × (l.level ≤ level_most + 1) × Layable l.output l.p × (length l.output ≡ length l.initial.output) × Onward (edition_of l.edition) l.pool l.rows l.from (agents_at 1 l.single) l.i (agents_at l.level l.single) l.initial.output l.at l.output l.p
+abbrev pub invariant-loop-turn : goal.invariant-loop-turn
+invariant-loop-turn l =
+    (l.here.row ≤ room_of l.rows) × (1 ≤ l.level) × (l.level ≤ level_most + 1) × Layable l.output l.here.at × (length l.output ≡ length l.initial.output) × Onward (edition_of l.edition) l.pool l.rows l.from (agents_at 1 l.single) l.here.row (agents_at l.level l.single) l.initial.output l.at l.output l.here.at
 
-abbrev pub decreases-loop-j : goal.decreases-loop-j
-decreases-loop-j l = rows_and_levels l.rows l.i l.level
+abbrev pub decreases-loop-turn : goal.decreases-loop-turn
+decreases-loop-turn l = rows_and_levels l.rows l.here.row l.level

@@ -2,10 +2,9 @@
 use Rattle.meaning.specs.Editions.{state, parameters, after_date, after_from, after_id, after_via}
 use Rattle.table.specs.Told.{edition_of}
 use Rattle.write_rows.specs.Onward.{onward_layable, onward_then, advance_then}
-use Rattle.write_objects.proofs.Receiving.{extras_when, extra_small, received_closes}
+use Rattle.write_objects.proofs.Receiving.{extras_when, received_closes}
 use Rattle.write_objects.proofs.Rooms.{received_from_lem, received_id_lem, received_via_lem}
 use mathlib.Core.Bool.{false}
-use mathlib.Core.Path.{ap}
 use native.Mathlib.Omega.{arith}
 use Rattle.write_objects.proofs.received.behind_date.Goals as goal
 
@@ -13,14 +12,14 @@ pub optional-b-requires : goal.optional-b-requires
 optional-b-requires c =
     let d = edition_of c.args.edition in
     let a = c.optional-a.ensures d after_date after_from false (received_from_lem d) in
-    record { inside = a.inside; inner = omega arith; coded = omega arith; layable = onward_layable a c.requires.layable }
+    record { inside = a.inside; inner = omega arith; layable = onward_layable a c.requires.layable }
 
 pub optional-c-requires : goal.optional-c-requires
 optional-c-requires c =
     let d = edition_of c.args.edition in
     let a = c.optional-a.ensures d after_date after_from false (received_from_lem d) in
     let b = c.optional-b.ensures d after_from after_id false (received_id_lem d) in
-    record { inside = b.inside; inner = omega arith; coded = omega arith; layable = onward_layable b (onward_layable a c.requires.layable) }
+    record { inside = b.inside; inner = omega arith; layable = onward_layable b (onward_layable a c.requires.layable) }
 
 pub put-requires : goal.put-requires
 put-requires c =
@@ -36,22 +35,22 @@ some_extras-requires c =
     let a = c.optional-a.ensures d after_date after_from false (received_from_lem d) in
     let b = c.optional-b.ensures d after_from after_id false (received_id_lem d) in
     let v = c.optional-c.ensures d after_id after_via false (received_via_lem d) in
-    record { inside = v.inside; inner = omega arith; coded = extra_small (ap edition_of c.in-D.is) c.received_extra.ensures; layable = onward_layable v (onward_layable b (onward_layable a c.requires.layable)) }
+    record { inside = v.inside; layable = onward_layable v (onward_layable b (onward_layable a c.requires.layable)) }
 
-pub returns-in-B : goal.returns-in-B
-returns-in-B c =
+pub returns-in_default : goal.returns-in_default
+returns-in_default c =
     let d = edition_of c.args.edition in
     let a = c.optional-a.ensures d after_date after_from false (received_from_lem d) in
     let b = c.optional-b.ensures d after_from after_id false (received_id_lem d) in
     let v = c.optional-c.ensures d after_id after_via false (received_via_lem d) in
     let small = c.requires.layable.small in
-    onward_then small (onward_then small (onward_then small a b) v) (received_closes d _ _ (ap edition_of c.in-B.is) v.inside c.put.ensures)
+    onward_then small (onward_then small (onward_then small a b) v) (received_closes d _ _ c.in_default.ensures v.inside c.put.ensures)
 
-pub returns-in-D : goal.returns-in-D
-returns-in-D c =
+pub returns : goal.returns
+returns c =
     let d = edition_of c.args.edition in
     let a = c.optional-a.ensures d after_date after_from false (received_from_lem d) in
     let b = c.optional-b.ensures d after_from after_id false (received_id_lem d) in
     let v = c.optional-c.ensures d after_id after_via false (received_via_lem d) in
     let small = c.requires.layable.small in
-    advance_then small (onward_then small (onward_then small a b) v) (state parameters 0 false) _ c.some_extras.result (c.some_extras.ensures d after_via false (state parameters 0 false) (extras_when (ap edition_of c.in-D.is) c.received_extra.ensures))
+    advance_then small (onward_then small (onward_then small a b) v) (state parameters 0 false) _ c.some_extras.result (c.some_extras.ensures d after_via false (state parameters 0 false) (extras_when d c.in-Some.ensures))

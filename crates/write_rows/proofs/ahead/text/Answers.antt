@@ -2,14 +2,17 @@
 use Rattle.meaning.specs.Editions.{on◌▸◌▸◌▸◌}
 use Rattle.meaning.specs.Editions as editions
 use Rattle.meaning.specs.Writing.{valid, write_value}
+use Rattle.table.specs.Codes.{code_number}
+use Rattle.table.specs.Kinds.{number_of}
 use Rattle.values.specs.Stages.{rule_of}
 use Rattle.write_rows.specs.Laying.{laid_layable, laid_then}
-use Rattle.write_rows.specs.Among.{sought_none, sought_not, sought_taken}
+use Rattle.write_rows.specs.Among.{cells_none, sought_none, sought_taken}
+use Rattle.write_rows.specs.Onward.{tried_as}
 use mathlib.Core.Path.{◌∙◌, refl, sym}
 use Rattle.write_rows.proofs.ahead.text.Goals as goal
 
-pub returns-then-r-eq0 : goal.returns-then-r-eq0
-returns-then-r-eq0 c n = (refl, sought_not (on c.args.code ▸ c.args.kind ▸ editions.text (rule_of c.args.rule) ▸ n) c.args.level refl c.look_for-r.ensures c.requires.inner c.if-r-eq0.true)
+pub returns-in_err-r : goal.returns-in_err-r
+returns-in_err-r c n = tried_as _ _ _ _ _ _ _ _ (sym c.from_residual.ensures) (refl, cells_none (on code_number c.args.code ▸ number_of c.args.kind ▸ editions.text (rule_of c.args.rule) ▸ n) c.args.level refl _ c.in_err-r.ensures)
 
 pub returns-then-text_ok : goal.returns-then-text_ok
 unfolding valid write_value
@@ -17,8 +20,8 @@ returns-then-text_ok c n =
     let ok = sym c.text_ok.ensures ∙ c.if-text_ok.true in
     let coded = laid_layable c.put_code-p.ensures c.requires.layable in
     let laid = laid_then c.put_code-p.ensures c.requires.layable.small (laid_then c.copy-q.ensures coded.small c.put.ensures) in
-    sought_taken (on c.args.code ▸ c.args.kind ▸ editions.text (rule_of c.args.rule) ▸ n) c.args.level refl c.look_for-r.ensures c.requires.inner c.if-r-eq0.false ok laid
+    sought_taken (on code_number c.args.code ▸ number_of c.args.kind ▸ editions.text (rule_of c.args.rule) ▸ n) c.args.level refl c.in_ok-r.ensures c.requires.inner ok laid
 
 pub returns : goal.returns
 unfolding valid
-returns c n = (refl, sought_none (on c.args.code ▸ c.args.kind ▸ editions.text (rule_of c.args.rule) ▸ n) c.args.level refl c.look_for-r.ensures c.if-r-eq0.false (sym c.text_ok.ensures ∙ c.if-text_ok.false))
+returns c n = (refl, sought_none (on code_number c.args.code ▸ number_of c.args.kind ▸ editions.text (rule_of c.args.rule) ▸ n) c.args.level refl c.in_ok-r.ensures (sym c.text_ok.ensures ∙ c.if-text_ok.false))

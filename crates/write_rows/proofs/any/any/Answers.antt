@@ -2,20 +2,17 @@
 use Rattle.meaning.specs.Bytes.{note}
 use Rattle.meaning.specs.Editions.{any_values, text, on◌▸◌▸◌▸◌}
 use Rattle.meaning.specs.Kinds.{any_bytes, any_text}
-use Rattle.write_rows.specs.Among.{sought_away, sought_row, tried_away}
+use Rattle.write_rows.specs.Among.{tried_away}
 use Rattle.write_rows.proofs.Forms.{block_taken, view_short}
 use borrow.Author.Tests.{ne_eqb}
 use mathlib.Core.List.{[], ◌∷◌}
 use mathlib.Core.Path.{refl, sym}
-use native.Mathlib.Omega.{arith}
 use Rattle.write_rows.proofs.any.any.Goals as goal
 
-pub returns-then-r-eq0 : goal.returns-then-r-eq0
-returns-then-r-eq0 c n =
+pub returns-in_default : goal.returns-in_default
+returns-in_default c n =
     let a = c.args in
-    tried_away any_bytes a.level (on 0x14 ▸ any_text ▸ text note ▸ n ∷ []) (any_values n) (λ j h. rw (ne_eqb any_bytes j (λ q. h (sym q))) refl) a.pool.now a.rows.now a.i (sought_away c.look_for-r.ensures (omega arith) c.if-r-eq0.true) _ _ _ c.text.result (c.text.ensures n)
+    tried_away any_bytes a.level (on 0x14 ▸ any_text ▸ text note ▸ n ∷ []) (any_values n) (λ j h. rw (ne_eqb any_bytes j (λ q. h (sym q))) refl) a.pool.now a.rows.now a.i c.in_default.ensures _ _ _ c.text.result (c.text.ensures n)
 
 pub returns : goal.returns
-returns c n =
-    let sought = c.look_for-r.ensures in
-    block_taken _ n c.args.level (sought_row sought c.if-r-eq0.false) (view_short sought) c.block.ensures
+returns c n = block_taken _ n c.args.level c.in-Some.ensures.row (view_short c.in-Some.ensures) c.block.ensures

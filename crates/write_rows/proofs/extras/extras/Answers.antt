@@ -2,12 +2,13 @@
 use Rattle.meaning.specs.Kinds.{extra_key}
 use Rattle.meaning.specs.Bytes.{line}
 use Rattle.meaning.specs.Editions.{text, stay, on◌▸◌▸◌▸◌}
-use Rattle.write_rows.specs.Among.{sought_not}
+use Rattle.table.specs.Codes.{code_number}
+use Rattle.write_rows.specs.Among.{cells_none}
 use Rattle.write_rows.proofs.Lists.{extras_end}
 use mathlib.Core.Path.{refl}
 use Rattle.write_rows.proofs.extras.extras.Goals as goal
 
-pub returns-then-r-eq0 : goal.returns-then-r-eq0
-returns-then-r-eq0 c edition room single st₁ t =
-    let none = sought_not (on c.args.code ▸ extra_key ▸ text line ▸ stay t.value) c.args.level refl c.look_for-r.ensures c.requires.inner c.if-r-eq0.true in
+pub returns-in_default : goal.returns-in_default
+returns-in_default c edition room single st₁ t =
+    let none = cells_none (on code_number c.args.code ▸ extra_key ▸ text line ▸ stay t.value) c.args.level refl _ c.in_default.ensures in
     extras_end edition _ _ t none c.requires.inside c.put.ensures
