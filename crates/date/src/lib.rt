@@ -5,11 +5,10 @@ ghost use Rattle.std.specs.Prelude.{◌≡◌, List, [], true, ℕ, ◌+◌, ◌
 ghost use Rattle.meaning.specs.Basics.{pick};
 ghost use Rattle.meaning.specs.Bytes.{pair_within, passes, half, letter, is_leap, last_day, last_day_after, date_checks, take_date};
 ghost use Rattle.meaning.specs.Told.{Told, B, D};
-ghost use Rattle.laws_steps.specs.From.{from};
 ghost use Rattle.table.specs.Told.{edition_of};
 ghost use Rattle.table.specs.Kinds.{number_of};
 ghost use Rattle.table.specs.declared.kinds.Kind as declared;
-ghost use Rattle.values.specs.Stages.{Inside, Valued, Coded};
+ghost use Rattle.values.specs.Stages.{Coded, Within, ValuedAt, CodedAt, rest};
 ghost use Rattle.date.specs.Dates.{value_by, reaching, absolute_check, check_at, earlier, date_length, Passing, DateCode, dates_of};
 
 use table::answers::Fault;
@@ -34,10 +33,11 @@ struct Dated {
 }
 
 // A date from its code on.
-pub fn take(s: &[u8], end: usize, at: usize, edition: Edition) -> Value
-    requires { Inside s.now end at }
-    ensures { (t : Told) → Coded t (dates_of (edition_of edition)) 9 s.now end at result }
+pub fn take(s: &[u8], at: usize, edition: Edition) -> Value
+    requires { Within s.now at }
+    ensures { (t : Told) → CodedAt t (dates_of (edition_of edition)) 9 s.now at result }
 {
+    let end = s.len();
     if end <= at {
         return Value::Refused(Refusal::EnvelopeEnds.at(at));
     }
@@ -45,7 +45,7 @@ pub fn take(s: &[u8], end: usize, at: usize, edition: Edition) -> Value
         return Value::Refused(Refusal::DateWrong.at(at));
     };
     let first = at + 1;
-    match bytes(s, end, first, dated.form) {
+    match bytes(s, first, dated.form) {
         Ok(after) => Value::Is {
             kind: dated.kind,
             start: first,
@@ -57,12 +57,13 @@ pub fn take(s: &[u8], end: usize, at: usize, edition: Edition) -> Value
 }
 
 // The nine bytes of a date, and its designator. Answers the place behind them, or the refusal.
-pub fn bytes(s: &[u8], end: usize, at: usize, form: Form) -> Result<usize, Fault>
-    requires { Inside s.now end at }
-    ensures { (kind : declared.Kind) → Valued s.now end at (number_of kind) 0 (take_date (date_checks (reaching form.absolute) form.designated) [] (from s.now at end)) (value_by kind at result) }
+pub fn bytes(s: &[u8], at: usize, form: Form) -> Result<usize, Fault>
+    requires { Within s.now at }
+    ensures { (kind : declared.Kind) → ValuedAt s.now at (number_of kind) 0 (take_date (date_checks (reaching form.absolute) form.designated) [] (rest s.now at)) (value_by kind at result) }
 {
+    let end = s.len();
     let length = length_of(form.designated);
-    for j in passed(s, end, at, form.absolute)..length {
+    for j in passed(s, at, form.absolute)..length {
         if end - at <= j {
             return Err(Refusal::EnvelopeEnds.at(end));
         }
@@ -84,10 +85,11 @@ pub fn length_of(designated: bool) -> usize
 }
 
 // How many bytes of a date pass at a first look: all nine, where they are there and pass together, or none.
-fn passed(s: &[u8], end: usize, at: usize, absolute: bool) -> usize
-    requires { Inside s.now end at }
-    ensures { (result ≤ 9) × (at + result ≤ end) × Passing s.now at absolute result }
+fn passed(s: &[u8], at: usize, absolute: bool) -> usize
+    requires { Within s.now at }
+    ensures { (result ≤ 9) × (at + result ≤ length s.now) × Passing s.now at absolute result }
 {
+    let end = s.len();
     if end - at < 9 {
         return 0;
     }

@@ -26,3 +26,9 @@ Whole end after None = Unit {0}
 pub record LengthRead (s : List ℕ) (end at width : ℕ) (answer : Option ℕ) : Type 0 where
   pub is : high_first width 0 (from s at end) ≡ said s end (at + width) answer
   pub ends : Whole end (at + width) answer
+
+abbrev pub BlockWithin : List ℕ → ℕ → ℕ → Type 0
+BlockWithin s at width = BlockAt s (length s) at width
+
+abbrev pub LengthAt : List ℕ → ℕ → ℕ → Option ℕ → Type 0
+LengthAt s at width answer = LengthRead s (length s) at width answer

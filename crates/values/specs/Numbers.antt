@@ -46,3 +46,6 @@ Ends end at (Fails fault) = fault.at ≤ end
 pub record Counted (s : List ℕ) (end at : ℕ) (answer : Number) : Type 0 where
   pub is : tally 0 0 (take_number 0 true (from s at end)) ≡ tallied s end at answer
   pub ends : Ends end at answer
+
+abbrev pub CountedAt : List ℕ → ℕ → Number → Type 0
+CountedAt s at answer = Counted s (length s) at answer

@@ -96,3 +96,27 @@ all_text rule s at (suc n) = all_text rule s at n && text_byte rule (get_or s (a
 abbrev pub FirstBelow : List ℕ → ℕ → Option ℕ → Type 0
 FirstBelow s at None = all_text line s at 8 ≡ true
 FirstBelow s at (Some n) = (n < 8) × (all_text line s at n ≡ true) × (text_byte line (get_or s (at + n) 0) ≡ false)
+
+-- The same of a slice that is an envelope up to its declared end: where the slice ends
+
+-- the bytes from a place on
+abbrev pub rest : List ℕ → ℕ → List ℕ
+rest s at = from s at (length s)
+
+abbrev pub Within : List ℕ → ℕ → Type 0
+Within s at = Inside s (length s) at
+
+abbrev pub ValuedAt : List ℕ → ℕ → ℕ → ℕ → Taken → Value → Type 0
+ValuedAt s at kind back taken answer = Valued s (length s) at kind back taken answer
+
+abbrev pub CodedAt : Told → (Next → List Move) → ℕ → List ℕ → ℕ → Value → Type 0
+CodedAt t moves strange s at answer = Coded t moves strange s (length s) at answer
+
+abbrev pub SkippedAt : Rule → List ℕ → ℕ → ℕ → Type 0
+SkippedAt rule s at place = Skipped rule s (length s) at place
+
+abbrev pub RunAt : Rule → List ℕ → ℕ → ℕ → Type 0
+RunAt rule s at place = Run rule s (length s) at place
+
+abbrev pub LineRunAt : List ℕ → ℕ → ℕ → Type 0
+LineRunAt s at place = LineRun s (length s) at place

@@ -1,12 +1,11 @@
 // "Any-value: 14 and a text, or 16, 17, 19 with a length of 1, 2, 4 bytes (high first) and that many bytes."
-ghost use Rattle.std.specs.Prelude.{◌≡◌, ◌+◌, ◌-◌, ◌≤◌, ◌<◌, ltb};
+ghost use Rattle.std.specs.Prelude.{length, ◌≡◌, ◌+◌, ◌-◌, ◌≤◌, ◌<◌, ltb};
 ghost use Rattle.meaning.specs.Bytes.{Width, bytes_of, fewest, too_wide, take_block};
 ghost use Rattle.meaning.specs.Kinds.{any_bytes};
 ghost use Rattle.meaning.specs.Editions.{any_values};
-ghost use Rattle.laws_steps.specs.From.{from};
 ghost use Rattle.table.specs.Told.{told_of};
-ghost use Rattle.values.specs.Stages.{Inside, Valued, Coded};
-ghost use Rattle.values.specs.Blocks.{BlockAt, IsWidth, LengthRead};
+ghost use Rattle.values.specs.Stages.{Within, ValuedAt, CodedAt, rest};
+ghost use Rattle.values.specs.Blocks.{IsWidth, BlockWithin, LengthAt};
 
 use crate::bytes::{four_bytes, two_bytes};
 use crate::text::Rule;
@@ -17,46 +16,48 @@ use table::refusals::Refusal;
 use table::told::{Strictness, Told};
 
 // An any-value from its code on.
-pub fn take(s: &[u8], end: usize, at: usize, told: Told) -> Value
-    requires { Inside s.now end at }
-    ensures { Coded (told_of told) any_values 7 s.now end at result }
+pub fn take(s: &[u8], at: usize, told: Told) -> Value
+    requires { Within s.now at }
+    ensures { CodedAt (told_of told) any_values 7 s.now at result }
 {
+    let end = s.len();
     if end <= at {
         return Value::Refused(Refusal::EnvelopeEnds.at(at));
     }
     let code = s[at];
     let first = at + 1;
     match code {
-        0x14 => text::take(s, end, first, Kind::AnyText, Rule::Note),
-        0x16 => block(s, end, at, 1, told),
-        0x17 => block(s, end, at, 2, told),
-        0x19 => block(s, end, at, 4, told),
+        0x14 => text::take(s, first, Kind::AnyText, Rule::Note),
+        0x16 => block(s, at, 1, told),
+        0x17 => block(s, at, 2, told),
+        0x19 => block(s, at, 4, told),
         _ => Value::Refused(Refusal::CodeWrong.at(at)),
     }
 }
 
 // The same; bytes behind a short length are taken without a call.
-pub fn take_in_place(s: &[u8], end: usize, at: usize, told: Told) -> Value
-    requires { Inside s.now end at }
-    ensures { Coded (told_of told) any_values 7 s.now end at result }
+pub fn take_in_place(s: &[u8], at: usize, told: Told) -> Value
+    requires { Within s.now at }
+    ensures { CodedAt (told_of told) any_values 7 s.now at result }
 {
+    let end = s.len();
     if at < end {
         if s[at] == 0x16 {
-            return block(s, end, at, 1, told);
+            return block(s, at, 1, told);
         }
         if s[at] == 0x17 {
-            return block(s, end, at, 2, told);
+            return block(s, at, 2, told);
         }
     }
-    take_called(s, end, at, told)
+    take_called(s, at, told)
 }
 
 // The same behind a call. A function of its own, so that bytes behind a short length are never handed through memory.
-fn take_called(s: &[u8], end: usize, at: usize, told: Told) -> Value
-    requires { Inside s.now end at }
-    ensures { Coded (told_of told) any_values 7 s.now end at result }
+fn take_called(s: &[u8], at: usize, told: Told) -> Value
+    requires { Within s.now at }
+    ensures { CodedAt (told_of told) any_values 7 s.now at result }
 {
-    in_parts(take(s, end, at, told))
+    in_parts(take(s, at, told))
 }
 
 // Takes a value's answer. Answers the same, put together again from its parts: what a call left in memory goes on in registers.
@@ -83,12 +84,13 @@ fn in_parts(v: Value) -> Value
 }
 
 // Bytes behind a length of so many bytes. "11 comes after the length bytes, before the block", at the code.
-fn block(s: &[u8], end: usize, at: usize, width: usize, told: Told) -> Value
-    requires { BlockAt s.now end at width }
-    ensures { (w : Width) → bytes_of w ≡ width → Valued s.now end (at + 1) any_bytes 0 (take_block (told_of told) w (end - at) (from s.now (at + 1) end)) result }
+fn block(s: &[u8], at: usize, width: usize, told: Told) -> Value
+    requires { BlockWithin s.now at width }
+    ensures { (w : Width) → bytes_of w ≡ width → ValuedAt s.now (at + 1) any_bytes 0 (take_block (told_of told) w (length s.now - at) (rest s.now (at + 1))) result }
 {
+    let end = s.len();
     let first = at + 1;
-    let Some(length) = length_at(s, end, first, width) else {
+    let Some(length) = length_at(s, first, width) else {
         return Value::Refused(Refusal::EnvelopeEnds.at(end));
     };
     if too_wide(width, length, told) {
@@ -129,10 +131,11 @@ fn wider_than_needed(width: usize, n: usize) -> bool
 }
 
 // Takes the place of a length of 1, 2 or 4 bytes, high first. Answers the length, or that bytes are missing.
-fn length_at(s: &[u8], end: usize, at: usize, width: usize) -> Option<usize>
-    requires { (Inside s.now end at) × (IsWidth width) }
-    ensures { LengthRead s.now end at width result }
+fn length_at(s: &[u8], at: usize, width: usize) -> Option<usize>
+    requires { (Within s.now at) × (IsWidth width) }
+    ensures { LengthAt s.now at width result }
 {
+    let end = s.len();
     if end - at < width {
         return None;
     }

@@ -2,9 +2,8 @@
 ghost use Rattle.std.specs.Prelude.{◌≡◌, true, ◌≤◌, ◌<◌};
 ghost use Rattle.meaning.specs.Bytes.{take_number, number_most};
 ghost use Rattle.meaning.specs.Kinds.{payload_length};
-ghost use Rattle.laws_steps.specs.From.{from};
-ghost use Rattle.values.specs.Stages.{Inside, Valued};
-ghost use Rattle.values.specs.Numbers.{Turned, Counted};
+ghost use Rattle.values.specs.Stages.{Within, ValuedAt, rest};
+ghost use Rattle.values.specs.Numbers.{Turned, CountedAt};
 
 use crate::Value;
 use crate::digits::{digit, is_digit};
@@ -30,11 +29,11 @@ pub enum Number {
 }
 
 // A payload length from its first byte on.
-pub fn take(s: &[u8], end: usize, at: usize) -> Value
-    requires { Inside s.now end at }
-    ensures { Valued s.now end at payload_length 0 (take_number 0 true (from s.now at end)) result }
+pub fn take(s: &[u8], at: usize) -> Value
+    requires { Within s.now at }
+    ensures { ValuedAt s.now at payload_length 0 (take_number 0 true (rest s.now at)) result }
 {
-    match count(s, end, at) {
+    match count(s, at) {
         Number::Counts { value: _, after } => Value::Is {
             kind: Kind::PayloadLength,
             start: at,
@@ -46,10 +45,11 @@ pub fn take(s: &[u8], end: usize, at: usize) -> Value
 }
 
 // A payload length from its first byte on: its value and the place behind it, or the refusal.
-pub fn count(s: &[u8], end: usize, at: usize) -> Number
-    requires { Inside s.now end at }
-    ensures { Counted s.now end at result }
+pub fn count(s: &[u8], at: usize) -> Number
+    requires { Within s.now at }
+    ensures { CountedAt s.now at result }
 {
+    let end = s.len();
     let mut number = 0;
     for i in at..end {
         match turn(number, i == at, u32::from(s[i])) {

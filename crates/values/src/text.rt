@@ -1,9 +1,8 @@
 // "Text: bytes 20 to FF (hex), possibly none, then 00", and in notes line breaks.
 ghost use Rattle.std.specs.Prelude.{◌≡◌, true, false, ℕ, ◌+◌, ◌-◌, ◌≤◌, ◌<◌, length, get_or};
 ghost use Rattle.meaning.specs.Bytes.{line, note, is_break, text_byte, take_text};
-ghost use Rattle.laws_steps.specs.From.{from};
 ghost use Rattle.table.specs.Kinds.{number_of};
-ghost use Rattle.values.specs.Stages.{Inside, Valued, rule_of, rule_by, Skipped, Run, LineRun, all_text, FirstBelow};
+ghost use Rattle.values.specs.Stages.{rule_of, rule_by, all_text, FirstBelow, Within, ValuedAt, SkippedAt, RunAt, LineRunAt, rest};
 
 use crate::Value;
 use std::simd::prelude::*;
@@ -21,28 +20,29 @@ pub enum Rule {
 const FIRST_TEXT: u8 = 0x20;
 
 // A text by its rule, from its first byte on: its row and the place behind its 00, or the refusal.
-pub fn take(s: &[u8], end: usize, at: usize, kind: Kind, rule: Rule) -> Value
-    requires { Inside s.now end at }
-    ensures { Valued s.now end at (number_of kind) 1 (take_text (rule_of rule) (from s.now at end)) result }
+pub fn take(s: &[u8], at: usize, kind: Kind, rule: Rule) -> Value
+    requires { Within s.now at }
+    ensures { ValuedAt s.now at (number_of kind) 1 (take_text (rule_of rule) (rest s.now at)) result }
 {
-    let i = stop(s, end, at, rule);
-    ended(s, end, at, i, kind)
+    let i = stop(s, at, rule);
+    ended(s, at, i, kind)
 }
 
 // The same of a line that seldom stands there: its bytes are looked at behind a call, so that the code before it stays short.
-pub fn rare_line(s: &[u8], end: usize, at: usize, kind: Kind) -> Value
-    requires { Inside s.now end at }
-    ensures { Valued s.now end at (number_of kind) 1 (take_text line (from s.now at end)) result }
+pub fn rare_line(s: &[u8], at: usize, kind: Kind) -> Value
+    requires { Within s.now at }
+    ensures { ValuedAt s.now at (number_of kind) 1 (take_text line (rest s.now at)) result }
 {
-    let i = long_line(s, end, at);
-    ended(s, end, at, i, kind)
+    let i = long_line(s, at);
+    ended(s, at, i, kind)
 }
 
 // Takes the place i where the run of the text at `at` stops. Answers the row and the place behind its 00, or the refusal at i.
-fn ended(s: &[u8], end: usize, at: usize, i: usize, kind: Kind) -> Value
-    requires { (end ≤ length s.now) × (at ≤ i) × (i ≤ end) }
-    ensures { (rule : Rattle.meaning.specs.Bytes.Rule) → Run rule s.now end at i → Valued s.now end at (number_of kind) 1 (take_text rule (from s.now at end)) result }
+fn ended(s: &[u8], at: usize, i: usize, kind: Kind) -> Value
+    requires { (at ≤ i) × (i ≤ length s.now) }
+    ensures { (rule : Rattle.meaning.specs.Bytes.Rule) → RunAt rule s.now at i → ValuedAt s.now at (number_of kind) 1 (take_text rule (rest s.now at)) result }
 {
+    let end = s.len();
     if end <= i {
         return Value::Refused(Refusal::EnvelopeEnds.at(i));
     }
@@ -60,65 +60,68 @@ fn ended(s: &[u8], end: usize, at: usize, i: usize, kind: Kind) -> Value
 }
 
 // As `run`, for a reading, in which most texts stop before the end: an empty text is found at one look.
-fn stop(s: &[u8], end: usize, at: usize, rule: Rule) -> usize
-    requires { Inside s.now end at }
-    ensures { Run (rule_of rule) s.now end at result }
+fn stop(s: &[u8], at: usize, rule: Rule) -> usize
+    requires { Within s.now at }
+    ensures { RunAt (rule_of rule) s.now at result }
 {
     match rule {
         Rule::Line => {
-            if stands_below(s, end, at, FIRST_TEXT) {
+            if stands_below(s, at, FIRST_TEXT) {
                 return at;
             }
-            line_run(s, end, at)
+            line_run(s, at)
         }
         Rule::Note => {
-            if stands_below(s, end, at, 1) {
+            if stands_below(s, at, 1) {
                 return at;
             }
-            note_run(s, end, at)
+            note_run(s, at)
         }
     }
 }
 
 // Whether a byte below this one stands there, before the end.
-fn stands_below(s: &[u8], end: usize, at: usize, bound: u8) -> bool
-    requires { Inside s.now end at }
+fn stands_below(s: &[u8], at: usize, bound: u8) -> bool
+    requires { Within s.now at }
     ensures { result ≡ true → get_or s.now at 0 < bound }
 {
+    let end = s.len();
     at < end && s[at] < bound
 }
 
 // The first place whose byte the rule does not allow, or the end.
-pub fn run(s: &[u8], end: usize, at: usize, rule: Rule) -> usize
-    requires { Inside s.now end at }
-    ensures { Run (rule_of rule) s.now end at result }
+pub fn run(s: &[u8], at: usize, rule: Rule) -> usize
+    requires { Within s.now at }
+    ensures { RunAt (rule_of rule) s.now at result }
 {
     match rule {
-        Rule::Line => line_run(s, end, at),
-        Rule::Note => note_run(s, end, at),
+        Rule::Line => line_run(s, at),
+        Rule::Note => note_run(s, at),
     }
 }
 
 // Past sixteen bytes at a time, with breaks among them where a line's stretch stops; what is left line by line.
-fn note_run(s: &[u8], end: usize, at: usize) -> usize
-    requires { Inside s.now end at }
-    ensures { Run note s.now end at result }
+fn note_run(s: &[u8], at: usize) -> usize
+    requires { Within s.now at }
+    ensures { RunAt note s.now at result }
 {
-    let mut i = sixteens(s, end, at);
+    let end = s.len();
+    let mut i = sixteens(s, at);
     while 16 <= end - i && all_text::<true, 16>(s, i) {
-        i = sixteens(s, end, i + 16);
+        i = sixteens(s, i + 16);
     }
-    line_by_line(s, end, i)
+    line_by_line(s, i)
 }
 
 // Past a line and its break, and on with the next.
-fn line_by_line(s: &[u8], end: usize, at: usize) -> usize
-    requires { Inside s.now end at }
-    ensures { Run note s.now end at result }
+fn line_by_line(s: &[u8], at: usize) -> usize
+    requires { Within s.now at }
+    ensures { RunAt note s.now at result }
 {
-    let mut i = long_line(s, end, at);
+    let end = s.len();
+    let mut i = long_line(s, at);
     while i < end && is_break(s[i]) {
-        i = long_line(s, end, i + 1);
+        i = long_line(s, i + 1);
     }
     i
 }
@@ -131,20 +134,21 @@ fn is_break(b: u8) -> bool
 }
 
 // The first place whose byte is below 20, or the end: of a line that may be long.
-fn long_line(s: &[u8], end: usize, at: usize) -> usize
-    requires { Inside s.now end at }
-    ensures { LineRun s.now end at result }
+fn long_line(s: &[u8], at: usize) -> usize
+    requires { Within s.now at }
+    ensures { LineRunAt s.now at result }
 {
-    let i = sixteens(s, end, at);
-    line_run(s, end, i)
+    let i = sixteens(s, at);
+    line_run(s, i)
 }
 
 // Past sixteen bytes at a time while all of them are of a line. A step of sixteen, here and in `note_run`, and of eight in `line_run`, is no iterator's:
 // what is left behind the last one is looked at from there on.
-fn sixteens(s: &[u8], end: usize, at: usize) -> usize
-    requires { Inside s.now end at }
-    ensures { (rule : Rattle.meaning.specs.Bytes.Rule) → Skipped rule s.now end at result }
+fn sixteens(s: &[u8], at: usize) -> usize
+    requires { Within s.now at }
+    ensures { (rule : Rattle.meaning.specs.Bytes.Rule) → SkippedAt rule s.now at result }
 {
+    let end = s.len();
     let mut i = at;
     while 16 <= end - i && all_text::<false, 16>(s, i) {
         i += 16;
@@ -153,10 +157,11 @@ fn sixteens(s: &[u8], end: usize, at: usize) -> usize
 }
 
 // The first place whose byte is below 20, or the end: eight bytes at a time.
-fn line_run(s: &[u8], end: usize, at: usize) -> usize
-    requires { Inside s.now end at }
-    ensures { LineRun s.now end at result }
+fn line_run(s: &[u8], at: usize) -> usize
+    requires { Within s.now at }
+    ensures { LineRunAt s.now at result }
 {
+    let end = s.len();
     let mut i = at;
     while 8 <= end - i {
         if let Some(before) = first_below(s, i) {
@@ -164,14 +169,15 @@ fn line_run(s: &[u8], end: usize, at: usize) -> usize
         }
         i += 8;
     }
-    last_run(s, end, i)
+    last_run(s, i)
 }
 
 // The same, byte by byte: of the few that are left before the end.
-pub fn last_run(s: &[u8], end: usize, at: usize) -> usize
-    requires { Inside s.now end at }
-    ensures { LineRun s.now end at result }
+pub fn last_run(s: &[u8], at: usize) -> usize
+    requires { Within s.now at }
+    ensures { LineRunAt s.now at result }
 {
+    let end = s.len();
     for i in at..end {
         if s[i] < FIRST_TEXT {
             return i;

@@ -1,4 +1,5 @@
 -- `bytes`: the invariant says that the date is what is left of it from byte j on; each turn is one law.
+use Rattle.std.specs.Prelude.{length}
 use Prim.Native.Nat.{◌+◌, ◌≤◌}
 use mathlib.Core.List.{[]}
 use mathlib.Core.Path.{◌≡◌}
@@ -10,4 +11,4 @@ use Rattle.date.specs.DateSteps.{date_from}
 use Rattle.date.proofs.bytes.Given as goal
 
 abbrev pub invariant-loop-j : goal.invariant-loop-j
-invariant-loop-j l = (l.j ≤ l.length) × (l.at + l.j ≤ l.end) × (span 0 (take_date (date_checks (reaching l.form.absolute) l.form.designated) [] (from l.s l.at l.end)) ≡ date_from l.s l.end l.at l.form.absolute l.length l.j)
+invariant-loop-j l = (l.j ≤ l.length) × (l.at + l.j ≤ (length l.s)) × (span 0 (take_date (date_checks (reaching l.form.absolute) l.form.designated) [] (from l.s l.at (length l.s))) ≡ date_from l.s (length l.s) l.at l.form.absolute l.length l.j)

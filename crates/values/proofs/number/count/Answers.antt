@@ -1,4 +1,5 @@
 -- `number::count`: the invariant says that what is left is tallied behind what was read, and each turn is one law.
+use Rattle.std.specs.Prelude.{length}
 use Prim.Native.Nat.{ℕ, ◌+◌, ◌-◌}
 use mathlib.Core.Path.{◌≡◌, refl, ap, sym, ◌∙◌}
 use mathlib.Core.Bool.{Bool, true, false}
@@ -15,7 +16,7 @@ pub loop-i-init : goal.loop-i-init
 loop-i-init c = let a = c.args in
     let none : 0 ≡ a.at - a.at = omega arith in
     let first : true ≡ eqb a.at a.at = sym (eq-eqb a.at a.at refl) in
-    (omega arith, ap (λ (x : Bool). tally 0 0 (take_number 0 x (from a.s.now a.at a.end))) first ∙ ap (λ (n : ℕ). tally n 0 (take_number 0 (eqb a.at a.at) (from a.s.now a.at a.end))) none)
+    (omega arith, ap (λ (x : Bool). tally 0 0 (take_number 0 x (from a.s.now a.at (length a.s.now)))) first ∙ ap (λ (n : ℕ). tally n 0 (take_number 0 (eqb a.at a.at) (from a.s.now a.at (length a.s.now)))) none)
 
 pub turn-requires : goal.turn-requires
 turn-requires c = (c.loop-i.invariant.0, omega (arith, c.type_inv.s c.loop-i.i))
@@ -26,7 +27,7 @@ returns-in-Wrong c =
     let l = c.loop-i in
     let a = c.args in
     rw c.at.ensures (record {
-      is = l.invariant.1 ∙ number_wrong a.s.now a.end c.requires.whole a.at l.i l.number (eqb l.i a.at) (omega arith) (omega arith) c.from.ensures c.turn.ensures c.in-Wrong.is;
+      is = l.invariant.1 ∙ number_wrong a.s.now (length a.s.now) c.requires.whole a.at l.i l.number (eqb l.i a.at) (omega arith) (omega arith) c.from.ensures c.turn.ensures c.in-Wrong.is;
       ends = omega arith;
     })
 
@@ -36,7 +37,7 @@ returns-in-Stop c =
     let l = c.loop-i in
     let a = c.args in
     record {
-      is = l.invariant.1 ∙ number_stops a.s.now a.end c.requires.whole a.at l.i l.number (eqb l.i a.at) (omega arith) (omega arith) c.from.ensures c.turn.ensures c.in-Stop.is;
+      is = l.invariant.1 ∙ number_stops a.s.now (length a.s.now) c.requires.whole a.at l.i l.number (eqb l.i a.at) (omega arith) (omega arith) c.from.ensures c.turn.ensures c.in-Stop.is;
       ends = (omega arith, omega arith);
     }
 
@@ -46,7 +47,7 @@ loop-i-preserved c =
     let a = c.args in
     let later : false ≡ eqb (l.i + 1) a.at = sym (ne_eqb (l.i + 1) a.at (λ q. omega arith)) in (
       more_fits c.turn.ensures c.in-More.is,
-      l.invariant.1 ∙ number_goes a.s.now a.end c.requires.whole a.at l.i l.number (eqb l.i a.at) (omega arith) (omega arith) c.from.ensures c.turn.ensures c.in-More.is ∙ rw later refl,
+      l.invariant.1 ∙ number_goes a.s.now (length a.s.now) c.requires.whole a.at l.i l.number (eqb l.i a.at) (omega arith) (omega arith) c.from.ensures c.turn.ensures c.in-More.is ∙ rw later refl,
     )
 
 pub returns : goal.returns
@@ -55,6 +56,6 @@ returns c =
     let l = c.loop-i in
     let a = c.args in
     rw c.at-2.ensures (record {
-      is = l.invariant.1 ∙ number_ends a.s.now a.end c.requires.whole a.at l.i l.number (eqb l.i a.at) (omega arith) (omega arith) ∙ ap (fails 6) (omega arith);
+      is = l.invariant.1 ∙ number_ends a.s.now (length a.s.now) c.requires.whole a.at l.i l.number (eqb l.i a.at) (omega arith) (omega arith) ∙ ap (fails 6) (omega arith);
       ends = omega arith;
     })

@@ -1,4 +1,5 @@
 -- `number::count`: the invariant says that what is left is tallied behind what was read, and each turn is one law.
+use Rattle.std.specs.Prelude.{length}
 use Prim.Native.Nat.{◌-◌, ◌≤◌}
 use mathlib.Core.Bool.{true}
 use mathlib.Core.Path.{◌≡◌}
@@ -9,4 +10,4 @@ use lib.Dec.{eqb}
 use Rattle.values.proofs.number.count.Given as goal
 
 abbrev pub invariant-loop-i : goal.invariant-loop-i
-invariant-loop-i l = (l.number ≤ number_most) × (tally 0 0 (take_number 0 true (from l.s l.at l.end)) ≡ tally (l.i - l.at) l.number (take_number l.number (eqb l.i l.at) (from l.s l.i l.end)))
+invariant-loop-i l = (l.number ≤ number_most) × (tally 0 0 (take_number 0 true (from l.s l.at (length l.s))) ≡ tally (l.i - l.at) l.number (take_number l.number (eqb l.i l.at) (from l.s l.i (length l.s))))

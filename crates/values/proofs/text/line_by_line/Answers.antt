@@ -1,4 +1,5 @@
 -- `text::line_by_line`: all before the place reached is allowed, and what stands there is of no line.
+use Rattle.std.specs.Prelude.{length}
 use mathlib.Core.Path.{sym, ◌∙◌}
 use lib.ListN.{get_or}
 use Rattle.meaning.specs.Bytes.{note}
@@ -14,7 +15,7 @@ loop-i-preserved c =
     let l = c.loop-i in
     let h = c.loop-i-test.true in
     let b = note_is (get_or a.s.now l.i 0) (l.invariant.1 h) c.is_break.ensures in
-    let past = byte_skipped note a.s.now a.end c.requires.whole l.i h (sym b ∙ c.if-is_break.true) in
+    let past = byte_skipped note a.s.now (length a.s.now) c.requires.whole l.i h (sym b ∙ c.if-is_break.true) in
     (skipped_on l.invariant.0 (skipped_on past (c.long_line-i-in-loop-i.ensures.skipped note)), c.long_line-i-in-loop-i.ensures.stops)
 
 pub returns-else-is_break : goal.returns-else-is_break

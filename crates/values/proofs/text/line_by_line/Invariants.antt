@@ -1,4 +1,5 @@
 -- `text::line_by_line`: all before the place reached is allowed, and what stands there is of no line.
+use Rattle.std.specs.Prelude.{length}
 use Prim.Native.Nat.{◌-◌, ◌<◌}
 use mathlib.Core.Bool.{false}
 use mathlib.Core.Path.{◌≡◌}
@@ -8,7 +9,7 @@ use Rattle.values.specs.Stages.{Skipped}
 use Rattle.values.proofs.text.line_by_line.Given as goal
 
 abbrev pub invariant-loop-i : goal.invariant-loop-i
-invariant-loop-i l = Skipped note l.s l.end l.at l.i × (l.i < l.end → text_byte line (get_or l.s l.i 0) ≡ false)
+invariant-loop-i l = Skipped note l.s (length l.s) l.at l.i × (l.i < (length l.s) → text_byte line (get_or l.s l.i 0) ≡ false)
 
 abbrev pub decreases-loop-i : goal.decreases-loop-i
-decreases-loop-i l = l.end - l.i
+decreases-loop-i l = (length l.s) - l.i

@@ -1,4 +1,5 @@
 -- `text::note_run`: all before the place reached a note allows.
+use Rattle.std.specs.Prelude.{length}
 use mathlib.Core.Path.{sym, ◌∙◌}
 use native.Mathlib.Omega.{arith}
 use Rattle.meaning.specs.Bytes.{note}
@@ -11,5 +12,5 @@ loop-i-init c = c.sixteens-i.ensures note
 pub loop-i-preserved : goal.loop-i-preserved
 loop-i-preserved c =
     let a = c.args in
-    let past = note_skipped a.s.now a.end c.requires.whole c.loop-i.i 16 (omega (arith, c.loop-i-test.true, c.loop-i.invariant.before)) (sym c.all_text.ensures ∙ c.if-all_text.true) in
+    let past = note_skipped a.s.now (length a.s.now) c.requires.whole c.loop-i.i 16 (omega (arith, c.loop-i-test.true, c.loop-i.invariant.before)) (sym c.all_text.ensures ∙ c.if-all_text.true) in
     skipped_on c.loop-i.invariant (skipped_on past (c.sixteens-i-in-loop-i.ensures note))

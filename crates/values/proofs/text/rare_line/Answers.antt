@@ -6,7 +6,7 @@ use Rattle.values.proofs.text.rare_line.Goals as goal
 pub ended-requires : goal.ended-requires
 ended-requires c =
     let past = c.long_line-i.ensures.skipped line in
-    (c.requires.whole, past.inside, past.before)
+    (past.inside, past.before)
 
 pub returns : goal.returns
 returns c = c.ended.ensures line (line_runs c.long_line-i.ensures)

@@ -1,4 +1,5 @@
 -- `text::sixteens` passes text alone: the invariant is its promise at the place reached, and a turn is one run of sixteen.
+use Rattle.std.specs.Prelude.{length}
 use mathlib.Core.Path.{sym, ◌∙◌}
 use native.Mathlib.Omega.{arith}
 use Rattle.meaning.specs.Bytes.{line}
@@ -12,4 +13,4 @@ pub loop-i-preserved : goal.loop-i-preserved
 loop-i-preserved c =
     let a = c.args in
     let l = c.loop-i in
-    λ rule. skipped_on (l.invariant rule) (line_skipped a.s.now a.end c.requires.whole l.i 16 (omega (arith, c.loop-i-test.true, (l.invariant line).before)) (sym c.all_text.ensures ∙ c.if-all_text.true) rule)
+    λ rule. skipped_on (l.invariant rule) (line_skipped a.s.now (length a.s.now) c.requires.whole l.i 16 (omega (arith, c.loop-i-test.true, (l.invariant line).before)) (sym c.all_text.ensures ∙ c.if-all_text.true) rule)

@@ -1,4 +1,5 @@
 -- `text::stop`: a byte below 20 is of no line, and a 00 of no text; else by the rule's own run.
+use Rattle.std.specs.Prelude.{length}
 use native.Mathlib.Omega.{arith}
 use lib.ListN.{get_or}
 use Rattle.meaning.specs.Bytes.{line}
@@ -10,7 +11,7 @@ pub returns-then-stands_below : goal.returns-then-stands_below
 returns-then-stands_below c =
     let a = c.args in
     rw c.in-Line.is (record {
-      skipped = skipped_none a.s.now a.end a.at c.requires.before line;
+      skipped = skipped_none a.s.now (length a.s.now) a.at c.requires.before line;
       stops = λ h. no_text (get_or a.s.now a.at 0) (c.stands_below.ensures c.if-stands_below.true);
     })
 
@@ -19,7 +20,7 @@ returns-then-stands_below-2 c =
     let a = c.args in
     let below = c.stands_below-in-Note.ensures c.if-stands_below-2.true in
     record {
-      skipped = skipped_none a.s.now a.end a.at c.requires.before (rule_of a.rule);
+      skipped = skipped_none a.s.now (length a.s.now) a.at c.requires.before (rule_of a.rule);
       stops = λ h. zero_stops (rule_of a.rule) (get_or a.s.now a.at 0) (omega (arith, below));
     }
 
