@@ -5,10 +5,9 @@ ghost use Rattle.meaning.specs.Bytes.{line};
 ghost use Rattle.meaning.specs.Kinds.{agent_name};
 ghost use Rattle.meaning.specs.Told as meaning;
 ghost use Rattle.meaning.specs.Editions.{state, go, agent_ends, list_ends, agent_list, one_agent, after_name, after_addresses, after_resolvers, parameters};
-ghost use Rattle.laws_steps.specs.Pouring.{Ready};
 ghost use Rattle.laws_steps.specs.Shapes.{InList};
 ghost use Rattle.table.specs.Told.{told_of};
-ghost use Rattle.read_rows.specs.Stages.{StateRead, TextRead};
+ghost use Rattle.read_rows.specs.Stages.{ReadyAt, StateReadAt, TextReadAt};
 
 use read_rows::look::{fault, in_parts, peek};
 use read_rows::{rows, texts};
@@ -29,21 +28,14 @@ const RESOLVERS: u8 = 0x03;
 
 // "Agent list: agents, then 01", the agents of this level; "12: agent of level 9, its 02".
 #[cycle(read_agent_read_list)]
-pub fn read_list(
-    s: &[u8],
-    end: usize,
-    from: Reached,
-    rows: &mut [u32],
-    level: u32,
-    told: Told,
-) -> Stage
-    requires { (Ready s.now end from.at from.rows) × (1 ≤ level) × (level ≤ 9) }
+pub fn read_list(s: &[u8], from: Reached, rows: &mut [u32], level: u32, told: Told) -> Stage
+    requires { (ReadyAt s.now from) × (1 ≤ level) × (level ≤ 9) }
     ensures { (single : Bool) → InList level single →
-        StateRead (told_of told) s.now end (state agent_list level single) from.at from.rows rows.old result (go list_ends (state agent_list level single)) rows.new }
+        StateReadAt (told_of told) s.now (state agent_list level single) from rows.old result (go list_ends (state agent_list level single)) rows.new }
 {
     let mut here = from;
     loop {
-        let b = peek(s, end, here.at);
+        let b = peek(s, here.at);
         if b == Some(CLOSING) {
             return Stage::Go(here.passed());
         }
@@ -53,7 +45,7 @@ pub fn read_list(
         if LEVEL_MOST < level {
             return Stage::Refused(Refusal::AgentLevel.at(here.at));
         }
-        let r = read_agent(s, end, here.passed(), rows, level, told);
+        let r = read_agent(s, here.passed(), rows, level, told);
         let Stage::Go(behind_agent) = r else {
             return r;
         };
@@ -62,79 +54,65 @@ pub fn read_list(
 }
 
 // The one agent of `from`, from its 02 on.
-pub fn read_one(s: &[u8], end: usize, from: Reached, rows: &mut [u32], told: Told) -> Stage
-    requires { Ready s.now end from.at from.rows }
-    ensures { StateRead (told_of told) s.now end (state one_agent 1 true) from.at from.rows rows.old result (state parameters 0 false) rows.new }
+pub fn read_one(s: &[u8], from: Reached, rows: &mut [u32], told: Told) -> Stage
+    requires { ReadyAt s.now from }
+    ensures { StateReadAt (told_of told) s.now (state one_agent 1 true) from rows.old result (state parameters 0 false) rows.new }
 {
-    let b = peek(s, end, from.at);
+    let b = peek(s, from.at);
     if b != Some(AGENT) {
         return fault(b, from.at);
     }
-    read_agent(s, end, from.passed(), rows, 1, told)
+    read_agent(s, from.passed(), rows, 1, told)
 }
 
 // An agent of this level, after its 02 and up to its 01.
 #[cycle(read_agent_read_list)]
-fn read_agent(
-    s: &[u8],
-    end: usize,
-    from: Reached,
-    rows: &mut [u32],
-    level: u32,
-    told: Told,
-) -> Stage
-    requires { (Ready s.now end from.at from.rows) × (1 ≤ level) × (level ≤ 8) }
+fn read_agent(s: &[u8], from: Reached, rows: &mut [u32], level: u32, told: Told) -> Stage
+    requires { (ReadyAt s.now from) × (1 ≤ level) × (level ≤ 8) }
     ensures { (single : Bool) →
-        TextRead (told_of told) s.now end agent_name line level (state after_name level single) from.at from.rows rows.old result (go agent_ends (state after_resolvers level single)) rows.new }
+        TextReadAt (told_of told) s.now agent_name line level (state after_name level single) from rows.old result (go agent_ends (state after_resolvers level single)) rows.new }
 {
-    let named = name_and_addresses(s, end, from, rows, level);
+    let named = name_and_addresses(s, from, rows, level);
     let Stage::Go(behind_addresses) = named else {
         return named;
     };
-    if peek(s, end, behind_addresses.at) != Some(RESOLVERS) {
-        return behind_resolvers(s, end, behind_addresses, rows, level, told);
+    if peek(s, behind_addresses.at) != Some(RESOLVERS) {
+        return behind_resolvers(s, behind_addresses, rows, level, told);
     }
     let opened = rows::open(rows, behind_addresses, Kind::ResolversOpen, level);
-    let resolvers = read_list(s, end, opened, rows, level + 1, told);
+    let resolvers = read_list(s, opened, rows, level + 1, told);
     let Stage::Go(behind_list) = resolvers else {
         return resolvers;
     };
-    behind_resolvers(s, end, behind_list, rows, level, told)
+    behind_resolvers(s, behind_list, rows, level, told)
 }
 
 // After an agent's 02: its name, and its addresses where it has them.
-fn name_and_addresses(s: &[u8], end: usize, from: Reached, rows: &mut [u32], level: u32) -> Stage
-    requires { Ready s.now end from.at from.rows }
+fn name_and_addresses(s: &[u8], from: Reached, rows: &mut [u32], level: u32) -> Stage
+    requires { ReadyAt s.now from }
     ensures { (t : meaning.Told) (single : Bool) →
-        TextRead t s.now end agent_name line level (state after_name level single) from.at from.rows rows.old result (state after_addresses level single) rows.new }
+        TextReadAt t s.now agent_name line level (state after_name level single) from rows.old result (state after_addresses level single) rows.new }
 {
-    let name = rows::text(s, end, from, rows, Kind::AgentName, Rule::Line, level);
+    let name = rows::text(s, from, rows, Kind::AgentName, Rule::Line, level);
     let Stage::Go(behind_name) = name else {
         return name;
     };
-    if peek(s, end, behind_name.at) != Some(ADDRESSES) {
+    if peek(s, behind_name.at) != Some(ADDRESSES) {
         return name;
     }
     let opened = rows::open(rows, behind_name, Kind::AddressesOpen, level);
-    texts::texts(s, end, opened, rows, Kind::Address, level)
+    texts::texts(s, opened, rows, Kind::Address, level)
 }
 
 // An agent's extras, most often none, and its 01.
-fn behind_resolvers(
-    s: &[u8],
-    end: usize,
-    from: Reached,
-    rows: &mut [u32],
-    level: u32,
-    told: Told,
-) -> Stage
-    requires { Ready s.now end from.at from.rows }
+fn behind_resolvers(s: &[u8], from: Reached, rows: &mut [u32], level: u32, told: Told) -> Stage
+    requires { ReadyAt s.now from }
     ensures { (single : Bool) →
-        StateRead (told_of told) s.now end (state after_resolvers level single) from.at from.rows rows.old result (go agent_ends (state after_resolvers level single)) rows.new }
+        StateReadAt (told_of told) s.now (state after_resolvers level single) from rows.old result (go agent_ends (state after_resolvers level single)) rows.new }
 {
-    if peek(s, end, from.at) == Some(CLOSING) {
+    if peek(s, from.at) == Some(CLOSING) {
         return Stage::Go(from.passed());
     }
     let code = agent_extra(told.edition);
-    in_parts(texts::extras(s, end, from, rows, code, level, told))
+    in_parts(texts::extras(s, from, rows, code, level, told))
 }

@@ -13,7 +13,6 @@ use Rattle.laws_steps.specs.Rows.{put}
 use Rattle.laws_steps.specs.Pouring.{stopped, pour, Source, run_at, landed, Ready, not_deep}
 use Rattle.laws_steps.specs.Shapes.{Shaped}
 use Rattle.laws_steps.specs.ReadAt.{coded, strange_code, at_end}
-use Rattle.table.specs.Kinds.{number_of}
 use Rattle.table.specs.Refusals.{answer_of}
 use Rattle.values.specs.declared.Value.{Value}
 use Rattle.values.specs.declared.Value.TheVariants.{Is, Refused}

@@ -1,15 +1,16 @@
 -- What the stages of the reader promise of the inside of an envelope: one equation, over the definitions of `meaning`.
 -- Reading from where a stage began, with its rows stored in lent memory, is reading on from what the stage answered.
-use Rattle.std.specs.Prelude.{ℕ, ◌+◌, ◌≤◌, List, Option, None, Some, ◌≡◌, ltb}
+use Rattle.std.specs.Prelude.{length, ℕ, ◌+◌, ◌≤◌, List, Option, None, Some, ◌≡◌, ltb}
 use Rattle.meaning.specs.Basics.{pick}
 use Rattle.meaning.specs.Bytes.{Rule}
 use Rattle.meaning.specs.Kinds.{payload_length}
 use Rattle.meaning.specs.Told.{Told}
 use Rattle.meaning.specs.Editions.{State}
 use Rattle.laws_steps.specs.Rows.{put}
-use Rattle.laws_steps.specs.Pouring.{Filling, stopped, Source, source, run_at, text_at, number_at, header_most}
+use Rattle.laws_steps.specs.Pouring.{Filling, stopped, Source, source, Ready, Peeked, run_at, text_at, number_at, header_most}
 use Rattle.values.specs.declared.Value.{Value}
 use Rattle.values.specs.declared.Value.TheVariants as value
+use Rattle.table.specs.declared.answers.Reached.{Reached}
 use Rattle.table.specs.declared.answers.Stage.{Stage}
 use Rattle.table.specs.declared.answers.Stage.TheVariants.{Go, Refused}
 use Rattle.table.specs.declared.refusals.Refusal.TheVariants.{CodeWrong, EnvelopeEnds}
@@ -42,6 +43,23 @@ TextRead t s end kind rule level q at n m r d left = Ran (source t s end) (at + 
 -- .. where a payload length stands
 abbrev pub NumberRead : Told → List ℕ → ℕ → State → ℕ → ℕ → List ℕ → Stage → State → List ℕ → Type 0
 NumberRead t s end q at n m r d left = Ran (source t s end) (at + 1) (number_at (source t s end) payload_length 0 q at n m) r d left
+
+-- The same of a slice that is an envelope up to its declared end, from what is reached on
+
+abbrev pub ReadyAt : List ℕ → Reached → Type 0
+ReadyAt s from = Ready s (length s) from.at from.rows
+
+abbrev pub StateReadAt : Told → List ℕ → State → Reached → List ℕ → Stage → State → List ℕ → Type 0
+StateReadAt t s q from m r d left = StateRead t s (length s) q from.at from.rows m r d left
+
+abbrev pub TextReadAt : Told → List ℕ → ℕ → Rule → ℕ → State → Reached → List ℕ → Stage → State → List ℕ → Type 0
+TextReadAt t s kind rule level q from m r d left = TextRead t s (length s) kind rule level q from.at from.rows m r d left
+
+abbrev pub NumberReadAt : Told → List ℕ → State → Reached → List ℕ → Stage → State → List ℕ → Type 0
+NumberReadAt t s q from m r d left = NumberRead t s (length s) q from.at from.rows m r d left
+
+abbrev pub PeekedAt : List ℕ → ℕ → ℕ → Type 0
+PeekedAt s at b = Peeked s (length s) at b
 
 -- what a look finds, as the laws have it: 256 at the declared end
 abbrev pub found : Option ℕ → ℕ

@@ -1,17 +1,17 @@
 // The byte at a place, and the refusal where no code stands that is allowed.
 ghost use Rattle.std.specs.Prelude.{◌≡◌};
-ghost use Rattle.values.specs.Stages.{Inside};
-ghost use Rattle.laws_steps.specs.Pouring.{Peeked};
-ghost use Rattle.read_rows.specs.Stages.{fault_of, found};
+ghost use Rattle.values.specs.Stages.{Within};
+ghost use Rattle.read_rows.specs.Stages.{PeekedAt, fault_of, found};
 
 use table::answers::{Fault, Reached, Stage};
 use table::refusals::Refusal;
 
 // Takes a place up to the declared end. Answers the byte there, or none at the end.
-pub fn peek(s: &[u8], end: usize, at: usize) -> Option<u8>
-    requires { Inside s.now end at }
-    ensures { Peeked s.now end at (found result) }
+pub fn peek(s: &[u8], at: usize) -> Option<u8>
+    requires { Within s.now at }
+    ensures { PeekedAt s.now at (found result) }
 {
+    let end = s.len();
     if at < end { Some(s[at]) } else { None }
 }
 

@@ -4,14 +4,14 @@ ghost use Rattle.std.specs.Prelude.{◌≡◌, ◌≤◌, ◌+◌};
 ghost use Rattle.meaning.specs.Told as meaning;
 ghost use Rattle.meaning.specs.Editions.{State, any_values, representations};
 ghost use Rattle.laws_steps.specs.Rows.{put};
-ghost use Rattle.laws_steps.specs.Pouring.{header_most, Ready};
+ghost use Rattle.laws_steps.specs.Pouring.{header_most};
 ghost use Rattle.laws_steps.specs.Shapes.{Shaped};
 ghost use Rattle.table.specs.Kinds.{number_of};
 ghost use Rattle.table.specs.Rows.{u32_most};
 ghost use Rattle.table.specs.Told.{edition_of, told_of};
 ghost use Rattle.date.specs.Dates.{dates_of};
 ghost use Rattle.values.specs.Stages.{rule_of};
-ghost use Rattle.read_rows.specs.Stages.{goes_on, keeps, Fits, TextRead, NumberRead, StateRead};
+ghost use Rattle.read_rows.specs.Stages.{ReadyAt, goes_on, keeps, Fits, TextReadAt, NumberReadAt, StateReadAt};
 
 use table::answers::{Reached, Stage};
 use table::kinds::Kind;
@@ -21,65 +21,57 @@ use values::Value;
 use values::text::Rule;
 
 // A text by its rule, whose row has this kind and level.
-pub fn text(
-    s: &[u8],
-    end: usize,
-    from: Reached,
-    rows: &mut [u32],
-    kind: Kind,
-    rule: Rule,
-    level: u32,
-) -> Stage
-    requires { Ready s.now end from.at from.rows }
-    ensures { (t : meaning.Told) (q : State) → TextRead t s.now end (number_of kind) (rule_of rule) level q from.at from.rows rows.old result q rows.new }
+pub fn text(s: &[u8], from: Reached, rows: &mut [u32], kind: Kind, rule: Rule, level: u32) -> Stage
+    requires { ReadyAt s.now from }
+    ensures { (t : meaning.Told) (q : State) → TextReadAt t s.now (number_of kind) (rule_of rule) level q from rows.old result q rows.new }
 {
-    let v = values::text::take(s, end, from.at, kind, rule);
+    let v = values::text::take(s, from.at, kind, rule);
     keep(v, rows, from.rows, level)
 }
 
 // A payload length.
-pub fn number(s: &[u8], end: usize, from: Reached, rows: &mut [u32]) -> Stage
-    requires { Ready s.now end from.at from.rows }
-    ensures { (t : meaning.Told) (q : State) → NumberRead t s.now end q from.at from.rows rows.old result q rows.new }
+pub fn number(s: &[u8], from: Reached, rows: &mut [u32]) -> Stage
+    requires { ReadyAt s.now from }
+    ensures { (t : meaning.Told) (q : State) → NumberReadAt t s.now q from rows.old result q rows.new }
 {
-    let v = values::number::take(s, end, from.at);
+    let v = values::number::take(s, from.at);
     keep(v, rows, from.rows, 0)
 }
 
 // An any-value, whose row has this level.
-pub fn any(s: &[u8], end: usize, from: Reached, rows: &mut [u32], level: u32, told: Told) -> Stage
-    requires { Ready s.now end from.at from.rows }
-    ensures { (q d : State) → Shaped (told_of told) q d level 7 any_values → StateRead (told_of told) s.now end q from.at from.rows rows.old result d rows.new }
+pub fn any(s: &[u8], from: Reached, rows: &mut [u32], level: u32, told: Told) -> Stage
+    requires { ReadyAt s.now from }
+    ensures { (q d : State) → Shaped (told_of told) q d level 7 any_values → StateReadAt (told_of told) s.now q from rows.old result d rows.new }
 {
-    let v = values::any::take(s, end, from.at, told);
+    let v = values::any::take(s, from.at, told);
     keep(v, rows, from.rows, level)
 }
 
 // The same of a transport behaviour, whose row has level 0.
-pub fn behaviour(s: &[u8], end: usize, from: Reached, rows: &mut [u32], told: Told) -> Stage
-    requires { Ready s.now end from.at from.rows }
-    ensures { (q d : State) → Shaped (told_of told) q d 0 7 any_values → StateRead (told_of told) s.now end q from.at from.rows rows.old result d rows.new }
+pub fn behaviour(s: &[u8], from: Reached, rows: &mut [u32], told: Told) -> Stage
+    requires { ReadyAt s.now from }
+    ensures { (q d : State) → Shaped (told_of told) q d 0 7 any_values → StateReadAt (told_of told) s.now q from rows.old result d rows.new }
 {
-    let v = values::any::take_in_place(s, end, from.at, told);
+    let v = values::any::take_in_place(s, from.at, told);
     keep(v, rows, from.rows, 0)
 }
 
 // A representation.
-pub fn representation(s: &[u8], end: usize, from: Reached, rows: &mut [u32]) -> Stage
-    requires { Ready s.now end from.at from.rows }
-    ensures { (t : meaning.Told) (q d : State) → Shaped t q d 0 7 representations → StateRead t s.now end q from.at from.rows rows.old result d rows.new }
+pub fn representation(s: &[u8], from: Reached, rows: &mut [u32]) -> Stage
+    requires { ReadyAt s.now from }
+    ensures { (t : meaning.Told) (q d : State) → Shaped t q d 0 7 representations → StateReadAt t s.now q from rows.old result d rows.new }
 {
-    let v = values::representation::take(s, end, from.at);
+    let v = values::representation::take(s, from.at);
     keep(v, rows, from.rows, 0)
 }
 
 // A date, whose row has this level.
-pub fn date(s: &[u8], end: usize, from: Reached, rows: &mut [u32], level: u32, told: Told) -> Stage
-    requires { Ready s.now end from.at from.rows }
+pub fn date(s: &[u8], from: Reached, rows: &mut [u32], level: u32, told: Told) -> Stage
+    requires { ReadyAt s.now from }
     ensures { (q d : State) → Shaped (told_of told) q d level 9 (dates_of (edition_of told.edition)) →
-        StateRead (told_of told) s.now end q from.at from.rows rows.old result d rows.new }
+        StateReadAt (told_of told) s.now q from rows.old result d rows.new }
 {
-    let v = date::take(s, end, from.at, told.edition);
+    let v = date::take(s, from.at, told.edition);
     keep(v, rows, from.rows, level)
 }
 

@@ -1,6 +1,6 @@
 -- `parameters::open_encrypted`: in B the opening row, then a list of texts; in D the code is in no move.
+use Rattle.std.specs.Prelude.{length}
 use Rattle.std.specs.Prelude.{ℕ, false, ◌≡◌, refl}
-use Rattle.std.proofs.Common.{◌<◌}
 use native.Mathlib.Nat.{le_refl}
 use native.Mathlib.Omega.{arith}
 use Rattle.meaning.specs.Editions.{encrypted_texts, outer, parameters, state}
@@ -18,12 +18,12 @@ pub returns-in_default : goal.returns-in_default
 returns-in_default c =
     let a = c.args in
     let not_b : edition_of a.told.edition ≡ B → ◌≡◌ {A = ℕ} 0x08 0x08 → ⊥ = rw c.in_default.is (λ h _. absurd (cc)) in
-    rw c.at.ensures (foreign_byte (source (told_of a.told) a.s.now a.end) a.from.at a.from.rows a.rows.now 0x08 c.requires.1 (state parameters 0 false) refl (parameters_none _ 0x08 encrypted_apart not_b) refl refl)
+    rw c.at.ensures (foreign_byte (source (told_of a.told) a.s.now (length a.s.now)) a.from.at a.from.rows a.rows.now 0x08 c.requires.1 (state parameters 0 false) refl (parameters_none _ 0x08 encrypted_apart not_b) refl refl)
 
 pub returns : goal.returns
 returns c =
     let a = c.args in
     let opened = c.open-opened.ensures in
     begun (le_refl _)
-    (opened_at (source (told_of a.told) a.s.now a.end) a.from.at a.from.rows a.rows.now 8 c.requires.1 0x08 refl (omega arith) (state parameters 0 false) encrypted_opens (outer encrypted_texts) (rw c.in-B.is encrypted_look) refl opened.put)
+    (opened_at (source (told_of a.told) a.s.now (length a.s.now)) a.from.at a.from.rows a.rows.now 8 c.requires.1 0x08 refl (omega arith) (state parameters 0 false) encrypted_opens (outer encrypted_texts) (rw c.in-B.is encrypted_look) refl opened.put)
     (rw (opened.at, opened.rows) at (c.texts.ensures (told_of a.told) _ _ (encrypted_texts_lem _)))

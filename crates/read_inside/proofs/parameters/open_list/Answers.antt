@@ -1,5 +1,6 @@
 -- `parameters::open_list`: the opening row, then the 01 of an empty list, or the list's stage at level 1.
-use Rattle.std.specs.Prelude.{◌+◌, ◌<◌, false, refl}
+use Rattle.std.specs.Prelude.{length}
+use Rattle.std.specs.Prelude.{false, refl}
 use native.Mathlib.Omega.{arith}
 use Rattle.meaning.specs.Editions.{agent_list, state}
 use Rattle.laws_steps.specs.AgentRooms.{list_stop, not_single}
@@ -15,7 +16,7 @@ returns-then-eq c =
     let opened = c.open-opened.ensures in
     let few = c.requires.0.few in
     begun (omega arith) (rw (opened.at, opened.rows, opened.put) refl)
-    (closes (source (told_of a.told) a.s.now a.end) (state agent_list 1 false) c.open-opened.result c.open-opened.new.rows (found c.peek.result) c.peek.ensures (found_is c.peek.result 1 c.eq.ensures c.if-eq.true) {least = c.open-opened.result.at} (list_stop _) refl c.passed.ensures.at c.passed.ensures.rows refl (omega arith) (omega arith))
+    (closes (source (told_of a.told) a.s.now (length a.s.now)) (state agent_list 1 false) c.open-opened.result c.open-opened.new.rows (found c.peek.result) c.peek.ensures (found_is c.peek.result 1 c.eq.ensures c.if-eq.true) {least = c.open-opened.result.at} (list_stop _) refl c.passed.ensures.at c.passed.ensures.rows refl (omega arith) (omega arith))
 
 pub returns : goal.returns
 returns c =

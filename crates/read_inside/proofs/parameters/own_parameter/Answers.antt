@@ -1,4 +1,5 @@
 -- `parameters::own_parameter`: the key's stage, then the value's.
+use Rattle.std.specs.Prelude.{length}
 use Rattle.std.specs.Prelude.{false, refl}
 use Rattle.std.proofs.Common.{◌∙◌}
 use native.Mathlib.Omega.{arith}
@@ -24,5 +25,5 @@ returns c t =
     let read = c.text-key.ensures t (state own_text 0 false) in
     let u = moved_to c.in-Go.is read in
     begun (omega arith)
-    (went c.in-Go.is read ∙ only_text (source t a.s.now a.end) _ _ _ (state own_text 0 false) own_value note (outer parameters) (value_look t.edition) refl refl)
+    (went c.in-Go.is read ∙ only_text (source t a.s.now (length a.s.now)) _ _ _ (state own_text 0 false) own_value note (outer parameters) (value_look t.edition) refl refl)
     (c.text.ensures t (state parameters 0 false))

@@ -10,8 +10,8 @@ use Rattle.read_inside.proofs.parameters.read_parameters.Given as goal
 
 abbrev pub invariant-loop-code : goal.invariant-loop-code
 invariant-loop-code l =
-    (l.fn.from.at ≤ l.here.at) × (l.here.at ≤ l.end) × (l.here.rows ≤ l.here.at) × (length l.rows ≡ length l.initial.rows)
-    × (run_at (source (told_of l.told) l.s l.end) (state parameters 0 false) l.fn.from.at l.fn.from.rows l.initial.rows ≡ run_at (source (told_of l.told) l.s l.end) (state parameters 0 false) l.here.at l.here.rows l.rows)
+    (l.fn.from.at ≤ l.here.at) × (l.here.at ≤ (length l.s)) × (l.here.rows ≤ l.here.at) × (length l.rows ≡ length l.initial.rows)
+    × (run_at (source (told_of l.told) l.s (length l.s)) (state parameters 0 false) l.fn.from.at l.fn.from.rows l.initial.rows ≡ run_at (source (told_of l.told) l.s (length l.s)) (state parameters 0 false) l.here.at l.here.rows l.rows)
 
 abbrev pub decreases-loop-code : goal.decreases-loop-code
-decreases-loop-code l = l.end - l.here.at
+decreases-loop-code l = (length l.s) - l.here.at

@@ -1,5 +1,6 @@
 -- The agent's and the list's stages, which call each other.
-use Rattle.std.proofs.Common.{◌≡◌, ◌≤◌, ◌+◌, ◌<◌, ◌∙◌, ℕ, List, Bool, false, true, ap, refl, arith}
+use Rattle.std.specs.Prelude.{length}
+use Rattle.std.proofs.Common.{◌≡◌, ◌≤◌, ◌+◌, ◌∙◌, ℕ, List, Bool, false, true, ap, refl, arith}
 use native.Mathlib.Nat.{le_refl}
 use lib.Dec.{ltb}
 use borrow.Author.Tests.{le-ltb, lt-ltb}
@@ -54,7 +55,7 @@ read_agent-returns-then-ne t c single =
     let other = other_found p.result 0x03 (omega arith) c.ne.ensures c.if-ne.true in
     begun (moved_to c.in-Go.is named).0
     (went c.in-Go.is named
-    ∙ alike_at (source (told_of a.told) a.s.now a.end) to.at to.rows c.name_and_addresses-named.new.rows (found p.result) p.ensures (state after_addresses a.level single) (state after_resolvers a.level single)
+    ∙ alike_at (source (told_of a.told) a.s.now (length a.s.now)) to.at to.rows c.name_and_addresses-named.new.rows (found p.result) p.ensures (state after_addresses a.level single) (state after_resolvers a.level single)
     (λ s. step_alike _ after_addresses after_resolvers a.level single (found p.result) s (addresses_else _ (found p.result) other) refl refl) (end_alike _ after_addresses after_resolvers a.level single refl))
     (c.behind_resolvers.ensures single)
 
@@ -108,7 +109,7 @@ read_list-returns-then-eq t c single h =
     let p = c.peek-b in
     let l = c.loop-told in
     let a = c.args in
-    closes (source (told_of a.told) a.s.now a.end) (state agent_list a.level single) l.here l.rows (found p.result) p.ensures (found_is p.result 1 c.eq.ensures c.if-eq.true) (list_stop _) refl c.passed.ensures.at c.passed.ensures.rows (l.invariant.4 single h) l.invariant.0 l.invariant.2
+    closes (source (told_of a.told) a.s.now (length a.s.now)) (state agent_list a.level single) l.here l.rows (found p.result) p.ensures (found_is p.result 1 c.eq.ensures c.if-eq.true) (list_stop _) refl c.passed.ensures.at c.passed.ensures.rows (l.invariant.4 single h) l.invariant.0 l.invariant.2
 
 pub read_list-returns-then-ne : goal.read_list-returns-then-ne
 read_list-returns-then-ne t c single h =
@@ -118,7 +119,7 @@ read_list-returns-then-ne t c single h =
     let not_closing = not_found p.result 1 (omega arith) c.eq.ensures c.if-eq.false in
     let not_agent = other_found p.result 0x02 (omega arith) c.ne.ensures c.if-ne.true in
     begun l.invariant.0 (l.invariant.4 single h)
-    (foreign_byte (source (told_of a.told) a.s.now a.end) l.here.at l.here.rows l.rows (found p.result) p.ensures (state agent_list a.level single) c.fault.ensures (list_none _ (found p.result) not_closing not_agent) refl refl)
+    (foreign_byte (source (told_of a.told) a.s.now (length a.s.now)) l.here.at l.here.rows l.rows (found p.result) p.ensures (state agent_list a.level single) c.fault.ensures (list_none _ (found p.result) not_closing not_agent) refl refl)
 
 pub read_list-returns-then-level-gt-LEVEL_MOST : goal.read_list-returns-then-level-gt-LEVEL_MOST
 read_list-returns-then-level-gt-LEVEL_MOST t c single h =
@@ -128,7 +129,7 @@ read_list-returns-then-level-gt-LEVEL_MOST t c single h =
     let agent = same_found p.result 0x02 c.ne.ensures c.if-ne.false in
     let deep : ltb level_most a.level ≡ true = lt-ltb level_most a.level (omega arith) in
     rw c.at.ensures
-    (refusing (l.invariant.4 single h ∙ too_deep_at (source (told_of a.told) a.s.now a.end) l.here.at l.here.rows l.rows (found p.result) p.ensures 0x02 agent (omega arith) (state agent_list a.level single) (on 0x02 ▸ agent_name ▸ text line ▸ stay after_name) (list_name _) deep))
+    (refusing (l.invariant.4 single h ∙ too_deep_at (source (told_of a.told) a.s.now (length a.s.now)) l.here.at l.here.rows l.rows (found p.result) p.ensures 0x02 agent (omega arith) (state agent_list a.level single) (on 0x02 ▸ agent_name ▸ text line ▸ stay after_name) (list_name _) deep))
 
 pub read_list-returns-in_default : goal.read_list-returns-in_default
 read_list-returns-in_default t c single h =

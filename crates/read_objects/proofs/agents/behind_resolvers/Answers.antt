@@ -1,4 +1,5 @@
 -- `agents::behind_resolvers`: an agent's extras are a run of extras with the edition's code.
+use Rattle.std.specs.Prelude.{length}
 use Rattle.std.specs.Prelude.{refl}
 use Rattle.meaning.specs.Editions.{after_resolvers, agent_extra, agent_ends, go, state}
 use Rattle.laws_steps.specs.AgentRooms.{agent_extras_lem}
@@ -12,7 +13,7 @@ pub returns-then-eq : goal.returns-then-eq
 returns-then-eq c single =
     let p = c.peek in
     let a = c.args in
-    no_extras (source (told_of a.told) a.s.now a.end) a.from a.rows.now (found p.result) p.ensures (found_is p.result 1 c.eq.ensures c.if-eq.true) c.requires.few (state after_resolvers a.level single) (agent_extras_lem (told_of a.told) a.level single refl) c.passed.ensures.at c.passed.ensures.rows
+    no_extras (source (told_of a.told) a.s.now (length a.s.now)) a.from a.rows.now (found p.result) p.ensures (found_is p.result 1 c.eq.ensures c.if-eq.true) c.requires.few (state after_resolvers a.level single) (agent_extras_lem (told_of a.told) a.level single refl) c.passed.ensures.at c.passed.ensures.rows
 
 pub returns : goal.returns
 returns c single =

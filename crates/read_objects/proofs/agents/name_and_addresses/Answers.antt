@@ -1,5 +1,6 @@
 -- `agents::name_and_addresses`: the name's stage; without 02 the state is as behind the addresses, with it they are a list of texts.
-use Rattle.std.specs.Prelude.{ℕ, ◌+◌, ◌<◌, false, refl}
+use Rattle.std.specs.Prelude.{length}
+use Rattle.std.specs.Prelude.{false, refl}
 use Rattle.std.proofs.Common.{◌∙◌}
 use native.Mathlib.Omega.{arith}
 use Rattle.meaning.specs.Editions.{address_texts, after_addresses, after_name, parameters, state, stay}
@@ -29,7 +30,7 @@ returns-then-ne c t single =
     let other = other_found p.result 0x02 (omega arith) c.ne.ensures c.if-ne.true in
     going
     (went c.in-Go.is named
-    ∙ alike_at (source t a.s.now a.end) to.at to.rows c.text-name.new.rows (found p.result) p.ensures (state after_name a.level single) (state after_addresses a.level single)
+    ∙ alike_at (source t a.s.now (length a.s.now)) to.at to.rows c.text-name.new.rows (found p.result) p.ensures (state after_name a.level single) (state after_addresses a.level single)
     (λ s. step_alike t after_name after_addresses a.level single (found p.result) s (name_else t.edition (found p.result) other) refl refl) (end_alike t after_name after_addresses a.level single refl))
     u.0 u.1 u.2
 
@@ -52,5 +53,5 @@ returns c t single =
     let addresses = same_found p.result 0x02 c.ne.ensures c.if-ne.false in
     begun (omega arith)
     (went c.in-Go.is named
-    ∙ opened_at (source t a.s.now a.end) to.at to.rows c.text-name.new.rows (found p.result) p.ensures 0x02 addresses (omega arith) (state after_name a.level single) addresses_open (stay address_texts) (name_addresses t.edition) refl c.open-opened.ensures.put)
+    ∙ opened_at (source t a.s.now (length a.s.now)) to.at to.rows c.text-name.new.rows (found p.result) p.ensures 0x02 addresses (omega arith) (state after_name a.level single) addresses_open (stay address_texts) (name_addresses t.edition) refl c.open-opened.ensures.put)
     (rw (c.open-opened.ensures.at, c.open-opened.ensures.rows) at (c.texts.ensures t (state address_texts a.level single) (state after_addresses a.level single) (address_texts_lem t a.level single)))

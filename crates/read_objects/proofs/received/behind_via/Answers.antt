@@ -1,4 +1,5 @@
 -- `received::behind_via`: a received object's extras are a run of extras with the edition's code, or none.
+use Rattle.std.specs.Prelude.{length}
 use Rattle.std.specs.Prelude.{None, Some, false, ◌≡◌, refl}
 use native.Mathlib.Omega.{arith}
 use Rattle.meaning.specs.Editions.{after_via, state}
@@ -14,14 +15,14 @@ pub returns-then-eq : goal.returns-then-eq
 returns-then-eq c =
     let a = c.args in
     let p = c.peek-b in
-    closes (source (told_of a.told) a.s.now a.end) (state after_via 1 false) a.from a.rows.now (found p.result) p.ensures (found_is p.result 1 c.eq.ensures c.if-eq.true) (closing_ends _) refl c.passed.ensures.at c.passed.ensures.rows refl (omega arith) c.requires.few
+    closes (source (told_of a.told) a.s.now (length a.s.now)) (state after_via 1 false) a.from a.rows.now (found p.result) p.ensures (found_is p.result 1 c.eq.ensures c.if-eq.true) (closing_ends _) refl c.passed.ensures.at c.passed.ensures.rows refl (omega arith) c.requires.few
 
 pub returns-in_default : goal.returns-in_default
 returns-in_default c =
     let a = c.args in
     let p = c.peek-b in
     let none : received_extra_code (edition_of a.told.edition) ≡ None = cc in
-    foreign_byte (source (told_of a.told) a.s.now a.end) a.from.at a.from.rows a.rows.now (found p.result) p.ensures (state after_via 1 false) c.fault.ensures
+    foreign_byte (source (told_of a.told) a.s.now (length a.s.now)) a.from.at a.from.rows a.rows.now (found p.result) p.ensures (state after_via 1 false) c.fault.ensures
     (only_closes _ none (found p.result) (not_found p.result 1 (omega arith) c.eq.ensures c.if-eq.false)) refl refl
 
 pub returns : goal.returns

@@ -1,4 +1,5 @@
 -- `received::read_received`: a line with no code, the date, and what stands behind it.
+use Rattle.std.specs.Prelude.{length}
 use Rattle.std.specs.Prelude.{ℕ, List, false, refl}
 use native.Mathlib.Omega.{arith}
 use Rattle.meaning.specs.Bytes.{line}
@@ -23,7 +24,7 @@ by_read t s end from m a = begun (omega arith) (only_text (source t s end) from.
 pub returns-in_default : goal.returns-in_default
 returns-in_default c =
     let a = c.args in
-    handed c.in_default.is (by_read (told_of a.told) a.s.now a.end a.from a.rows.now (c.text-by.ensures _ _))
+    handed c.in_default.is (by_read (told_of a.told) a.s.now (length a.s.now) a.from a.rows.now (c.text-by.ensures _ _))
 
 pub date-date-requires : goal.date-date-requires
 date-date-requires c = ready_on c.requires c.in-Go.is (c.text-by.ensures (told B) (state received_date 1 false))
@@ -31,7 +32,7 @@ date-date-requires c = ready_on c.requires c.in-Go.is (c.text-by.ensures (told B
 pub returns-in_default-date : goal.returns-in_default-date
 returns-in_default-date c =
     let a = c.args in
-    onward c.in-Go.is (by_read (told_of a.told) a.s.now a.end a.from a.rows.now (c.text-by.ensures _ _)) (handed c.in_default-date.is (c.date-date.ensures _ _ (date_room _)))
+    onward c.in-Go.is (by_read (told_of a.told) a.s.now (length a.s.now) a.from a.rows.now (c.text-by.ensures _ _)) (handed c.in_default-date.is (c.date-date.ensures _ _ (date_room _)))
 
 pub behind_date-requires : goal.behind_date-requires
 behind_date-requires c = ready_on c.requires c.in-Go-date.is (c.date-date.ensures _ _ (date_room _))
@@ -39,4 +40,4 @@ behind_date-requires c = ready_on c.requires c.in-Go-date.is (c.date-date.ensure
 pub returns : goal.returns
 returns c =
     let a = c.args in
-    onward c.in-Go.is (by_read (told_of a.told) a.s.now a.end a.from a.rows.now (c.text-by.ensures _ _)) (onward c.in-Go-date.is (c.date-date.ensures _ _ (date_room _)) c.behind_date.ensures)
+    onward c.in-Go.is (by_read (told_of a.told) a.s.now (length a.s.now) a.from a.rows.now (c.text-by.ensures _ _)) (onward c.in-Go-date.is (c.date-date.ensures _ _ (date_room _)) c.behind_date.ensures)

@@ -1,4 +1,5 @@
 -- `rows::number`: the value's stage, and its row kept.
+use Rattle.std.specs.Prelude.{length}
 use mathlib.Core.Bool.{true}
 use native.Mathlib.Omega.{arith}
 use Rattle.meaning.specs.Bytes.{take_number}
@@ -12,10 +13,10 @@ pub keep-requires : goal.keep-requires
 keep-requires c =
     let a = c.args in
     let h = c.requires in
-    (value_fits a.s.now a.end a.from.at a.from.rows payload_length 0 (take_number 0 true (from a.s.now a.from.at a.end)) c.take-v.result h c.take-v.ensures, omega (arith, h.small, h.before, h.few))
+    (value_fits a.s.now (length a.s.now) a.from.at a.from.rows payload_length 0 (take_number 0 true (from a.s.now a.from.at (length a.s.now))) c.take-v.result h c.take-v.ensures, omega (arith, h.small, h.before, h.few))
 
 pub returns : goal.returns
 returns c t q =
     let a = c.args in
     let k = c.keep.ensures in
-    rw (k.0, k.1) (value_kept (source t a.s.now a.end) a.from.at a.from.rows 0 a.rows.now c.requires payload_length 0 q (take_number 0 true (from a.s.now a.from.at a.end)) c.take-v.result c.take-v.ensures)
+    rw (k.0, k.1) (value_kept (source t a.s.now (length a.s.now)) a.from.at a.from.rows 0 a.rows.now c.requires payload_length 0 q (take_number 0 true (from a.s.now a.from.at (length a.s.now))) c.take-v.result c.take-v.ensures)

@@ -1,4 +1,5 @@
 -- `texts::extras`: each turn reads one extra and is in the same state again; the 01 leads out, any other byte is refused.
+use Rattle.std.specs.Prelude.{length}
 use Rattle.std.proofs.Common.{ℕ, ◌+◌, ◌<◌, ◌≡◌, List, ap, ◌∙◌, refl, arith}
 use mathlib.Core.Bool.{true}
 use Rattle.meaning.specs.Bytes.{line}
@@ -33,7 +34,7 @@ pub returns-then-eq : goal.returns-then-eq
 returns-then-eq c q any d h =
     let l = c.loop-told in
     let is = found_is c.peek-b.result 1 c.eq.ensures c.if-eq.true in
-    closes (source (told_of c.args.told) c.args.s.now c.args.end) q l.here l.rows (found c.peek-b.result) c.peek-b.ensures is h.stop h.leads c.passed.ensures.at c.passed.ensures.rows (l.invariant.4 q any d h) l.invariant.0 l.invariant.2
+    closes (source (told_of c.args.told) c.args.s.now (length c.args.s.now)) q l.here l.rows (found c.peek-b.result) c.peek-b.ensures is h.stop h.leads c.passed.ensures.at c.passed.ensures.rows (l.invariant.4 q any d h) l.invariant.0 l.invariant.2
 
 pub returns-then-ne : goal.returns-then-ne
 returns-then-ne c q any d h =
@@ -42,7 +43,7 @@ returns-then-ne c q any d h =
     let not_closing = not_found p.result 1 (omega arith) c.eq.ensures c.if-eq.false in
     let not_code = other_found p.result c.args.code (omega arith) c.ne.ensures c.if-ne.true in
     begun l.invariant.0 (l.invariant.4 q any d h)
-    (foreign_byte (source (told_of c.args.told) c.args.s.now c.args.end) l.here.at l.here.rows l.rows (found p.result) p.ensures q c.fault.ensures (h.none_else (found p.result) not_closing not_code) h.ajar h.odd)
+    (foreign_byte (source (told_of c.args.told) c.args.s.now (length c.args.s.now)) l.here.at l.here.rows l.rows (found p.result) p.ensures q c.fault.ensures (h.none_else (found p.result) not_closing not_code) h.ajar h.odd)
 
 pub returns-in_default : goal.returns-in_default
 returns-in_default c q any d h =

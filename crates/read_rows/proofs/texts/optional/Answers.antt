@@ -1,5 +1,6 @@
 -- `texts::optional`: without its code the state is as the one behind the line.
-use Rattle.std.proofs.Common.{ℕ, ◌+◌, ◌<◌, ap, ◌∙◌, arith}
+use Rattle.std.specs.Prelude.{length}
+use Rattle.std.proofs.Common.{ℕ, ◌+◌, ap, ◌∙◌, arith}
 use native.Mathlib.Nat.{le_refl}
 use Rattle.meaning.specs.Bytes.{line}
 use Rattle.meaning.specs.Editions.{go}
@@ -14,13 +15,13 @@ pub returns-then-ne : goal.returns-then-ne
 returns-then-ne c t q d h =
     let p = c.peek in
     let a = c.args in
-    going (alike_at (source t a.s.now a.end) a.from.at a.from.rows a.rows.now (found p.result) p.ensures q d (h.else (found p.result) (other_found p.result a.code (omega arith) c.ne.ensures c.if-ne.true)) h.ends) (le_refl _) c.requires.before c.requires.few
+    going (alike_at (source t a.s.now (length a.s.now)) a.from.at a.from.rows a.rows.now (found p.result) p.ensures q d (h.else (found p.result) (other_found p.result a.code (omega arith) c.ne.ensures c.if-ne.true)) h.ends) (le_refl _) c.requires.before c.requires.few
 
 pub returns : goal.returns
 returns c t q d h =
     let p = c.peek in
     let a = c.args in
-    let i = source t a.s.now a.end in
+    let i = source t a.s.now (length a.s.now) in
     let is = same_found p.result a.code c.ne.ensures c.if-ne.false in
     arrives h.leads
     (begun (omega arith)

@@ -1,5 +1,6 @@
 -- `texts::texts`: each turn reads one line and is in the same state again; the 01 leads out.
-use Rattle.std.proofs.Common.{ℕ, ◌+◌, ◌<◌, ◌≡◌, List, ap, ◌∙◌, arith}
+use Rattle.std.specs.Prelude.{length}
+use Rattle.std.proofs.Common.{ℕ, ◌+◌, ◌≡◌, List, ap, ◌∙◌, arith}
 use native.Mathlib.Nat.{le_refl}
 use mathlib.Core.Bool.{false}
 use Rattle.meaning.specs.Bytes.{line}
@@ -30,7 +31,7 @@ pub returns-then-eq : goal.returns-then-eq
 returns-then-eq c t q d h =
     let l = c.loop-kind in
     let is = found_is c.peek.result 1 c.eq.ensures c.if-eq.true in
-    closes (source t c.args.s.now c.args.end) q l.here l.rows (found c.peek.result) c.peek.ensures is h.stop h.leads c.passed.ensures.at c.passed.ensures.rows (l.invariant.4 t q d h) l.invariant.0 l.invariant.2
+    closes (source t c.args.s.now (length c.args.s.now)) q l.here l.rows (found c.peek.result) c.peek.ensures is h.stop h.leads c.passed.ensures.at c.passed.ensures.rows (l.invariant.4 t q d h) l.invariant.0 l.invariant.2
 
 pub returns-in_default : goal.returns-in_default
 returns-in_default c t q d h =

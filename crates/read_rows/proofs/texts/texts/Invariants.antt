@@ -11,8 +11,8 @@ use Rattle.read_rows.proofs.texts.texts.Given as goal
 
 abbrev pub invariant-loop-kind : goal.invariant-loop-kind
 invariant-loop-kind l =
-    (l.fn.from.at ≤ l.here.at) × (l.here.at ≤ l.end) × (l.here.rows ≤ l.here.at) × (length l.rows ≡ length l.initial.rows)
-    × ((t : Told) (q d : State) → Texts t q d (number_of l.kind) l.level → run_at (source t l.s l.end) q l.fn.from.at l.fn.from.rows l.initial.rows ≡ run_at (source t l.s l.end) q l.here.at l.here.rows l.rows)
+    (l.fn.from.at ≤ l.here.at) × (l.here.at ≤ (length l.s)) × (l.here.rows ≤ l.here.at) × (length l.rows ≡ length l.initial.rows)
+    × ((t : Told) (q d : State) → Texts t q d (number_of l.kind) l.level → run_at (source t l.s (length l.s)) q l.fn.from.at l.fn.from.rows l.initial.rows ≡ run_at (source t l.s (length l.s)) q l.here.at l.here.rows l.rows)
 
 abbrev pub decreases-loop-kind : goal.decreases-loop-kind
-decreases-loop-kind l = l.end - l.here.at
+decreases-loop-kind l = (length l.s) - l.here.at
