@@ -9,7 +9,7 @@ use lib.ListN.{length, take, drop, length-drop}
 use lib.Seq.{take_all}
 use borrow.Author.Tests.{le-leb, lt-leb, leb-true}
 use Rattle.meaning.specs.Basics.{pick}
-use Rattle.meaning.specs.Told.{Edition, known, unknown, label_of, Strictness, strict, told_by}
+use Rattle.meaning.specs.Told.{Edition, B, D, known, unknown, label_of, Strictness, strict, told_by}
 use Rattle.meaning.specs.Headers.{Answer, refused, accepted, envelope_most, envelopes_most, labelled, read_by, read}
 use Rattle.meaning.specs.Skips.{Rank}
 use Rattle.meaning.specs.Words.{words_of}
@@ -37,6 +37,15 @@ use Rattle.table.specs.declared.answers.Stage.TheVariants.{Go, Refused}
 use Rattle.table.specs.declared.refusals.Refusal.TheVariants.{EditionUnknown, RowsShort}
 use Rattle.read_envelopes.specs.Headers.{filling_of, PlaceFits, HeaderRead}
 use Rattle.reader.specs.Promises.{ReadsBy, PartPromise, PayloadPromise, AcceptedHeader, Counted}
+
+-- the number that an edition has
+abbrev pub number_of : Edition → ℕ
+number_of B = 1
+number_of D = 2
+
+pub numbered : (e : Edition) → label_of (number_of e) ≡ known e
+numbered B = refl
+numbered D = refl
 
 -- One pass: what it comes to, with the rows in lent memory
 

@@ -92,13 +92,7 @@ pub fn count_in(edition: Edition, input: &[u8]) -> Stage
 // The second pass, over a header that is accepted up to a place with so many rows, and then their skip numbers and words. "14: all well, but rows exceed
 // the room": then no row and no word changes.
 // The header is taken by place and count, and not as a value that only a first pass makes: the relay fills a header that it joined, and no pass accepted.
-pub fn fill(
-    told: Told,
-    input: &[u8],
-    rows: &mut [u32],
-    words: &mut [u32],
-    to: Reached,
-) -> Reply
+pub fn fill(told: Told, input: &[u8], rows: &mut [u32], words: &mut [u32], to: Reached) -> Reply
     requires { Accepted (told_of told) input.now to }
     ensures { (edition : ℕ) → label_of edition ≡ known (edition_of told.edition) →
         ReadsBy (strictness_of told.strictness) edition input.now rows.old words.old result rows.new words.new }
