@@ -36,7 +36,7 @@ use Rattle.table.specs.declared.answers.Stage.{Stage}
 use Rattle.table.specs.declared.answers.Stage.TheVariants.{Go, Refused}
 use Rattle.table.specs.declared.refusals.Refusal.TheVariants.{EditionUnknown, RowsShort}
 use Rattle.read_envelopes.specs.Headers.{filling_of, PlaceFits, HeaderRead}
-use Rattle.reader.specs.Promises.{ReadsBy, PartPromise, PayloadPromise, AcceptedHeader, Counted}
+use Rattle.reader.specs.Promises.{ReadsBy, PartPromise, PayloadPromise, AcceptedHeader, Surveyed, Counted}
 
 -- the number that an edition has
 abbrev pub number_of : Edition → ℕ
@@ -47,11 +47,7 @@ pub numbered : (e : Edition) → label_of (number_of e) ≡ known e
 numbered B = refl
 numbered D = refl
 
--- One pass: what it comes to, with the rows in lent memory
-
-pub record Surveyed (strictness : Strictness) (edition : ℕ) (input before : List ℕ) (r : Stage) (after : List ℕ) : Type 0 where
-  pub is : finish (read_by strictness edition input) 0 before ≡ filling_of after r
-  pub fits : PlaceFits input r
+-- One pass
 
 module _ (w : Strictness) (edition : ℕ) (input m : List ℕ) where
   pub unknown_edition : {left : List ℕ} → label_of edition ≡ unknown → Surveyed w edition input m (Refused (record { refusal = EditionUnknown; at = 0 })) left

@@ -7,6 +7,7 @@ use Rattle.meaning.specs.Memory.{answer_by, rows_by, words_by}
 use Rattle.meaning.specs.Payload.{payload_start, payload_end, payload_bytes}
 use Rattle.laws_steps.specs.Logic.{are_bytes}
 use Rattle.laws_steps.specs.Pouring.{header_most}
+use Rattle.laws_steps.specs.Finishing.{finish}
 use Rattle.table.specs.declared.reply.Reply.{Reply}
 use Rattle.table.specs.Reply.{reply_of}
 use Rattle.table.specs.Refusals.{answer_of}
@@ -14,6 +15,7 @@ use Rattle.table.specs.declared.answers.Fault.{Fault}
 use Rattle.table.specs.declared.answers.Reached.{Reached}
 use Rattle.table.specs.declared.answers.Stage.{Stage}
 use Rattle.table.specs.declared.answers.Stage.TheVariants.{Refused, Go}
+use Rattle.read_envelopes.specs.Headers.{filling_of, PlaceFits}
 use Rattle.reader.specs.declared.Part.{Part}
 
 -- lent rows and words before the call, and after it; what is lent as bytes holds bytes
@@ -42,6 +44,11 @@ pub record PartPromise (edition : ℕ) (input : List ℕ) (part : Part) : Type 0
 pub record PayloadPromise (edition : ℕ) (input part : List ℕ) : Type 0 where
   pub bytes : part ≡ payload_bytes edition input
   pub is_part : part ≡ take (payload_end edition input - payload_start edition input) (drop (payload_start edition input) input)
+
+-- what one pass over the header comes to, with the rows in lent memory
+pub record Surveyed (strictness : Strictness) (edition : ℕ) (input before : List ℕ) (r : Stage) (after : List ℕ) : Type 0 where
+  pub is : finish (read_by strictness edition input) 0 before ≡ filling_of after r
+  pub fits : PlaceFits input r
 
 -- what a first pass found: the header is accepted, up to a place, with so many rows; by the edition's number, and as the reading was told
 pub record AcceptedHeader (strictness : Strictness) (edition : ℕ) (input : List ℕ) (to : Reached) : Type 0 where
