@@ -65,7 +65,12 @@ fn hold_row(rows: &[u32], n: usize, next: usize, end: usize, classes: &Classes) 
     match way_of(classes.of(kind)) {
         Way::Alone => hold_as(rows, i, next, end),
         Way::Deeper => hold_as(rows, i, deeper_end(rows, n, i), end),
-        Way::Agent => hold_as(rows, i, above_end(rows, n, i, Kind::AgentName.number()), end),
+        Way::Agent => hold_as(
+            rows,
+            i,
+            above_end(rows, n, i, Kind::AgentName.number()),
+            end,
+        ),
         Way::Follows => hold_run(rows, i, kind, end),
         Way::Envelope => hold_envelope(rows, i, end),
     }

@@ -22,8 +22,7 @@ use Rattle.table.specs.Rows.{u32_most}
 use Rattle.skips.specs.Owners.{Hoppable, Owned, deeper_test, above_test}
 use Rattle.skips.specs.Classes.{class_of}
 use Rattle.lay_skips.specs.Laying.{LaidFrom, LaidBack, InsideLaid, Turned, RunBefore, RunLaid}
-use Rattle.std.specs.Prelude.{Option, Some, None}
-use Rattle.lay_skips.specs.declared.Laid.{Laid}
+use Rattle.std.specs.Prelude.{Some, None}
 use Rattle.skips.specs.Owning.{of_agent}
 use Rattle.skips.specs.Belonging.{Light, light_belongs}
 use Rattle.skips.specs.Passes.{laid_hoppable}

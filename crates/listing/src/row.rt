@@ -8,7 +8,7 @@ ghost use Rattle.pen.specs.Wrote.{Wrote};
 ghost use Rattle.pen.specs.Fields.{fields_of};
 ghost use Rattle.listing.specs.Stages.{WroteEnd, WroteField, RowPiece, ViewPiece, ViewRoom};
 
-use crate::Piece;
+use crate::{Cursor, Piece};
 use pen::{NEWLINE, TAB, field, hex, put};
 use table::rows::ROW_NUMBERS;
 
@@ -16,21 +16,21 @@ use table::rows::ROW_NUMBERS;
 const NONE: u8 = 0x2d;
 
 // The next piece of a row's line; lines are counted from 1.
-pub fn row_piece(rows: &[u32], bytes: &[u8], line: usize, byte: usize, out: &mut [u8]) -> Piece
-    requires { (1 ≤ line) × (line ≤ room_of rows.now) × (piece_least ≤ length out.old) }
-    ensures { RowPiece (row_of rows.now (line - 1)) bytes.now line byte out.old out.new result }
+pub fn row_piece(rows: &[u32], bytes: &[u8], cursor: Cursor, out: &mut [u8]) -> Piece
+    requires { (1 ≤ cursor.line) × (cursor.line ≤ room_of rows.now) × (piece_least ≤ length out.old) }
+    ensures { RowPiece (row_of rows.now (cursor.line - 1)) bytes.now cursor.line cursor.byte out.old out.new result }
 {
-    let first = (line - 1) * ROW_NUMBERS;
+    let first = (cursor.line - 1) * ROW_NUMBERS;
     let row = &rows[first..first + ROW_NUMBERS];
-    if byte == 0 {
+    if cursor.byte == 0 {
         let end = numbers(row, out);
         return Piece {
             length: end,
-            line: line,
+            line: cursor.line,
             byte: 1,
         };
     }
-    view_line(row, bytes, byte - 1, line, out)
+    view_line(row, bytes, cursor.byte - 1, cursor.line, out)
 }
 
 // Writes a row's numbers, each with its tab.
@@ -72,20 +72,12 @@ fn view_piece(view: &[u8], gone: usize, line: usize, out: &mut [u8]) -> Piece
     let there = view.len();
     if there <= gone {
         let end = no_bytes(gone, out);
-        return Piece {
-            length: end,
-            line: line + 1,
-            byte: 0,
-        };
+        return line_end(end, line);
     }
     let room = (out.len() - 1) / 2;
     if there - gone <= room {
         let end = last_bytes(&view[gone..there], out);
-        return Piece {
-            length: end,
-            line: line + 1,
-            byte: 0,
-        };
+        return line_end(end, line);
     }
     let shown = gone + room;
     let end = hex(out, 0, &view[gone..shown]);
@@ -93,6 +85,18 @@ fn view_piece(view: &[u8], gone: usize, line: usize, out: &mut [u8]) -> Piece
         length: end,
         line: line,
         byte: shown + 1,
+    }
+}
+
+// A piece with which its line ends.
+fn line_end(length: usize, line: usize) -> Piece
+    requires { line + 1 < 18446744073709551616 }
+    ensures { result ≡ record { length = length; line = line + 1; byte = 0 } }
+{
+    Piece {
+        length: length,
+        line: line + 1,
+        byte: 0,
     }
 }
 

@@ -79,7 +79,10 @@ fn found(row: usize, looked: usize) -> Reply
 fn is_envelope(kind: u32) -> bool
     ensures { result ≡ is_envelope kind }
 {
-    matches!(Kind::try_from(kind), Ok(Kind::ExtensionOpens | Kind::BaseOpens))
+    matches!(
+        Kind::try_from(kind),
+        Ok(Kind::ExtensionOpens | Kind::BaseOpens)
+    )
 }
 
 // Takes the number of an envelope from 0, its row's kind and number, and its skip number. Answers where to look on: at the row behind its own, or

@@ -1,5 +1,5 @@
 -- What a pass over the rows stands on: the rows behind are right, from the last row to the first, and from the first row on.
-use Rattle.std.specs.Prelude.{ℕ, Option, Some, None, ◌+◌, ◌-◌, ◌≤◌, ◌<◌, List, Bool, ◌≡◌}
+use Rattle.std.specs.Prelude.{ℕ, Option, Some, None, ◌+◌, ◌-◌, ◌≤◌, ◌<◌, List, ◌≡◌}
 use Rattle.std.proofs.Common.{ap, sym, ◌∙◌, subst, arith}
 use Rattle.meaning.specs.Memory.{room_of, skips_held}
 use Rattle.laws_steps.specs.Hopping.{given_at, skip_at, held_at, held_end, held_next, held_wrong, AllRight, all_held, held_are}

@@ -72,9 +72,33 @@ pub fn is_owned(owner: Owner, at: u32, kind: u32, level: u32) -> bool
         Owner::Deeper => at < level,
         Owner::Envelope => is_above(Kind::BaseOpens.number(), at, kind, level),
         Owner::Agent => is_above(Kind::AgentName.number(), at, kind, level),
-        Owner::Addresses => is_beside(Kind::Address.number(), Kind::Address.number(), at, kind, level),
-        Owner::Valued => is_beside(Kind::AnyText.number(), Kind::AnyBytes.number(), at, kind, level),
-        Owner::Encrypted => is_beside(Kind::EncryptedItem.number(), Kind::EncryptedItem.number(), at, kind, level),
-        Owner::OwnKey => is_beside(Kind::OwnValue.number(), Kind::OwnValue.number(), at, kind, level),
+        Owner::Addresses => is_beside(
+            Kind::Address.number(),
+            Kind::Address.number(),
+            at,
+            kind,
+            level,
+        ),
+        Owner::Valued => is_beside(
+            Kind::AnyText.number(),
+            Kind::AnyBytes.number(),
+            at,
+            kind,
+            level,
+        ),
+        Owner::Encrypted => is_beside(
+            Kind::EncryptedItem.number(),
+            Kind::EncryptedItem.number(),
+            at,
+            kind,
+            level,
+        ),
+        Owner::OwnKey => is_beside(
+            Kind::OwnValue.number(),
+            Kind::OwnValue.number(),
+            at,
+            kind,
+            level,
+        ),
     }
 }

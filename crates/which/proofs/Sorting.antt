@@ -12,6 +12,9 @@ use Rattle.meaning.specs.Which.{Sorted, editions_of, read_either, sorted, which_
 use Rattle.laws_steps.specs.Logic.{are_bytes}
 use Rattle.table.specs.declared.reply.Reply as table
 use Rattle.table.specs.Reply.{reply_of}
+use Rattle.table.specs.Refusals.{answer_of}
+use Rattle.table.specs.declared.answers.Fault.{Fault}
+use Rattle.table.specs.declared.answers.Reached.{Reached}
 use Rattle.table.specs.declared.answers.Stage.{Stage}
 use Rattle.table.specs.declared.answers.Stage.TheVariants.{Refused, Go}
 use Rattle.reader.specs.Promises.{ReadsBy, Counted}
@@ -36,18 +39,18 @@ module _ (input : List ℕ) where
   }
 
   module _ {b d : Stage} (x : Counted 1 input b) (y : Counted 2 input d) where
-    pub by_both : {before words after words' : List ℕ} {r : table.Reply} {a : declared.Sorted} {p n place m : ℕ} → b ≡ Go p n → d ≡ Go place m → ReadsBy strict 2 input before words r after words' → sorted_of a ≡ sorted 3 (reply_of r) → WhichPromise input before words a after words'
+    pub by_both : {before words after words' : List ℕ} {r : table.Reply} {a : declared.Sorted} {to end : Reached} → b ≡ Go to → d ≡ Go end → ReadsBy strict 2 input before words r after words' → sorted_of a ≡ sorted 3 (reply_of r) → WhichPromise input before words a after words'
     unfolding editions_of read_either
-    by_both g h = filled 2 3 (rw ((x.accepts _ _ g).is, (y.accepts _ _ h).is) refl) (rw ((x.accepts _ _ g).is, (y.accepts _ _ h).is) refl)
+    by_both g h = filled 2 3 (rw ((x.accepts _ g).is, (y.accepts _ h).is) refl) (rw ((x.accepts _ g).is, (y.accepts _ h).is) refl)
 
-    pub by_second : {before words after words' : List ℕ} {r : table.Reply} {a : declared.Sorted} {p refusal place m : ℕ} → b ≡ Refused p refusal → d ≡ Go place m → ReadsBy strict 2 input before words r after words' → sorted_of a ≡ sorted 2 (reply_of r) → WhichPromise input before words a after words'
+    pub by_second : {before words after words' : List ℕ} {r : table.Reply} {a : declared.Sorted} {fault : Fault} {end : Reached} → b ≡ Refused fault → d ≡ Go end → ReadsBy strict 2 input before words r after words' → sorted_of a ≡ sorted 2 (reply_of r) → WhichPromise input before words a after words'
     unfolding editions_of read_either
-    by_second g h = filled 2 2 (rw (x.refuses _ _ g, (y.accepts _ _ h).is) refl) (rw (x.refuses _ _ g, (y.accepts _ _ h).is) refl)
+    by_second g h = filled 2 2 (rw (x.refuses _ g, (y.accepts _ h).is) refl) (rw (x.refuses _ g, (y.accepts _ h).is) refl)
 
-    pub by_first : {before words after words' : List ℕ} {r : table.Reply} {a : declared.Sorted} {p n place refusal : ℕ} → b ≡ Go p n → d ≡ Refused place refusal → ReadsBy strict 1 input before words r after words' → sorted_of a ≡ sorted 1 (reply_of r) → WhichPromise input before words a after words'
+    pub by_first : {before words after words' : List ℕ} {r : table.Reply} {a : declared.Sorted} {to : Reached} {fault : Fault} → b ≡ Go to → d ≡ Refused fault → ReadsBy strict 1 input before words r after words' → sorted_of a ≡ sorted 1 (reply_of r) → WhichPromise input before words a after words'
     unfolding editions_of read_either
-    by_first g h = filled 1 1 (rw ((x.accepts _ _ g).is, y.refuses _ _ h) refl) (rw ((x.accepts _ _ g).is, y.refuses _ _ h) refl)
+    by_first g h = filled 1 1 (rw ((x.accepts _ g).is, y.refuses _ h) refl) (rw ((x.accepts _ g).is, y.refuses _ h) refl)
 
-    pub by_neither : T (are_bytes input) → (before words : List ℕ) {p k place refusal : ℕ} → b ≡ Refused p k → d ≡ Refused place refusal → WhichPromise input before words (record { answer = refusal; place = place; rows = 0; editions = 0 }) before words
+    pub by_neither : T (are_bytes input) → (before words : List ℕ) {first fault : Fault} → b ≡ Refused first → d ≡ Refused fault → WhichPromise input before words (record { answer = answer_of fault.refusal; place = fault.at; rows = 0; editions = 0 }) before words
     unfolding editions_of read_either which_answer which_rows which_words
-    by_neither t before words {refusal = refusal} g h = record { bytes = t; answers = rw (x.refuses _ _ g, y.refuses _ _ h) (pick_none (eqb refusal 0)); rows = rw (x.refuses _ _ g, y.refuses _ _ h) refl; carries = rw (x.refuses _ _ g, y.refuses _ _ h) refl }
+    by_neither t before words {fault = fault} g h = record { bytes = t; answers = rw (x.refuses _ g, y.refuses _ h) (pick_none (eqb (answer_of fault.refusal) 0)); rows = rw (x.refuses _ g, y.refuses _ h) refl; carries = rw (x.refuses _ g, y.refuses _ h) refl }

@@ -4,19 +4,22 @@
 ghost use Rattle.std.specs.Prelude.{◌≡◌};
 ghost use Rattle.meaning.specs.Which.{sorted};
 ghost use Rattle.table.specs.Reply.{reply_of};
+ghost use Rattle.table.specs.declared.told.Strictness.TheVariants.{Strict};
 ghost use Rattle.which.specs.Promise.{WhichPromise, sorted_of};
+ghost use Rattle.which.specs.Allowing.{editions_in};
 
-use reader::{count, fill};
+use reader::{count_in, fill};
 use table::answers::Stage;
 use table::reply::Reply;
-use table::told::Strictness;
+use table::told::{Edition, Strictness, Told};
 
-// The editions that allow the bytes, by their numbers and both together.
-const B: u32 = 1;
-
-const D: u32 = 2;
-
-const BOTH: u32 = 3;
+// The editions that allow the bytes.
+#[derive(Clone, Copy)]
+enum Allowed {
+    B = 1,
+    D = 2,
+    Both = 3,
+}
 
 // "answers the rows and the editions that allow the bytes: 1, 2, or 3 for both"; refused, 0.
 #[repr(C)]
@@ -34,39 +37,48 @@ pub struct Sorted {
 pub fn which(input: &[u8], rows: &mut [u32], words: &mut [u32]) -> Sorted
     ensures { WhichPromise input.now rows.old words.old result rows.new words.new }
 {
-    let by_b = count(B, input);
-    let by_d = count(D, input);
-    match by_d {
-        Stage::Go(place, n) => {
-            let read = fill(D, Strictness::Strict, input, rows, words, place, n);
-            match by_b {
-                Stage::Go(_, _) => sort(read, BOTH),
-                Stage::Refused { refusal: _, at: _ } => sort(read, D),
-            }
+    let by_b = count_in(Edition::B, input);
+    let by_d = count_in(Edition::D, input);
+    match (by_b, by_d) {
+        (Stage::Go(_), Stage::Go(to)) => {
+            let read = fill(strictly(Edition::D), input, rows, words, to);
+            sort(read, Allowed::Both)
         }
-        Stage::Refused { refusal, at } => match by_b {
-            Stage::Go(place, n) => {
-                let read = fill(B, Strictness::Strict, input, rows, words, place, n);
-                sort(read, B)
-            }
-            Stage::Refused { refusal: _, at: _ } => Sorted {
-                answer: refusal,
-                place: at,
-                rows: 0,
-                editions: 0,
-            },
+        (Stage::Refused(_), Stage::Go(to)) => {
+            let read = fill(strictly(Edition::D), input, rows, words, to);
+            sort(read, Allowed::D)
+        }
+        (Stage::Go(to), Stage::Refused(_)) => {
+            let read = fill(strictly(Edition::B), input, rows, words, to);
+            sort(read, Allowed::B)
+        }
+        (Stage::Refused(_), Stage::Refused(fault)) => Sorted {
+            answer: fault.refusal.answer(),
+            place: fault.at,
+            rows: 0,
+            editions: 0,
         },
     }
 }
 
+// What a strict reading is told.
+fn strictly(edition: Edition) -> Told
+    ensures { result ≡ record { edition = edition; strictness = Strict } }
+{
+    Told {
+        edition,
+        strictness: Strictness::Strict,
+    }
+}
+
 // Takes a reading's answer and the editions that allow the header. Answers both, "Refusals, each with editions 0".
-fn sort(read: Reply, editions: u32) -> Sorted
-    ensures { sorted_of result ≡ sorted editions (reply_of read) }
+fn sort(read: Reply, allowed: Allowed) -> Sorted
+    ensures { sorted_of result ≡ sorted (editions_in allowed) (reply_of read) }
 {
     Sorted {
         answer: read.answer,
         place: read.place,
         rows: read.rows,
-        editions: if read.answer == 0 { editions } else { 0 },
+        editions: if read.answer == 0 { allowed as u32 } else { 0 },
     }
 }

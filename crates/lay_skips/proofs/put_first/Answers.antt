@@ -4,7 +4,7 @@ use mathlib.Core.List.{List}
 use mathlib.Core.Path.{◌≡◌, refl, ap, ◌∙◌}
 use native.Mathlib.Omega.{arith}
 use lib.ListN.{length, get_or, set}
-use Rattle.lay_skips.proofs.Pushing.{pushed, in_hand, begins_pushed, pushed_length, pushes, takes_up, first_laid}
+use Rattle.lay_skips.proofs.Pushing.{pushed, in_hand, begins_pushed, pushes, takes_up, first_laid}
 use Rattle.lay_skips.proofs.put_first.Goals as goal
 
 pub loop-i-init : goal.loop-i-init

@@ -2,7 +2,7 @@
 use Rattle.std.specs.Prelude.{◌≡◌, false, refl, eqb}
 use Rattle.std.proofs.Common.{sym}
 use Rattle.std.proofs.lemmas.Bool.{ne_eqb}
-use Rattle.table.specs.Kinds.{KindOf, number_of}
+use Rattle.table.specs.Kinds.{number_of}
 use Rattle.table.specs.declared.kinds.Kind.{Kind}
 use Rattle.table.specs.declared.kinds.Kind.TheVariants.{ExtensionOpens, BaseOpens}
 use Rattle.lookup.proofs.is_envelope.Goals as goal

@@ -17,8 +17,8 @@ returns-then-skip-i c =
     let l = c.loop-i in
     let here : l.i < room_of c.args.rows.now = omega (arith, c.room-n.ensures, c.loop-i-test.true) in
     let wrong : looked_up c.args.rows.now c.args.words.now c.args.code ≡ wrong_skip l.i = elim c.then-skip-i.branch [
-      then-skip-i-via-then-skip-i w ↦ skip_below l.invariant here c.kind_at-kind.ensures c.skip_at-skip.ensures w.if-skip-i.true
-    | then-skip-i-via-else-skip-i+then-n-skip w ↦ skip_past l.invariant here c.kind_at-kind.ensures c.skip_at-skip.ensures w.if-skip-i.false (omega (arith, c.room-n.ensures, w.if-n-skip.true))
+      | then-skip-i-via-then-skip-i w ↦ skip_below l.invariant here c.kind_at-kind.ensures c.skip_at-skip.ensures w.if-skip-i.true
+      | then-skip-i-via-else-skip-i+then-n-skip w ↦ skip_past l.invariant here c.kind_at-kind.ensures c.skip_at-skip.ensures w.if-skip-i.false (omega (arith, c.room-n.ensures, w.if-n-skip.true))
     ] in
     c.into.ensures ∙ ap fault_reply c.at.ensures ∙ ap looked_reply (sym wrong)
 

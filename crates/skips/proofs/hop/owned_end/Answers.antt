@@ -20,6 +20,6 @@ pub returns : goal.returns
 returns g c =
     let a = c.args in
     elim c.loop-j-test.branch [
-      then-loop-j-test+else-is_owned w ↦ stops a.rows.now a.n a.i w.kind_at.ensures w.level_at.ensures (c.requires.tells w.kind_at.result w.level_at.result w.is_owned.result w.is_owned.ensures) c.loop-j.invariant w.loop-j-test.true w.if-is_owned.false
-    | else-loop-j-test w ↦ ends c.loop-j.invariant w.loop-j-test.false
+      | then-loop-j-test+else-is_owned w ↦ stops a.rows.now a.n a.i w.kind_at.ensures w.level_at.ensures (c.requires.tells w.kind_at.result w.level_at.result w.is_owned.result w.is_owned.ensures) c.loop-j.invariant w.loop-j-test.true w.if-is_owned.false
+      | else-loop-j-test w ↦ ends c.loop-j.invariant w.loop-j-test.false
     ]
