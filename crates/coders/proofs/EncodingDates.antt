@@ -10,13 +10,12 @@ use lib.ListN.{length, take}
 use Rattle.meaning.specs.Basics.{pick}
 use Rattle.meaning.specs.Bytes.{Taken, took, failed, prefixed, Check, letter, passes, absolute, relative, date_checks, take_date, date_ok}
 use Rattle.meaning.specs.Plain.{Date, outcome, encode_outcome, encode_memory, Reached, dated, reach_of, reach_allows, designated, fits_digits, pair_byte, date_bytes, date_in_range, date_encoded, date_output}
-use Rattle.laws_steps.specs.From.{from}
 use Rattle.std.specs.Prelude.{Result, Ok, Err, is_err}
 use Rattle.table.specs.declared.answers.Fault.{Fault}
 use Rattle.table.specs.declared.kinds.Kind.{Kind}
 use Rattle.table.specs.Kinds.{number_of}
 use Rattle.coders.specs.declared.encode.Encoded.{Encoded}
-use Rattle.values.specs.Stages.{span, spans, misses, Valued}
+use Rattle.values.specs.Stages.{span, spans, misses, rest, ValuedAt}
 use Rattle.values.specs.Answers.{valued_at, valued_refused}
 use Rattle.date.specs.Dates.{reaching, date_length, value_by}
 use Rattle.coders.specs.Plain.{Fits, ten_bytes, DateEncodes, EncodesReach}
@@ -124,18 +123,17 @@ module _ (d : Date) (isAbsolute : Bool) {many : ℕ} {array : List ℕ} (hm : ma
   many_part = many_long ∙ ap length (sym bytes_here)
 
   abbrev taken : Taken
-  taken = take_date checks [] (from (take many array) 0 many)
+  taken = take_date checks [] (rest (take many array) 0)
 
   taken_here : taken ≡ take_date checks [] (date_bytes d)
   taken_here =
-      let q : from (take many array) 0 many ≡ take many array = ap (from (take many array) 0) many_part ∙ from_all (take many array) in
-      ap (take_date checks []) (q ∙ bytes_here)
+      ap (take_date checks []) (from_all (take many array) ∙ bytes_here)
 
   ok_here : date_ok checks [] (date_bytes d) ≡ is_taken taken
   ok_here = ok_taken checks [] (date_bytes d) (omega (arith, many_long, hm, (long_by d isAbsolute (designated d)).1)) ∙ ap is_taken (sym taken_here)
 
   -- the stage's answer over those bytes, as a date of any kind
-  module _ (k : Kind) (r : Result ℕ Fault) (v : Valued (take many array) many 0 (number_of k) 0 taken (value_by k 0 r)) where
+  module _ (k : Kind) (r : Result ℕ Fault) (v : ValuedAt (take many array) 0 (number_of k) 0 taken (value_by k 0 r)) where
     date_allowed : Fits d ≡ true → {after : ℕ} → r ≡ Ok after → reach_allows d (dated (reaching isAbsolute)) ≡ true
     date_allowed f h =
         let p = valued_at (rw h at v) refl in

@@ -34,7 +34,7 @@ pub fn number(bytes: &[u8]) -> DecodedNumber
     ensures { NumberDecodes bytes.now result }
 {
     let end = bytes.len();
-    match count(bytes, end, 0) {
+    match count(bytes, 0) {
         Number::Fails(fault) => unread(fault.at),
         Number::Counts { value: _, after } if after < end => unread(after),
         Number::Counts { value, after } => DecodedNumber {
@@ -75,7 +75,7 @@ fn reached(bytes: &[u8], absolute: bool) -> DecodedDate
         absolute: absolute,
         designated: 9 < end,
     };
-    match date::bytes(bytes, end, 0, form) {
+    match date::bytes(bytes, 0, form) {
         Err(fault) => undecoded(fault.at),
         Ok(after) if after < end => undecoded(after),
         Ok(after) => DecodedDate {

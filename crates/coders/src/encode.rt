@@ -90,7 +90,7 @@ fn fitting(date: Date, absolute: bool, output: &mut [u8]) -> Encoded
     };
     let many = length_of(form.designated);
     let bytes = ten_bytes(date);
-    if date::bytes(&bytes[..many], many, 0, form).is_err() {
+    if date::bytes(&bytes[..many], 0, form).is_err() {
         return Refusal::DateWrong.at(0).into();
     }
     if output.len() < many {

@@ -17,7 +17,7 @@ pub fn text_ok(bytes: &[u8], rule: Rule) -> bool
     if end == 0 {
         return true;
     }
-    end <= values::text::run(bytes, end, 0, rule)
+    end <= values::text::run(bytes, 0, rule)
 }
 
 // Answers whether the bytes are a number: whether the reader's own stage takes all of them.
@@ -25,7 +25,7 @@ pub fn number_ok(bytes: &[u8]) -> bool
     ensures { result ≡ number_ok 0 true bytes.now }
 {
     let end = bytes.len();
-    let Value::Is { after, .. } = values::number::take(bytes, end, 0) else {
+    let Value::Is { after, .. } = values::number::take(bytes, 0) else {
         return false;
     };
     end <= after
@@ -39,7 +39,7 @@ pub fn date_ok(bytes: &[u8], form: Form) -> bool
     if end != date::length_of(form.designated) {
         return false;
     }
-    let Ok(after) = date::bytes(bytes, end, 0, form) else {
+    let Ok(after) = date::bytes(bytes, 0, form) else {
         return false;
     };
     end <= after
