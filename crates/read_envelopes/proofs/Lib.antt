@@ -1,3 +1,4 @@
 pub mod Frames
 pub mod Envelopes
 pub mod Turns
+pub mod Cut

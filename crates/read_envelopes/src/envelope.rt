@@ -52,7 +52,7 @@ fn read_opened(
         at: first,
         rows: opened.rows,
     };
-    let r = read_inside(s, end, inside, rows, base, told);
+    let r = read_inside(&s[..end], inside, rows, base, told);
     ended(r, end, base)
 }
 
