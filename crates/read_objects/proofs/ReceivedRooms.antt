@@ -1,11 +1,10 @@
 -- The extras of a received object: in D a run of them, in B none.
-use Rattle.std.specs.Prelude.{ℕ, ◌<◌, false, Option, None, Some, ◌≡◌, refl}
-use native.Mathlib.Omega.{arith}
+use Rattle.std.specs.Prelude.{ℕ, false, None, Some, ◌≡◌, refl}
 use borrow.Author.Tests.{ne_eqb}
 use Rattle.meaning.specs.Bytes.{line}
 use Rattle.meaning.specs.Kinds.{extra_key}
 use Rattle.meaning.specs.Told.{Edition, B, D, Told}
-use Rattle.meaning.specs.Editions.{parameters, after_via, received_extra, extra_code, state, outer, stay, text, any_values, closing, on◌▸◌▸◌▸◌, pass◌▸◌, shared, own, moves}
+use Rattle.meaning.specs.Editions.{parameters, after_via, received_extra, state, outer, stay, text, any_values, closing, on◌▸◌▸◌▸◌, pass◌▸◌, shared, own, moves}
 use Rattle.meaning.specs.Reading.{none, hit, find, look}
 use Rattle.laws_steps.specs.Shapes.{Shaped, Extras}
 use Rattle.laws_steps.specs.Rooms.{flip}

@@ -1,5 +1,5 @@
 -- `agents::name_and_addresses`: the name's stage; without 02 the state is as behind the addresses, with it they are a list of texts.
-use Rattle.std.specs.Prelude.{ℕ, ◌+◌, ◌<◌, false, refl}
+use Rattle.std.specs.Prelude.{false, refl}
 use Rattle.std.proofs.Common.{◌∙◌}
 use native.Mathlib.Omega.{arith}
 use Rattle.meaning.specs.Editions.{address_texts, after_addresses, after_name, parameters, state, stay}

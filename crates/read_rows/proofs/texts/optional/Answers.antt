@@ -1,5 +1,5 @@
 -- `texts::optional`: without its code the state is as the one behind the line.
-use Rattle.std.proofs.Common.{ℕ, ◌+◌, ◌<◌, ap, ◌∙◌, arith}
+use Rattle.std.proofs.Common.{ℕ, ◌+◌, ap, ◌∙◌, arith}
 use native.Mathlib.Nat.{le_refl}
 use Rattle.meaning.specs.Bytes.{line}
 use Rattle.meaning.specs.Editions.{go}

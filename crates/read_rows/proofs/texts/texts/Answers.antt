@@ -1,5 +1,5 @@
 -- `texts::texts`: each turn reads one line and is in the same state again; the 01 leads out.
-use Rattle.std.proofs.Common.{ℕ, ◌+◌, ◌<◌, ◌≡◌, List, ap, ◌∙◌, arith}
+use Rattle.std.proofs.Common.{ℕ, ◌+◌, ◌≡◌, List, ap, ◌∙◌, arith}
 use native.Mathlib.Nat.{le_refl}
 use mathlib.Core.Bool.{false}
 use Rattle.meaning.specs.Bytes.{line}
