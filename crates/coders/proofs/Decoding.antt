@@ -1,31 +1,29 @@
 -- A slice that must hold exactly one value: what a decoder answers, from the span of the value at its front.
 use Prim.Native.Nat.{ℕ, suc, ◌+◌, ◌-◌, ◌≤◌, ◌<◌}
 use mathlib.Core.List.{List, [], ◌∷◌, ◌++◌, append-nil}
-use mathlib.Core.Bool.{Bool, true, false, not, ◌||◌}
-use mathlib.Core.Logic.{◌⊎◌, inl, inr}
+use mathlib.Core.Bool.{Bool, true, false}
 use mathlib.Core.Path.{◌≡◌, refl, ap, sym, ◌∙◌}
 use native.Mathlib.Nat.{le_refl}
 use native.Mathlib.Omega.{arith}
-use borrow.Author.Tests.{lt-ltb, le-ltb}
-use lib.Dec.{eqb}
-use lib.ListN.{length, get_or, length-append}
+use lib.ListN.{length}
 use lib.Seq.{take_all}
 use Rattle.meaning.specs.Basics.{pick}
-use Rattle.meaning.specs.Bytes.{Taken, took, failed, prefixed, Check, passes, absolute, relative, date_checks, take_date, take_number}
-use Rattle.meaning.specs.Plain.{decoded, undecoded, exactly, Reached, no_reach, reach_of, number_value, decode_number, number_decoded, number_plain, Date as PlainDate, date_of, dated, decode_date, date_decoded, date_plain}
-use Rattle.meaning.specs.Kinds.{date_absolute, date_forward, date_backward}
-use Rattle.laws_steps.specs.From.{from, from_length, from_end, from_cons}
+use Rattle.meaning.specs.Bytes.{Taken, took, failed, prefixed, Check, passes, date_checks, take_date, take_number}
+use Rattle.meaning.specs.Plain.{decoded, undecoded, exactly, Reached, reach_of, number_value, decode_number, number_decoded, number_plain, date_of, dated, decode_date, date_decoded, date_plain}
+use Rattle.laws_steps.specs.From.{from, from_end, from_cons}
 use Rattle.values.specs.declared.number.Number.{Number}
 use Rattle.values.specs.declared.number.Number.TheVariants.{Counts, Fails}
 use Rattle.coders.specs.declared.Date.{Date}
-use Rattle.values.specs.Stages.{span, spans, misses}
+use Rattle.values.specs.Stages.{span, spans, misses, Valued}
 use Rattle.values.specs.Answers.{valued_at, valued_refused}
 use Rattle.values.specs.Numbers.{counts, tally, tallied, Counted}
-use Rattle.date.specs.Dates.{reaching, date_length, check_at, earlier}
-use Rattle.date.specs.DateSteps.{date_begins, date_over, date_ends, date_wrong, date_goes}
+use Rattle.std.specs.Prelude.{Result, Ok, Err, ltb}
+use Rattle.table.specs.declared.answers.Fault.{Fault}
+use Rattle.table.specs.declared.kinds.Kind.{Kind}
+use Rattle.table.specs.Kinds.{number_of}
+use Rattle.date.specs.Dates.{reaching, value_by}
 use Rattle.coders.specs.declared.decode.DecodedDate.{DecodedDate}
-use Rattle.coders.specs.Stepped.{FailsAt, has_designator, Behind, TimeRead}
-use Rattle.coders.specs.Plain.{NumberDecodes, DateDecodes, DecodesReach, is_date, plain_of, undecoded_at}
+use Rattle.coders.specs.Plain.{NumberDecodes, DateDecodes, DecodesReach, plain_of, unread_at, undecoded_at}
 use Rattle.values.specs.Counting.{counted_is, counted_refused}
 
 pub from_all : (s : List ℕ) → from s 0 (length s) ≡ s
@@ -68,16 +66,16 @@ module _ (s : List ℕ) {r : Number} (a : Counted s (length s) 0 r) where
   here : take_number 0 true (from s 0 (length s)) ≡ number
   here = ap (take_number 0 true) (from_all s)
 
-  refused_at : (place : ℕ) → exactly s number ≡ undecoded place → NumberDecodes s (record { answer = 10; place = place; value = 0 })
+  refused_at : (place : ℕ) → exactly s number ≡ undecoded place → NumberDecodes s (unread_at place)
   unfolding number_decoded number_plain decode_number
   refused_at place q = record { is = rw q refl; worth = rw q refl }
 
-  pub number_refused : {refusal place : ℕ} → r ≡ Fails refusal place → NumberDecodes s (record { answer = 10; place = place; value = 0 })
-  number_refused {place = place} h =
+  pub number_refused : {fault : Fault} → r ≡ Fails fault → NumberDecodes s (unread_at fault.at)
+  number_refused {fault} h =
       let (q, k) = valued_refused (counted_refused a h) refl in
-      refused_at place (exactly_refused s number (ap (span 0) (sym here) ∙ q) k)
+      refused_at fault.at (exactly_refused s number (ap (span 0) (sym here) ∙ q) k)
 
-  pub number_left : {value after : ℕ} → r ≡ Counts value after → after < length s → NumberDecodes s (record { answer = 10; place = after; value = 0 })
+  pub number_left : {value after : ℕ} → r ≡ Counts value after → after < length s → NumberDecodes s (unread_at after)
   number_left {after = after} h k =
       let p = valued_at (counted_is a h) refl in
       refused_at after (exactly_left s number (ap (span 0) (sym here) ∙ p.0) (omega arith) k)
@@ -113,36 +111,15 @@ front_whole cs s (took v rest) f e =
     (sym q, ap length q ∙ f.1)
 front_whole cs s (failed refusal left) f e = let z : ◌≡◌ {A = ℕ} 0 1 = cc in absurd (omega arith)
 
--- its length is the place after it
-front_fills : (cs : List Check) (s : List ℕ) (t : Taken) {many after : ℕ} → Fronts cs s t → span 0 t ≡ spans many (from s after (length s)) → after ≤ length s → many ≡ after
-front_fills cs s (took v rest) {many} {after} f q h =
-    let e : rest ≡ from s after (length s) = cc in
-    let k : 0 + length v ≡ many = cc in
-    omega (arith, ap length e, from_length s after (length s) h (le_refl (length s)), ap length f.0, length-append v rest)
-front_fills cs s (failed refusal left) f q h = let z : ◌≡◌ {A = ℕ} 0 1 = cc in absurd (omega arith)
+-- A date, as the reader's stage takes it
 
--- A date byte by byte
-
-pub fails_missing : (s : List ℕ) (isAbsolute : Bool) (j : ℕ) → length s ≤ j → FailsAt s isAbsolute j true
-fails_missing s isAbsolute j h = record { fails = λ q. inl h; passed = λ q. let z : ◌≡◌ {A = ℕ} 0 1 = cc q in absurd (omega arith) }
-
-pub fails_there : (s : List ℕ) (isAbsolute : Bool) (j : ℕ) → j < length s → (r : Bool) → r ≡ passes (check_at isAbsolute j) (earlier s 0 j) (get_or s (0 + j) 0) → FailsAt s isAbsolute j (not r)
-fails_there s isAbsolute j h true p = record { fails = λ q. let z : ◌≡◌ {A = ℕ} 0 1 = cc q in absurd (omega arith); passed = λ q. (h, sym p) }
-fails_there s isAbsolute j h false p = record { fails = λ q. inr (h, sym p); passed = λ q. let z : ◌≡◌ {A = ℕ} 0 1 = cc q in absurd (omega arith) }
-
-nine_bytes : (designated : Bool) → 9 ≤ date_length designated
-nine_bytes true = omega arith
-nine_bytes false = omega arith
+-- "a tenth byte is the designator"
+abbrev pub has_designator : List ℕ → Bool
+has_designator s = ltb 9 (length s)
 
 module _ (s : List ℕ) (isAbsolute : Bool) where
-  abbrev designated : Bool
-  designated = has_designator s
-
-  abbrev many : ℕ
-  many = date_length designated
-
   abbrev checks : List Check
-  checks = date_checks (reaching isAbsolute) designated
+  checks = date_checks (reaching isAbsolute) (has_designator s)
 
   abbrev date : Taken
   date = take_date checks [] s
@@ -153,80 +130,41 @@ module _ (s : List ℕ) (isAbsolute : Bool) where
   undated_at : (place : ℕ) → exactly s date ≡ undecoded place → DecodesReach (dated (reaching isAbsolute)) s (undecoded_at place)
   undated_at place q = record { is = rw q refl; worth = rw q refl }
 
-  pub behind_none : Behind s isAbsolute 0
-  behind_none = record { inside = omega arith; is = date_begins s (length s) 0 isAbsolute many designated refl }
+  nine_checks : 9 ≤ length checks
+  nine_checks = at isAbsolute (has_designator s)
+    where
+      at : (x y : Bool) → 9 ≤ length (date_checks (reaching x) y)
+      at true true = omega arith
+      at true false = omega arith
+      at false true = omega arith
+      at false false = omega arith
 
-  module _ {j : ℕ} (b : Behind s isAbsolute j) (h : j < many) {r : Bool} (f : FailsAt s isAbsolute j r) where
-    pub next_there : r ≡ false → j < length s
-    next_there q = (f.passed q).0
+  -- what the stage answered
+  module _ (k : Kind) {r : Result ℕ Fault} (v : Valued s (length s) 0 (number_of k) 0 (take_date checks [] (from s 0 (length s))) (value_by k 0 r)) where
+    pub undated : {fault : Fault} → r ≡ Err fault → DecodesReach (dated (reaching isAbsolute)) s (undecoded_at fault.at)
+    undated {fault} h =
+        let p = valued_refused (rw h at v) refl in
+        undated_at fault.at (exactly_refused s date (ap (span 0) (sym there) ∙ p.0) p.1)
 
-    pub behind_next : r ≡ false → Behind s isAbsolute (j + 1)
-    behind_next q =
-        let (l, p) = f.passed q in
-        record { inside = omega arith; is = b.is ∙ date_goes s (length s) 0 isAbsolute many j h (le_refl (length s)) (omega arith) refl p }
+    pub date_left : {after : ℕ} → r ≡ Ok after → after < length s → DecodesReach (dated (reaching isAbsolute)) s (undecoded_at after)
+    date_left {after} h l =
+        let p = valued_at (rw h at v) refl in
+        undated_at after (exactly_left s date (ap (span 0) (sym there) ∙ p.0) (omega arith) l)
 
-    -- a byte that is missing or wrong
-    pub undated : r ≡ true → DecodesReach (dated (reaching isAbsolute)) s (undecoded_at j)
-    undated q = undated_at j (at (f.fails q))
-      where
-        at : (length s ≤ j) ⊎ ((j < length s) × (passes (check_at isAbsolute j) (earlier s 0 j) (get_or s (0 + j) 0) ≡ false)) → exactly s date ≡ undecoded j
-        at (inl e) =
-            let z : length s - length s ≡ length s - j = omega (arith, b.inside) in
-            exactly_refused s date (ap (span 0) (sym there) ∙ b.is ∙ date_ends s (length s) 0 isAbsolute many j h (omega arith) ∙ ap (misses 6) z) b.inside
-        at (inr (l, p)) =
-            let z : length s - (0 + j) ≡ length s - j = omega arith in
-            exactly_refused s date (ap (span 0) (sym there) ∙ b.is ∙ date_wrong s (length s) 0 isAbsolute many j h (le_refl (length s)) (omega arith) refl p ∙ ap (misses 9) z) b.inside
+    module _ {after : ℕ} (h : r ≡ Ok after) (l : length s ≤ after) where
+      whole : (exactly s date ≡ decoded (front date)) × (length (front date) ≡ after) × (date ≡ took (front date) [])
+      whole = let p = valued_at (rw h at v) refl in exactly_all s date (ap (span 0) (sym there) ∙ p.0) (omega arith) l
 
-  pub within_nine : {j : ℕ} → j < 9 → j < many
-  within_nine h = omega (arith, nine_bytes designated)
+      fills : (front date ≡ s) × (length s ≡ length checks)
+      fills = front_whole checks s date (date_fronts checks [] s) whole.2
 
-  module _ (n : ℕ) (is-many : n ≡ many) (b : Behind s isAbsolute n) where
-    span_here : span 0 date ≡ spans n (from s n (length s))
-    span_here =
-        let z : 0 + n ≡ n = omega arith in
-        ap (span 0) (sym there) ∙ b.is ∙ date_over s (length s) 0 isAbsolute many n (omega arith) ∙ ap (λ (x : ℕ). spans n (from s x (length s))) z
+      pub date_long : 9 ≤ length s
+      date_long = omega (arith, fills.1, nine_checks)
 
-    -- a byte left over
-    pub date_left : n < length s → DecodesReach (dated (reaching isAbsolute)) s (undecoded_at n)
-    date_left l = undated_at n (exactly_left s date span_here refl l)
-
-    pub date_whole : length s ≤ n → {d : Date} → plain_of d ≡ date_of s → DecodesReach (dated (reaching isAbsolute)) s (record { answer = 0; place = n; date = d })
-    date_whole l g =
-        let w = exactly_all s date span_here refl l in
-        let f = front_whole checks s date (date_fronts checks [] s) w.2 in
-        record { is = rw (w.0, w.1) refl; worth = g ∙ rw (w.0, f.0) refl }
-
--- how many bytes the slice's length asks for
-pub nine_long : (s : List ℕ) → length s ≡ 9 → 9 ≡ date_length (has_designator s)
-nine_long s h = sym (ap date_length (le-ltb 9 (length s) (omega arith)))
-
-pub ten_there : {n : ℕ} → 9 ≤ n → (n ≡ 9 → ⊥) → 10 ≤ n
-ten_there h k = omega (arith, h, k)
-
-pub ten_long : (s : List ℕ) → 10 ≤ length s → 10 ≡ date_length (has_designator s)
-ten_long s h = sym (ap date_length (lt-ltb 9 (length s) (omega arith)))
-
--- the components, with or without a tenth byte
-pub date_components : (s : List ℕ) {isAbsolute : Bool} {d : PlainDate} {z : ℕ} → TimeRead s isAbsolute d → z ≡ get_or s 9 0
-    → record { year = d.year; month = d.month; day = d.day; hour = d.hour; minute = d.minute; second = d.second; millisecond = d.millisecond; designator = z } ≡ date_of s
-date_components s t q = rw (t.year_is, t.month_is, t.day_is, t.hour_is, t.minute_is, t.second_is, t.millisecond_is, q) refl
+      pub date_whole : {d : Date} → plain_of d ≡ date_of s → DecodesReach (dated (reaching isAbsolute)) s (record { answer = 0; place = after; date = d })
+      date_whole g = record { is = rw (whole.0, whole.1) refl; worth = g ∙ rw (whole.0, fills.0) refl }
 
 -- the kind's reach
 pub kind_decodes : (kind : ℕ) (s : List ℕ) {reach : Reached} {r : DecodedDate} → reach_of kind ≡ reach → DecodesReach reach s r → DateDecodes kind s r
 unfolding date_decoded date_plain decode_date
 kind_decodes kind s h a = record { is = a.is ∙ rw h refl; worth = a.worth ∙ rw h refl }
-
--- whether a kind is a date's, by one test
-pub a_date_lem : (kind : ℕ) → is_date kind ≡ true → reach_of kind ≡ dated (reaching (eqb kind date_absolute))
-a_date_lem kind q = at (eqb kind date_absolute) (eqb kind date_forward || eqb kind date_backward) q
-  where
-    at : (a r : Bool) → (a || r) ≡ true → pick a (dated absolute) (pick r (dated relative) no_reach) ≡ dated (reaching a)
-    at true r h = refl
-    at false r h = rw h refl
-
-pub no_date_lem : (kind : ℕ) → is_date kind ≡ false → reach_of kind ≡ no_reach
-no_date_lem kind q = at (eqb kind date_absolute) (eqb kind date_forward || eqb kind date_backward) q
-  where
-    at : (a r : Bool) → (a || r) ≡ false → pick a (dated absolute) (pick r (dated relative) no_reach) ≡ no_reach
-    at true r h = let z : ◌≡◌ {A = ℕ} 0 1 = cc in absurd (omega arith)
-    at false r h = rw h refl

@@ -7,6 +7,9 @@ use native.Mathlib.Numerals.{add-one}
 use native.Mathlib.Omega.{arith}
 use borrow.Author.Tests.{le-leb, lt-leb, lt-ltb, le-ltb}
 use lib.Dec.{leb}
+use Rattle.std.specs.Prelude.{◌^◌}
+use Prim.Native.Nat.{max}
+use Rattle.std.proofs.Math.Nat.{pow-succ'}
 use lib.ListN.{length, take, drop, length-take}
 use lib.Seq.{take-length}
 use Rattle.meaning.specs.Bytes.{number_most}
@@ -23,34 +26,30 @@ quotient_last (suc k) v = quotient_last k (v / 10)
 pub quotient_next : (k v : ℕ) {rest : ℕ} → rest ≡ quotient k v → rest / 10 ≡ quotient (k + 1) v
 quotient_next k v h = ap (λ (x : ℕ). x / 10) h ∙ sym (quotient_last k v) ∙ rw (add-one k) refl
 
--- a number below a power of ten has no more digits than it
-abbrev pub power : ℕ → ℕ
-power zero = 1
-power (suc k) = 10 * power k
+pow_pos : (k : ℕ) → 1 ≤ 10 ^ k
+pow_pos zero = omega arith
+pow_pos (suc k) = omega (arith, pow_pos k, pow-succ' 10 k)
 
-power_falls : (k rest : ℕ) → 10 ≤ rest → rest < power k → (2 ≤ k) × (rest / 10 < power (k - 1))
-power_falls zero rest h p = absurd (omega arith)
-power_falls (suc zero) rest h p = absurd (omega arith)
-power_falls (suc (suc k)) rest h p =
-    let q : suc (suc k) - 1 ≡ suc k = omega arith in
-    let b : rest / 10 < power (suc k) = omega arith in
-    (omega arith, rw q b)
+-- a number between two powers of ten has a digit more than the lower one has zeros
+digits_between : (k v : ℕ) → 10 ^ k ≤ v → v < 10 * 10 ^ k → HasDigits (suc k) v
+digits_between zero v h l = omega arith
+digits_between (suc k) v h l =
+    let p : 10 ^ suc k ≡ 10 * 10 ^ k = pow-succ' 10 k in
+    (omega (arith, p, pow_pos k), digits_between k (v / 10) (omega (arith, p)) (omega (arith, p)))
 
-pub digit_gone : (more rest : ℕ) → 10 ≤ rest → rest < power (10 - more) → (more + 1 ≤ 9) × (rest / 10 < power (10 - (more + 1)))
-digit_gone more rest h p =
-    let (a, b) = power_falls (10 - more) rest h p in
-    let q : 10 - more - 1 ≡ 10 - (more + 1) = omega arith in
-    (omega arith, rw q at b)
+-- .. and no more digits than a power that it is below
+zeros_below : (k n v : ℕ) → 10 ^ k ≤ v → v < 10 ^ n → k < n
+zeros_below k zero v h l = absurd (omega (arith, pow_pos k))
+zeros_below zero (suc n) v h l = omega arith
+zeros_below (suc k) (suc n) v h l = let q = zeros_below k n (v / 10) (omega (arith, pow-succ' 10 k)) (omega (arith, pow-succ' 10 n)) in omega arith
 
-pub more_digits : (value more rest : ℕ) → 10 ≤ rest → ((m : ℕ) → HasDigits (suc m) rest → HasDigits (suc (m + more)) value) → (m : ℕ) → HasDigits (suc m) (rest / 10) → HasDigits (suc (m + (more + 1))) value
-more_digits value more rest h f m d =
-    let q : suc m + more ≡ m + (more + 1) = omega arith in
-    rw q at (f (suc m) (h, d))
-
-pub all_digits : (value more rest : ℕ) → rest < 10 → ((m : ℕ) → HasDigits (suc m) rest → HasDigits (suc (m + more)) value) → HasDigits (more + 1) value
-all_digits value more rest h f =
-    let q : suc (0 + more) ≡ more + 1 = omega arith in
-    rw q at (f 0 h)
+pub digits_counted : (k v : ℕ) {w : ℕ} → w ≡ max v 1 → 10 ^ k ≤ w → w < 10 * 10 ^ k → v ≤ number_most → (1 ≤ k + 1) × (k + 1 ≤ 10) × HasDigits (k + 1) v
+digits_counted zero zero q h l m = (omega arith, omega arith, omega arith)
+digits_counted (suc k) zero q h l m = absurd (omega (arith, q, h, pow-succ' 10 k, pow_pos k))
+digits_counted k (suc v) {w} q h l m =
+    let is : w ≡ suc v = q ∙ omega arith in
+    let few : k < 10 = zeros_below k 10 (suc v) (omega arith) (omega arith) in
+    (omega arith, omega arith, rw (add-one k) (digits_between k (suc v) (omega arith) (omega arith)))
 
 -- the digits of a number, the first one first, each from the number itself
 abbrev digits_down : ℕ → ℕ → List ℕ

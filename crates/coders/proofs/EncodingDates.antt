@@ -11,12 +11,14 @@ use Rattle.meaning.specs.Basics.{pick}
 use Rattle.meaning.specs.Bytes.{Taken, took, failed, prefixed, Check, letter, passes, absolute, relative, date_checks, take_date, date_ok}
 use Rattle.meaning.specs.Plain.{Date, outcome, encode_outcome, encode_memory, Reached, dated, reach_of, reach_allows, designated, fits_digits, pair_byte, date_bytes, date_in_range, date_encoded, date_output}
 use Rattle.laws_steps.specs.From.{from}
-use Rattle.values.specs.declared.Value.{Value}
-use Rattle.values.specs.declared.Value.TheVariants.{Is, Refused}
+use Rattle.std.specs.Prelude.{Result, Ok, Err, is_err}
+use Rattle.table.specs.declared.answers.Fault.{Fault}
+use Rattle.table.specs.declared.kinds.Kind.{Kind}
+use Rattle.table.specs.Kinds.{number_of}
 use Rattle.coders.specs.declared.encode.Encoded.{Encoded}
 use Rattle.values.specs.Stages.{span, spans, misses, Valued}
 use Rattle.values.specs.Answers.{valued_at, valued_refused}
-use Rattle.date.specs.Dates.{reaching, date_length}
+use Rattle.date.specs.Dates.{reaching, date_length, value_by}
 use Rattle.coders.specs.Plain.{Fits, ten_bytes, DateEncodes, EncodesReach}
 use Rattle.laws_steps.specs.Logic.{both_hold}
 use Rattle.coders.proofs.Decoding.{from_all}
@@ -132,18 +134,33 @@ module _ (d : Date) (isAbsolute : Bool) {many : ℕ} {array : List ℕ} (hm : ma
   ok_here : date_ok checks [] (date_bytes d) ≡ is_taken taken
   ok_here = ok_taken checks [] (date_bytes d) (omega (arith, many_long, hm, (long_by d isAbsolute (designated d)).1)) ∙ ap is_taken (sym taken_here)
 
-  module _ {r : Value} (v : Valued (take many array) many 0 0 0 taken r) where
-    pub date_allowed : Fits d ≡ true → {k start n after : ℕ} → r ≡ Is k start n after → reach_allows d (dated (reaching isAbsolute)) ≡ true
+  -- the stage's answer over those bytes, as a date of any kind
+  module _ (k : Kind) (r : Result ℕ Fault) (v : Valued (take many array) many 0 (number_of k) 0 taken (value_by k 0 r)) where
+    date_allowed : Fits d ≡ true → {after : ℕ} → r ≡ Ok after → reach_allows d (dated (reaching isAbsolute)) ≡ true
     date_allowed f h =
-        let p = valued_at v h in
+        let p = valued_at (rw h at v) refl in
         let g = (both_hold (fits_digits d) (leb d.designator 255) f).0 in
         rw (g, ok_here) (spans_taken taken p.0)
 
-    pub date_denied : Fits d ≡ true → {refusal place : ℕ} → r ≡ Refused refusal place → reach_allows d (dated (reaching isAbsolute)) ≡ false
+    date_denied : Fits d ≡ true → {fault : Fault} → r ≡ Err fault → reach_allows d (dated (reaching isAbsolute)) ≡ false
     date_denied f h =
-        let p = valued_refused v h in
+        let p = valued_refused (rw h at v) refl in
         let g = (both_hold (fits_digits d) (leb d.designator 255) f).0 in
         rw (g, ok_here) (misses_taken taken p.0)
+
+    pub date_denies : Fits d ≡ true → is_err r ≡ true → reach_allows d (dated (reaching isAbsolute)) ≡ false
+    date_denies f q = at r refl q
+      where
+        at : (x : Result ℕ Fault) → r ≡ x → is_err x ≡ true → reach_allows d (dated (reaching isAbsolute)) ≡ false
+        at (Ok after) h q = let z : ◌≡◌ {A = ℕ} 0 1 = cc q in absurd (omega arith)
+        at (Err fault) h q = date_denied f h
+
+    pub date_allows : Fits d ≡ true → is_err r ≡ false → reach_allows d (dated (reaching isAbsolute)) ≡ true
+    date_allows f q = at r refl q
+      where
+        at : (x : Result ℕ Fault) → r ≡ x → is_err x ≡ false → reach_allows d (dated (reaching isAbsolute)) ≡ true
+        at (Ok after) h q = date_allowed f h
+        at (Err fault) h q = let z : ◌≡◌ {A = ℕ} 0 1 = cc q in absurd (omega arith)
 
 -- a designator over a byte is no letter
 and_false : (a : Bool) → (a && false) ≡ false

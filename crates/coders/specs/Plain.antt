@@ -1,7 +1,9 @@
 -- What the coding of numbers and dates to and from plain values promises: document 01's outcome and value, for any input at all.
-use Rattle.std.specs.Prelude.{ℕ, ◌+◌, ◌*◌, ◌/◌, ◌%◌, List, [], ◌∷◌, Bool, ◌&&◌, ◌||◌, ◌≡◌, leb, eqb, length}
-use Rattle.meaning.specs.Kinds.{date_absolute, date_forward, date_backward}
-use Rattle.meaning.specs.Plain.{outcome, decode_outcome, number_decoded, number_plain, number_encoded, number_output, Date as PlainDate, Reached, decode_reach, components_of, date_decoded, date_plain, encode_outcome, encode_memory, date_bytes, pair_byte, fits_digits, reach_allows, date_encoded, date_output}
+use Rattle.std.specs.Prelude.{ℕ, ◌+◌, ◌*◌, ◌/◌, ◌%◌, List, [], ◌∷◌, Option, None, Some, Bool, ◌&&◌, ◌≡◌, leb, length}
+use Rattle.meaning.specs.Plain.{outcome, decode_outcome, number_decoded, number_plain, number_encoded, number_output, Date as PlainDate, Reached, dated, no_reach, decode_reach, components_of, date_decoded, date_plain, encode_outcome, encode_memory, date_bytes, pair_byte, fits_digits, reach_allows, date_encoded, date_output}
+use Rattle.date.specs.Dates.{reaching}
+use Rattle.table.specs.declared.answers.Fault.{Fault}
+use Rattle.table.specs.Refusals.{answer_of}
 use Rattle.coders.specs.declared.decode.DecodedNumber.{DecodedNumber}
 use Rattle.coders.specs.declared.encode.Encoded.{Encoded}
 use Rattle.coders.specs.declared.Date.{Date}
@@ -11,6 +13,10 @@ use Rattle.coders.specs.declared.decode.DecodedDate.{DecodedDate}
 pub record NumberDecodes (bytes : List ℕ) (result : DecodedNumber) : Type 0 where
   pub is : outcome result.answer result.place ≡ number_decoded bytes
   pub worth : result.value ≡ number_plain bytes
+
+-- "Encoders answer 9 or 10, place 0, for a value out of range, and then 16 for room."
+abbrev pub refused_by : Fault → Encoded
+refused_by fault = record { answer = answer_of fault.refusal; place = fault.at }
 
 -- the encoder of numbers
 pub record NumberEncodes (value : ℕ) (before after : List ℕ) (result : Encoded) : Type 0 where
@@ -31,9 +37,10 @@ plain_of d =
       designator = d.designator;
     }
 
--- "kind 5, 6 or 7"
-abbrev pub is_date : ℕ → Bool
-is_date kind = eqb kind date_absolute || (eqb kind date_forward || eqb kind date_backward)
+-- "kind 5, 6 or 7": whether a date of the kind is held to the calendar, or that the kind is no date's
+abbrev pub reached_by : Option Bool → Reached
+reached_by (Some isAbsolute) = dated (reaching isAbsolute)
+reached_by None = no_reach
 
 -- the decoder of dates
 pub record DateDecodes (kind : ℕ) (bytes : List ℕ) (result : DecodedDate) : Type 0 where
@@ -46,6 +53,9 @@ pub record DecodesReach (reach : Reached) (bytes : List ℕ) (result : DecodedDa
   pub worth : plain_of result.date ≡ components_of (decode_reach bytes reach)
 
 -- "a refused decoder's values are all 0"
+abbrev pub unread_at : ℕ → DecodedNumber
+unread_at offset = record { answer = 10; place = offset; value = 0 }
+
 abbrev pub no_components : Date
 no_components = record { year = 0; month = 0; day = 0; hour = 0; minute = 0; second = 0; millisecond = 0; designator = 0 }
 

@@ -8,13 +8,7 @@ pub fn digit_count(value: u64) -> usize
     requires { value ≤ number_most }
     ensures { (1 ≤ result) × (result ≤ 10) × HasDigits result value }
 {
-    let mut rest = value;
-    let mut more: usize = 0;
-    while 10 <= rest {
-        rest = rest / 10;
-        more += 1;
-    }
-    more + 1
+    value.max(1).ilog10() as usize + 1
 }
 
 // Byte j of the n digits of `value`, coded: two of them, or the last one and four zero bits, or the 00 behind an even count.
@@ -22,17 +16,12 @@ pub fn coded_byte(value: u64, n: usize, j: usize) -> u8
     requires { (n ≤ 10) × (j ≤ 5) }
     ensures { result ≡ packed_byte value (n - 2 * j) }
 {
-    let before = 2 * j;
-    if n <= before {
-        return 0;
+    let left = n.saturating_sub(2 * j);
+    match left {
+        0 => 0,
+        1 => (16 * (digit_at(value, 0) + 1)) as u8,
+        _ => (16 * (digit_at(value, left - 1) + 1) + (digit_at(value, left - 2) + 1)) as u8,
     }
-    let left = n - before;
-    let high = 16 * (digit_at(value, left - 1) + 1);
-    if left == 1 {
-        return high as u8;
-    }
-    let low = digit_at(value, left - 2) + 1;
-    (high + low) as u8
 }
 
 // The decimal digit of `value` that has `behind` digits after it.
@@ -40,10 +29,8 @@ fn digit_at(value: u64, behind: usize) -> u64
     ensures { result ≡ quotient behind value % 10 }
 {
     let mut rest = value;
-    let mut k: usize = 0;
-    while k < behind {
-        rest = rest / 10;
-        k += 1;
+    for _ in 0..behind {
+        rest /= 10;
     }
     rest % 10
 }

@@ -3,14 +3,13 @@ ghost use Rattle.std.specs.Prelude.{◌≡◌, true, ◌≤◌, length};
 ghost use Rattle.meaning.specs.Memory.{laid_over};
 ghost use Rattle.meaning.specs.Plain.{dated};
 ghost use Rattle.date.specs.Dates.{reaching};
-ghost use Rattle.coders.specs.Plain.{NumberEncodes, DateEncodes, EncodesReach, Fits, ten_bytes, plain_of};
+ghost use Rattle.coders.specs.Plain.{NumberEncodes, DateEncodes, EncodesReach, Fits, ten_bytes, plain_of, refused_by};
 
 use crate::decimal::{coded_byte, digit_count};
-use crate::{Date, is_date};
-use date::length_of;
-use table::kinds::DATE_ABSOLUTE;
-use table::refusals::{DATE_WRONG, NUMBER_WRONG, OUTPUT_SHORT};
-use values::Value;
+use crate::{Date, is_absolute};
+use date::{Form, length_of};
+use table::answers::Fault;
+use table::refusals::Refusal;
 use values::digits::pair_byte;
 use values::number::MOST;
 
@@ -22,23 +21,28 @@ pub struct Encoded {
     pub place: usize,
 }
 
+impl From<Fault> for Encoded {
+    ghost from_gives = { λ fault r. r ≡ refused_by fault };
+
+    fn from(fault: Fault) -> Self {
+        Encoded {
+            answer: fault.refusal.answer(),
+            place: fault.at,
+        }
+    }
+}
+
 // The bytes that code a number, over the front of `output`.
 pub fn number(value: u64, output: &mut [u8]) -> Encoded
     ensures { NumberEncodes value output.old output.new result }
 {
     if MOST < value {
-        return Encoded {
-            answer: NUMBER_WRONG,
-            place: 0,
-        };
+        return Refusal::NumberWrong.at(0).into();
     }
     let n = digit_count(value);
     let many = n / 2 + 1;
     if output.len() < many {
-        return Encoded {
-            answer: OUTPUT_SHORT,
-            place: many,
-        };
+        return Refusal::OutputShort.at(many).into();
     }
     let bytes = [
         coded_byte(value, n, 0),
@@ -59,26 +63,20 @@ pub fn number(value: u64, output: &mut [u8]) -> Encoded
 pub fn date(kind: u32, date: Date, output: &mut [u8]) -> Encoded
     ensures { DateEncodes kind (plain_of date) output.old output.new result }
 {
-    if is_date(kind) {
-        return reached(date, kind == DATE_ABSOLUTE, output);
-    }
-    Encoded {
-        answer: DATE_WRONG,
-        place: 0,
-    }
+    let Some(absolute) = is_absolute(kind) else {
+        return Refusal::DateWrong.at(0).into();
+    };
+    reached(date, absolute, output)
 }
 
 // Takes a date and whether it is held to the calendar. Answers as `date` does, and lays as it does.
 fn reached(date: Date, absolute: bool, output: &mut [u8]) -> Encoded
     ensures { EncodesReach (dated (reaching absolute)) (plain_of date) output.old output.new result }
 {
-    if fits(date) {
-        return fitting(date, absolute, output);
+    if !fits(date) {
+        return Refusal::DateWrong.at(0).into();
     }
-    Encoded {
-        answer: DATE_WRONG,
-        place: 0,
-    }
+    fitting(date, absolute, output)
 }
 
 // The bytes are made first and then checked as a reader would check them.
@@ -86,27 +84,17 @@ fn fitting(date: Date, absolute: bool, output: &mut [u8]) -> Encoded
     requires { Fits (plain_of date) ≡ true }
     ensures { EncodesReach (dated (reaching absolute)) (plain_of date) output.old output.new result }
 {
-    let designated = date.designator != 0;
-    let many = length_of(designated);
-    let bytes = ten_bytes(date);
-    let r = date::bytes(&bytes[..many], many, 0, 0, absolute, designated);
-    let Value::Is {
-        kind: _,
-        start: _,
-        length: _,
-        after: _,
-    } = r
-    else {
-        return Encoded {
-            answer: DATE_WRONG,
-            place: 0,
-        };
+    let form = Form {
+        absolute: absolute,
+        designated: date.designator != 0,
     };
+    let many = length_of(form.designated);
+    let bytes = ten_bytes(date);
+    if date::bytes(&bytes[..many], many, 0, form).is_err() {
+        return Refusal::DateWrong.at(0).into();
+    }
     if output.len() < many {
-        return Encoded {
-            answer: OUTPUT_SHORT,
-            place: many,
-        };
+        return Refusal::OutputShort.at(many).into();
     }
     lay(&bytes[..many], output);
     Encoded {

@@ -7,9 +7,10 @@ pub mod decode;
 pub mod encode;
 
 ghost use Rattle.std.specs.Prelude.{◌≡◌};
-ghost use Rattle.coders.specs.Plain.{is_date};
+ghost use Rattle.meaning.specs.Plain.{reach_of};
+ghost use Rattle.coders.specs.Plain.{reached_by};
 
-use table::kinds::{DATE_ABSOLUTE, DATE_BACKWARD, DATE_FORWARD};
+use table::kinds::Kind;
 
 // A plain date: "the seven components and a designator, 0 for none".
 #[repr(C)]
@@ -25,9 +26,13 @@ pub struct Date {
     pub designator: u32,
 }
 
-// "kind 5, 6 or 7"
-fn is_date(kind: u32) -> bool
-    ensures { result ≡ is_date kind }
+// Takes a row's kind. Answers whether a date of it is held to the calendar, "kind 5, 6 or 7"; or that it is no date's.
+fn is_absolute(kind: u32) -> Option<bool>
+    ensures { reach_of kind ≡ reached_by result }
 {
-    (kind == DATE_ABSOLUTE) | ((kind == DATE_FORWARD) | (kind == DATE_BACKWARD))
+    match Kind::try_from(kind) {
+        Ok(Kind::DateAbsolute) => Some(true),
+        Ok(Kind::DateForward | Kind::DateBackward) => Some(false),
+        _ => None,
+    }
 }

@@ -15,31 +15,30 @@ use Rattle.laws_steps.specs.HighFirst.{high_few, high_one, high_two, high_four}
 use Rattle.table.specs.declared.answers.Fault.{Fault}
 use Rattle.table.specs.declared.kinds.Kind.TheVariants.{AnyBytes}
 use Rattle.table.specs.declared.refusals.Refusal.TheVariants.{EnvelopeEnds, LengthFormWide}
-use Rattle.values.specs.declared.any.Length.{Length}
-use Rattle.values.specs.declared.any.Length.TheVariants.{Says, Short}
+use Rattle.std.specs.Prelude.{Option, None, Some}
 use Rattle.values.specs.declared.Value.TheVariants.{Is, Refused}
 use Rattle.values.specs.Stages.{span, spans, misses, Valued}
-use Rattle.values.specs.Blocks.{said, Behind, IsWidth, LengthRead}
+use Rattle.values.specs.Blocks.{said, Whole, IsWidth, LengthRead}
 use Rattle.values.specs.Answers.{span_prefixed, answered, refuses}
 
 -- a length at a place: too few bytes, or one, two or four of them
 module _ (s : List ℕ) (end at width : ℕ) (b : at ≤ end) (l : end ≤ length s) where
-  pub length_short : end - at < width → LengthRead s end at width Short
-  unfolding said Behind
+  pub length_short : end - at < width → LengthRead s end at width None
+  unfolding said Whole
   length_short h = record { is = high_few width 0 (from s at end) (omega (arith, from_length s at end b l)); ends = tt }
 
   module _ (h : width ≤ end - at) {value : ℕ} where
-    pub length_one : width ≡ 1 → value ≡ get_or s at 0 → LengthRead s end at width (Says value (at + width))
-    unfolding said Behind
-    length_one w q = record { is = rw (w, q) (high_one s end at l (omega arith)); ends = (refl, omega arith) }
+    pub length_one : width ≡ 1 → value ≡ get_or s at 0 → LengthRead s end at width (Some value)
+    unfolding said Whole
+    length_one w q = record { is = rw (w, q) (high_one s end at l (omega arith)); ends = omega arith }
 
-    pub length_two : width ≡ 2 → value ≡ 256 * get_or s at 0 + get_or s (at + 1) 0 → LengthRead s end at width (Says value (at + width))
-    unfolding said Behind
-    length_two w q = record { is = rw (w, q) (high_two s end at l (omega arith)); ends = (refl, omega arith) }
+    pub length_two : width ≡ 2 → value ≡ 256 * get_or s at 0 + get_or s (at + 1) 0 → LengthRead s end at width (Some value)
+    unfolding said Whole
+    length_two w q = record { is = rw (w, q) (high_two s end at l (omega arith)); ends = omega arith }
 
-    pub length_four : width ≡ 4 → value ≡ 65536 * (256 * get_or s at 0 + get_or s (at + 1) 0) + (256 * get_or s (at + 2) 0 + get_or s (at + 2 + 1) 0) → LengthRead s end at width (Says value (at + width))
-    unfolding said Behind
-    length_four w q = record { is = rw (w, q) (high_four s end at l (omega arith)); ends = (refl, omega arith) }
+    pub length_four : width ≡ 4 → value ≡ 65536 * (256 * get_or s at 0 + get_or s (at + 1) 0) + (256 * get_or s (at + 2) 0 + get_or s (at + 2 + 1) 0) → LengthRead s end at width (Some value)
+    unfolding said Whole
+    length_four w q = record { is = rw (w, q) (high_four s end at l (omega arith)); ends = omega arith }
 
 -- a width that is neither 1 nor 2
 pub four_wide : {width : ℕ} → IsWidth width → (width ≡ 1 → ⊥) → (width ≡ 2 → ⊥) → width ≡ 4
@@ -65,8 +64,8 @@ pub take_short : (s : List ℕ) (end : ℕ) → end ≤ length s → (n i k : �
 take_short s end l zero i k h j = absurd (omega arith)
 take_short s end l (suc n) i k h j = short_by s end n i k l (ltb i end) refl (λ u. take_short s end l n (i + 1) (k + 1) (omega arith) (omega arith))
 
-pub length_to : {s : List ℕ} {end at width value after : ℕ} {n : Length} → LengthRead s end at width n → n ≡ Says value after → (after ≡ at + width) × (after ≤ end)
-unfolding Behind
+pub length_to : {s : List ℕ} {end at width value : ℕ} {n : Option ℕ} → LengthRead s end at width n → n ≡ Some value → at + width ≤ end
+unfolding Whole
 length_to a h = rw h at a.ends
 
 some_bytes : (w : Width) → 1 ≤ bytes_of w
@@ -75,31 +74,31 @@ some_bytes two_bytes = omega arith
 some_bytes four_bytes = omega arith
 
 -- a block behind the code at `at`, whose length was read as n
-module _ (s : List ℕ) (end at width : ℕ) (l : end ≤ length s) (b : at < end) (n : Length) (t : Told) (a : LengthRead s end (at + 1) width n) (w : Width) (hw : bytes_of w ≡ width) where
-  length_is : high_first (bytes_of w) 0 (from s (at + 1) end) ≡ said s end n
+module _ (s : List ℕ) (end at width : ℕ) (l : end ≤ length s) (b : at < end) (n : Option ℕ) (t : Told) (a : LengthRead s end (at + 1) width n) (w : Width) (hw : bytes_of w ≡ width) where
+  length_is : high_first (bytes_of w) 0 (from s (at + 1) end) ≡ said s end (at + 1 + width) n
   length_is = ap (λ (x : ℕ). high_first x 0 (from s (at + 1) end)) hw ∙ a.is
 
-  pub block_short : {fault : Fault} → fault ≡ record { refusal = EnvelopeEnds; at = end } → n ≡ Short → Valued s end (at + 1) any_bytes 0 (take_block t w (end - at) (from s (at + 1) end)) (Refused fault)
+  pub block_short : {fault : Fault} → fault ≡ record { refusal = EnvelopeEnds; at = end } → n ≡ None → Valued s end (at + 1) any_bytes 0 (take_block t w (end - at) (from s (at + 1) end)) (Refused fault)
   unfolding take_block block_of said
   block_short e h = refuses e (rw (length_is, h) (ap (misses 6) (omega arith))) (omega arith)
 
-  module _ {value after : ℕ} (h : n ≡ Says value after) {r : Bool} (is : r ≡ too_wide t w value) where
+  module _ {value : ℕ} (h : n ≡ Some value) {r : Bool} (is : r ≡ too_wide t w value) where
     pub block_wide : {fault : Fault} → fault ≡ record { refusal = LengthFormWide; at = at } → r ≡ true → Valued s end (at + 1) any_bytes 0 (take_block t w (end - at) (from s (at + 1) end)) (Refused fault)
     unfolding take_block block_of said
     block_wide f q = refuses f (rw (length_is, h, sym is ∙ q) refl) (omega arith)
 
-    pub block_far : {fault : Fault} → fault ≡ record { refusal = EnvelopeEnds; at = end } → r ≡ false → end - after < value → Valued s end (at + 1) any_bytes 0 (take_block t w (end - at) (from s (at + 1) end)) (Refused fault)
+    pub block_far : {fault : Fault} → fault ≡ record { refusal = EnvelopeEnds; at = end } → r ≡ false → end - (at + 1 + width) < value → Valued s end (at + 1) any_bytes 0 (take_block t w (end - at) (from s (at + 1) end)) (Refused fault)
     unfolding take_block block_of said
     block_far f q d =
-        let (p, e) = length_to a h in
-        refuses f (rw (length_is, h, sym is ∙ q) (take_short s end l value after 0 e (omega arith) ∙ ap (misses 6) (omega arith))) (omega arith)
+        let e = length_to a h in
+        refuses f (rw (length_is, h, sym is ∙ q) (take_short s end l value (at + 1 + width) 0 e (omega arith) ∙ ap (misses 6) (omega arith))) (omega arith)
 
-    pub block_goes : r ≡ false → value ≤ end - after → Valued s end (at + 1) any_bytes 0 (take_block t w (end - at) (from s (at + 1) end)) (Is AnyBytes after value (after + value))
+    pub block_goes : r ≡ false → value ≤ end - (at + 1 + width) → Valued s end (at + 1) any_bytes 0 (take_block t w (end - at) (from s (at + 1) end)) (Is AnyBytes (at + 1 + width) value (at + 1 + width + value))
     unfolding take_block block_of said
     block_goes q d =
-        let (p, e) = length_to a h in
+        let e = length_to a h in
         let some = some_bytes w in
-        answered refl (rw (length_is, h, sym is ∙ q) (take_all s end l value after 0 (omega arith) ∙ ap (λ (x : ℕ). spans x (from s (after + value) end)) (omega arith)))
+        answered refl (rw (length_is, h, sym is ∙ q) (take_all s end l value (at + 1 + width) 0 (omega arith) ∙ ap (λ (x : ℕ). spans x (from s (at + 1 + width + value) end)) (omega arith)))
         (omega arith) (omega arith) (omega arith) (omega arith)
 
 -- the fewest of each width

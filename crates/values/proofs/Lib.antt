@@ -3,4 +3,4 @@ pub mod Tables
 pub mod Texts
 pub mod Numbers
 pub mod Blocks
-pub mod Marks
+pub mod Masks

@@ -1,9 +1,7 @@
 -- What the stages of an any-value's bytes promise.
-use Rattle.std.specs.Prelude.{ℕ, ◌+◌, ◌≤◌, ◌<◌, List, ◌≡◌, length}
+use Rattle.std.specs.Prelude.{ℕ, Option, None, Some, ◌+◌, ◌≤◌, ◌<◌, List, ◌≡◌, length}
 use Rattle.meaning.specs.Bytes.{Count, counted, short, high_first, Width, bytes_of}
 use Rattle.laws_steps.specs.From.{from}
-use Rattle.values.specs.declared.any.Length.{Length}
-use Rattle.values.specs.declared.any.Length.TheVariants.{Says, Short}
 
 -- "a length of 1, 2, 4 bytes"
 abbrev pub IsWidth : ℕ → Type 0
@@ -15,14 +13,16 @@ pub record BlockAt (s : List ℕ) (end at width : ℕ) : Type 0 where
   pub before : at < end
   pub wide : IsWidth width
 
-unfoldable pub said : List ℕ → ℕ → Length → Count
-said s end (Says value after) = counted value (from s after end)
-said s end Short = short
+-- the length of so many bytes that was read at a place
+unfoldable pub said : List ℕ → ℕ → ℕ → Option ℕ → Count
+said s end after (Some value) = counted value (from s after end)
+said s end after None = short
 
-unfoldable pub Behind : ℕ → ℕ → ℕ → Length → Type 0
-Behind end at width (Says value after) = (after ≡ at + width) × (after ≤ end)
-Behind end at width Short = Unit {0}
+-- it is whole
+unfoldable pub Whole : ℕ → ℕ → Option ℕ → Type 0
+Whole end after (Some value) = after ≤ end
+Whole end after None = Unit {0}
 
-pub record LengthRead (s : List ℕ) (end at width : ℕ) (answer : Length) : Type 0 where
-  pub is : high_first width 0 (from s at end) ≡ said s end answer
-  pub ends : Behind end at width answer
+pub record LengthRead (s : List ℕ) (end at width : ℕ) (answer : Option ℕ) : Type 0 where
+  pub is : high_first width 0 (from s at end) ≡ said s end (at + width) answer
+  pub ends : Whole end (at + width) answer

@@ -6,4 +6,3 @@ pub mod Digits
 pub mod Numbers
 pub mod Counting
 pub mod Blocks
-pub mod Eights

@@ -1,6 +1,6 @@
 -- What a stage of the reader promises of a value, over the definitions of `meaning`.
 -- A stage speaks of places in a slice, `meaning` of the bytes that are left; `from s at end` ties the two.
-use Rattle.std.specs.Prelude.{ℕ, zero, suc, ◌+◌, ◌-◌, ◌≤◌, ◌<◌, List, Bool, false, ◌&&◌, eqb, ◌≡◌, length, get_or}
+use Rattle.std.specs.Prelude.{ℕ, zero, suc, ◌+◌, ◌-◌, ◌≤◌, ◌<◌, List, Option, None, Some, Bool, true, false, ◌&&◌, eqb, ◌≡◌, length, get_or}
 use Rattle.meaning.specs.Bytes.{Taken, took, failed, Rule, line, note, text_byte, take_text}
 use Rattle.meaning.specs.Told.{Told}
 use Rattle.meaning.specs.Kinds.{agent_name}
@@ -82,7 +82,17 @@ pub record LineRun (s : List ℕ) (end at place : ℕ) : Type 0 where
   pub skipped : (rule : Rule) → Skipped rule s end at place
   pub stops : place < end → text_byte line (get_or s place 0) ≡ false
 
--- whether the rule allows a byte, and so many behind it
-unfoldable pub text_run : Rule → List ℕ → ℕ → ℕ → Bool
-text_run rule s at zero = text_byte rule (get_or s at 0)
-text_run rule s at (suc n) = text_run rule s at n && text_byte rule (get_or s (at + suc n) 0)
+-- the rule of a note, or of a line
+abbrev pub rule_by : Bool → Rule
+rule_by true = note
+rule_by false = line
+
+-- whether the rule allows so many bytes
+unfoldable pub all_text : Rule → List ℕ → ℕ → ℕ → Bool
+all_text rule s at zero = true
+all_text rule s at (suc n) = all_text rule s at n && text_byte rule (get_or s (at + n) 0)
+
+-- which of eight bytes is the first that is of no line
+abbrev pub FirstBelow : List ℕ → ℕ → Option ℕ → Type 0
+FirstBelow s at None = all_text line s at 8 ≡ true
+FirstBelow s at (Some n) = (n < 8) × (all_text line s at n ≡ true) × (text_byte line (get_or s (at + n) 0) ≡ false)

@@ -8,20 +8,13 @@ ghost use Rattle.table.specs.Told.{told_of};
 ghost use Rattle.values.specs.Stages.{Inside, Valued, Coded};
 ghost use Rattle.values.specs.Blocks.{BlockAt, IsWidth, LengthRead};
 
-use crate::bytes::{four_bytes, one_byte, two_bytes};
+use crate::bytes::{four_bytes, two_bytes};
 use crate::text::Rule;
 use crate::{Value, text};
 use table::answers::Fault;
 use table::kinds::Kind;
 use table::refusals::Refusal;
 use table::told::{Strictness, Told};
-
-// A number of some bytes and the place after it, or too few bytes.
-#[derive(Drop)]
-pub enum Length {
-    Says { value: usize, after: usize },
-    Short,
-}
 
 // An any-value from its code on.
 pub fn take(s: &[u8], end: usize, at: usize, told: Told) -> Value
@@ -95,22 +88,21 @@ fn block(s: &[u8], end: usize, at: usize, width: usize, told: Told) -> Value
     ensures { (w : Width) → bytes_of w ≡ width → Valued s.now end (at + 1) any_bytes 0 (take_block (told_of told) w (end - at) (from s.now (at + 1) end)) result }
 {
     let first = at + 1;
-    let n = length_at(s, end, first, width);
-    let Length::Says { value, after } = n else {
+    let Some(length) = length_at(s, end, first, width) else {
         return Value::Refused(Refusal::EnvelopeEnds.at(end));
     };
-    if too_wide(width, value, told) {
+    if too_wide(width, length, told) {
         return Value::Refused(Refusal::LengthFormWide.at(at));
     }
-    if end - after < value {
+    let start = first + width;
+    if end - start < length {
         return Value::Refused(Refusal::EnvelopeEnds.at(end));
     }
-    let behind = after + value;
     Value::Is {
         kind: Kind::AnyBytes,
-        start: after,
-        length: value,
-        after: behind,
+        start: start,
+        length: length,
+        after: start + length,
     }
 }
 
@@ -136,27 +128,17 @@ fn wider_than_needed(width: usize, n: usize) -> bool
     }
 }
 
-// Takes the place of a length of 1, 2 or 4 bytes, high first. Answers it and the place behind it; or that bytes are missing.
-fn length_at(s: &[u8], end: usize, at: usize, width: usize) -> Length
+// Takes the place of a length of 1, 2 or 4 bytes, high first. Answers the length, or that bytes are missing.
+fn length_at(s: &[u8], end: usize, at: usize, width: usize) -> Option<usize>
     requires { (Inside s.now end at) × (IsWidth width) }
     ensures { LengthRead s.now end at width result }
 {
     if end - at < width {
-        return Length::Short;
+        return None;
     }
-    let after = at + width;
     match width {
-        1 => Length::Says {
-            value: one_byte(s, at),
-            after: after,
-        },
-        2 => Length::Says {
-            value: two_bytes(s, at),
-            after: after,
-        },
-        _ => Length::Says {
-            value: four_bytes(s, at),
-            after: after,
-        },
+        1 => Some(usize::from(s[at])),
+        2 => Some(two_bytes(s, at)),
+        _ => Some(four_bytes(s, at)),
     }
 }

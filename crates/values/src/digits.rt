@@ -4,8 +4,6 @@ ghost use Rattle.meaning.specs.Bytes.{is_digit, digit_of, two_digits};
 ghost use Rattle.meaning.specs.Plain.{pair_byte};
 ghost use Rattle.values.specs.Digits.{PairAt};
 
-use crate::bytes::wide;
-
 // Whether four bits code a digit.
 pub fn is_digit(bits: u32) -> bool
     ensures { result ≡ is_digit bits }
@@ -44,5 +42,5 @@ pub fn pair_at(bytes: &[u8], j: usize) -> u32
     requires { j < length bytes.now }
     ensures { PairAt bytes.now j result }
 {
-    two_digits(wide(bytes[j]))
+    two_digits(u32::from(bytes[j]))
 }

@@ -4,7 +4,6 @@
 pub mod any;
 pub mod bytes;
 pub mod digits;
-mod eights;
 pub mod number;
 pub mod representation;
 pub mod text;

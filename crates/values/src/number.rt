@@ -7,7 +7,6 @@ ghost use Rattle.values.specs.Stages.{Inside, Valued};
 ghost use Rattle.values.specs.Numbers.{Turned, Counted};
 
 use crate::Value;
-use crate::bytes::wide;
 use crate::digits::{digit, is_digit};
 use table::answers::Fault;
 use table::kinds::Kind;
@@ -15,7 +14,7 @@ use table::refusals::Refusal;
 
 pub const MOST: u64 = 4294967295;
 
-// What a byte does to the number so far.
+// What a byte does to the number so far: an enum of its own, since it has three cases.
 #[derive(Drop)]
 pub enum Turning {
     Stop(u64),
@@ -23,7 +22,7 @@ pub enum Turning {
     Wrong,
 }
 
-// A number and the place after it, or a refusal.
+// "either a value with the place after it, or a refusal": the number's value, which a row has no place for.
 #[derive(Drop)]
 pub enum Number {
     Counts { value: u64, after: usize },
@@ -35,8 +34,7 @@ pub fn take(s: &[u8], end: usize, at: usize) -> Value
     requires { Inside s.now end at }
     ensures { Valued s.now end at payload_length 0 (take_number 0 true (from s.now at end)) result }
 {
-    let r = count(s, end, at);
-    match r {
+    match count(s, end, at) {
         Number::Counts { value: _, after } => Value::Is {
             kind: Kind::PayloadLength,
             start: at,
@@ -52,25 +50,18 @@ pub fn count(s: &[u8], end: usize, at: usize) -> Number
     requires { Inside s.now end at }
     ensures { Counted s.now end at result }
 {
-    let mut i = at;
-    let mut number: u64 = 0;
-    let mut first = true;
-    while i < end {
-        let t = turn(number, first, wide(s[i]));
-        match t {
+    let mut number = 0;
+    for i in at..end {
+        match turn(number, i == at, u32::from(s[i])) {
             Turning::Wrong => return Number::Fails(Refusal::NumberWrong.at(i)),
             Turning::Stop(value) => return Number::Counts {
                 value: value,
                 after: i + 1,
             },
-            Turning::More(value) => {
-                number = value;
-                first = false;
-                i += 1;
-            }
+            Turning::More(value) => number = value,
         }
     }
-    Number::Fails(Refusal::EnvelopeEnds.at(i))
+    Number::Fails(Refusal::EnvelopeEnds.at(end))
 }
 
 // Takes the number so far, whether this is its first byte, and the byte. Answers what the byte does to it: it ends the number, leads on, or is wrong.

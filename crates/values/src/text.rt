@@ -3,10 +3,10 @@ ghost use Rattle.std.specs.Prelude.{◌≡◌, true, false, ℕ, ◌+◌, ◌-�
 ghost use Rattle.meaning.specs.Bytes.{line, note, is_break, text_byte, take_text};
 ghost use Rattle.laws_steps.specs.From.{from};
 ghost use Rattle.table.specs.Kinds.{number_of};
-ghost use Rattle.values.specs.Stages.{Inside, Valued, rule_of, Skipped, Run, LineRun, text_run};
+ghost use Rattle.values.specs.Stages.{Inside, Valued, rule_of, rule_by, Skipped, Run, LineRun, all_text, FirstBelow};
 
 use crate::Value;
-use crate::eights::{eight_bytes, first_mark, marks};
+use std::simd::prelude::*;
 use table::kinds::Kind;
 use table::refusals::Refusal;
 
@@ -59,7 +59,7 @@ fn ended(s: &[u8], end: usize, at: usize, i: usize, kind: Kind) -> Value
     Value::Refused(Refusal::TextWrong.at(i))
 }
 
-// As `run`, for a reading, in which most texts stop before the end: an empty text is found at one look, and a line's stop by marks.
+// As `run`, for a reading, in which most texts stop before the end: an empty text is found at one look.
 fn stop(s: &[u8], end: usize, at: usize, rule: Rule) -> usize
     requires { Inside s.now end at }
     ensures { Run (rule_of rule) s.now end at result }
@@ -69,13 +69,13 @@ fn stop(s: &[u8], end: usize, at: usize, rule: Rule) -> usize
             if stands_below(s, end, at, FIRST_TEXT) {
                 return at;
             }
-            line_stop(s, end, at)
+            line_run(s, end, at)
         }
         Rule::Note => {
             if stands_below(s, end, at, 1) {
                 return at;
             }
-            run(s, end, at, rule)
+            note_run(s, end, at)
         }
     }
 }
@@ -85,10 +85,7 @@ fn stands_below(s: &[u8], end: usize, at: usize, bound: u8) -> bool
     requires { Inside s.now end at }
     ensures { result ≡ true → get_or s.now at 0 < bound }
 {
-    if at < end {
-        return s[at] < bound;
-    }
-    false
+    at < end && s[at] < bound
 }
 
 // The first place whose byte the rule does not allow, or the end.
@@ -108,13 +105,8 @@ fn note_run(s: &[u8], end: usize, at: usize) -> usize
     ensures { Run note s.now end at result }
 {
     let mut i = sixteens(s, end, at);
-    while 16 <= end - i {
-        if sixteen_in_note(s, i) {
-            let next = i + 16;
-            i = sixteens(s, end, next);
-        } else {
-            return line_by_line(s, end, i);
-        }
+    while 16 <= end - i && all_text::<true, 16>(s, i) {
+        i = sixteens(s, end, i + 16);
     }
     line_by_line(s, end, i)
 }
@@ -125,13 +117,8 @@ fn line_by_line(s: &[u8], end: usize, at: usize) -> usize
     ensures { Run note s.now end at result }
 {
     let mut i = long_line(s, end, at);
-    while i < end {
-        if is_break(s[i]) {
-            let next = i + 1;
-            i = long_line(s, end, next);
-        } else {
-            return i;
-        }
+    while i < end && is_break(s[i]) {
+        i = long_line(s, end, i + 1);
     }
     i
 }
@@ -152,136 +139,83 @@ fn long_line(s: &[u8], end: usize, at: usize) -> usize
     line_run(s, end, i)
 }
 
-// The first place whose byte is below 20, or the end, where it is likely to stop before that: eight bytes at a time, each with a mark if it is below 20.
-fn line_stop(s: &[u8], end: usize, at: usize) -> usize
+// Past sixteen bytes at a time while all of them are of a line. A step of sixteen, here and in `note_run`, and of eight in `line_run`, is no iterator's:
+// what is left behind the last one is looked at from there on.
+fn sixteens(s: &[u8], end: usize, at: usize) -> usize
     requires { Inside s.now end at }
-    ensures { LineRun s.now end at result }
+    ensures { (rule : Rattle.meaning.specs.Bytes.Rule) → Skipped rule s.now end at result }
 {
     let mut i = at;
-    while i + 8 <= end {
-        let below = marks(eight_bytes(s, i));
-        if below == 0 {
-            i += 8;
-        } else {
-            return i + first_mark(below);
-        }
+    while 16 <= end - i && all_text::<false, 16>(s, i) {
+        i += 16;
     }
-    last_run(s, end, i)
+    i
 }
 
-// The same where it is likely to come to the end, as with bytes to be written: eight at a time by one comparison of vectors.
+// The first place whose byte is below 20, or the end: eight bytes at a time.
 fn line_run(s: &[u8], end: usize, at: usize) -> usize
     requires { Inside s.now end at }
     ensures { LineRun s.now end at result }
 {
     let mut i = at;
     while 8 <= end - i {
-        if eight(s, i) {
-            i += 8;
-        } else {
-            return first_stop(s, i);
+        if let Some(before) = first_below(s, i) {
+            return i + before;
         }
+        i += 8;
     }
     last_run(s, end, i)
 }
 
-// The first byte below 20 of eight that have one: it is there, so nothing else is tested.
-fn first_stop(s: &[u8], at: usize) -> usize
-    requires { (at + 8 ≤ length s.now) × (text_run line s.now at 7 ≡ false) }
-    ensures { (end : ℕ) → at + 8 ≤ end → end ≤ length s.now → LineRun s.now end at result }
-{
-    let mut i = at;
-    while s[i] >= FIRST_TEXT {
-        i += 1;
-    }
-    i
-}
-
-// The same as `line_run`, byte by byte: of the few that are left before the end.
+// The same, byte by byte: of the few that are left before the end.
 pub fn last_run(s: &[u8], end: usize, at: usize) -> usize
     requires { Inside s.now end at }
     ensures { LineRun s.now end at result }
 {
-    let mut i = at;
-    while i < end {
+    for i in at..end {
         if s[i] < FIRST_TEXT {
             return i;
         }
-        i += 1;
     }
-    i
+    end
 }
 
-// Past sixteen bytes at a time while all of them are text.
-fn sixteens(s: &[u8], end: usize, at: usize) -> usize
-    requires { Inside s.now end at }
-    ensures { (rule : Rattle.meaning.specs.Bytes.Rule) → Skipped rule s.now end at result }
+// Which of the eight bytes from a place on is the first below 20, by one comparison of vectors; or that none is.
+fn first_below(s: &[u8], at: usize) -> Option<usize>
+    requires { at + 8 ≤ length s.now }
+    ensures { FirstBelow s.now at result }
 {
-    let mut i = at;
-    while 16 <= end - i {
-        if sixteen(s, i) {
-            i += 16;
-        } else {
-            return i;
-        }
+    let below = u8x8::from_slice(&s[at..])
+        .simd_lt(u8x8::splat(FIRST_TEXT))
+        .to_bitmask();
+    if below == 0 {
+        return None;
     }
-    i
+    Some(below.trailing_zeros() as usize)
 }
 
-// Whether a note allows the next bytes, all of them.
-fn sixteen_in_note(s: &[u8], i: usize) -> bool
-    requires { i + 16 ≤ length s.now }
-    ensures { result ≡ text_run note s.now i 15 }
+// Whether the next N bytes are all of a line, or of a note: `&` and not `&&`, so that they are compared by vectors.
+fn all_text<const NOTE: bool, const N: usize>(s: &[u8], at: usize) -> bool
+    requires { at + N ≤ length s.now }
+    ensures { result ≡ all_text (rule_by NOTE) s.now at N }
 {
-    eight_in_note(s, i) & eight_in_note(s, i + 8)
+    let mut all = true;
+    for b in &s[at..at + N] {
+        all = all & allows::<NOTE>(*b);
+    }
+    all
 }
 
-// The same of eight.
-fn eight_in_note(s: &[u8], i: usize) -> bool
-    requires { i + 8 ≤ length s.now }
-    ensures { result ≡ text_run note s.now i 7 }
+// Whether a line, or a note, allows a byte: "bytes 20 to FF (hex)", and in a note breaks.
+fn allows<const NOTE: bool>(b: u8) -> bool
+    ensures { result ≡ text_byte (rule_by NOTE) b }
 {
-    four_in_note(s, i) & four_in_note(s, i + 4)
+    (b >= FIRST_TEXT) | (NOTE & is_break(b))
 }
 
-// The same of four.
-fn four_in_note(s: &[u8], i: usize) -> bool
-    requires { i + 4 ≤ length s.now }
-    ensures { result ≡ text_run note s.now i 3 }
-{
-    in_note(s[i]) & in_note(s[i + 1]) & in_note(s[i + 2]) & in_note(s[i + 3])
-}
-
-// Whether a note allows a byte: one of a line, or a break.
+// Whether a note allows a byte.
 pub fn in_note(b: u8) -> bool
     ensures { result ≡ text_byte note b }
 {
-    (b >= FIRST_TEXT) | is_break(b)
-}
-
-// Whether the next bytes are all of a line: `&` and not `&&`, so that it is one comparison of vectors.
-fn sixteen(s: &[u8], i: usize) -> bool
-    requires { i + 16 ≤ length s.now }
-    ensures { result ≡ text_run line s.now i 15 }
-{
-    eight(s, i) & eight(s, i + 8)
-}
-
-// The same of eight.
-fn eight(s: &[u8], i: usize) -> bool
-    requires { i + 8 ≤ length s.now }
-    ensures { result ≡ text_run line s.now i 7 }
-{
-    four(s, i) & four(s, i + 4)
-}
-
-// The same of four.
-fn four(s: &[u8], i: usize) -> bool
-    requires { i + 4 ≤ length s.now }
-    ensures { result ≡ text_run line s.now i 3 }
-{
-    (s[i] >= FIRST_TEXT)
-        & (s[i + 1] >= FIRST_TEXT)
-        & (s[i + 2] >= FIRST_TEXT)
-        & (s[i + 3] >= FIRST_TEXT)
+    allows::<true>(b)
 }

@@ -1,9 +1,6 @@
--- `decimal::digit_count`: the digits that are gone and those of what is left are all; a power of ten bounds what is left.
-use Rattle.coders.proofs.Encoding.{digit_gone, more_digits}
+-- `decimal::digit_count`: between two powers of ten.
+use Rattle.coders.proofs.Encoding.{digits_counted}
 use Rattle.coders.proofs.decimal.digit_count.Goals as goal
 
-pub loop-rest-preserved : goal.loop-rest-preserved
-loop-rest-preserved c =
-    let l = c.loop-rest in
-    let (a, b) = digit_gone l.more l.rest c.loop-rest-test.true l.invariant.1 in
-    (a, b, more_digits c.args.value l.more l.rest c.loop-rest-test.true l.invariant.2)
+pub returns : goal.returns
+returns c = let l = c.ilog10.ensures in digits_counted c.ilog10.result c.args.value c.max.ensures l.power_le l.next_power_gt c.requires

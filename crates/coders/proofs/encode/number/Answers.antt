@@ -10,14 +10,14 @@ use Rattle.coders.proofs.encode.number.Goals as goal
 pub returns-then-value-gt-MOST : goal.returns-then-value-gt-MOST
 returns-then-value-gt-MOST c =
     let a = c.args in
-    number_encodes a.value a.output.now a.output.now (encodes_out 10 a.output.now (number_bytes a.value) (lt-leb a.value number_most c.if-value-gt-MOST.true))
+    rw (c.into.ensures, c.at.ensures) (number_encodes a.value a.output.now a.output.now (encodes_out 10 a.output.now (number_bytes a.value) (lt-leb a.value number_most c.if-value-gt-MOST.true)))
 
 pub returns-then-output-many : goal.returns-then-output-many
 returns-then-output-many c =
     let a = c.args in
     let d = c.digit_count-n.ensures in
-    number_encodes a.value a.output.now a.output.now
-    (encodes_short 10 a.output.now (number_bytes a.value) (le-leb a.value number_most c.if-value-gt-MOST.false) (bytes_of a.value c.digit_count-n.result d.0 d.1 d.2).1 c.if-output-many.true)
+    rw (c.into-then-output-many.ensures, c.at-then-output-many.ensures) (number_encodes a.value a.output.now a.output.now
+    (encodes_short 10 a.output.now (number_bytes a.value) (le-leb a.value number_most c.if-value-gt-MOST.false) (bytes_of a.value c.digit_count-n.result d.0 d.1 d.2).1 c.if-output-many.true))
 
 pub returns : goal.returns
 returns c =

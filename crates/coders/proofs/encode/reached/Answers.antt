@@ -7,8 +7,8 @@ use Rattle.meaning.specs.Plain.{date_bytes, dated}
 use Rattle.coders.proofs.EncodingDates.{unfit, reach_encodes}
 use Rattle.coders.proofs.encode.reached.Goals as goal
 
-pub returns : goal.returns
-returns c =
+pub returns-then-not-fits : goal.returns-then-not-fits
+returns-then-not-fits c =
     let a = c.args in
     let d = plain_of a.date in
-    reach_encodes (dated (reaching a.absolute)) d a.output.now a.output.now (encodes_out 9 a.output.now (date_bytes d) (unfit d a.absolute (sym c.fits.ensures ∙ c.if-fits.false)))
+    rw (c.into.ensures, c.at.ensures) (reach_encodes (dated (reaching a.absolute)) d a.output.now a.output.now (encodes_out 9 a.output.now (date_bytes d) (unfit d a.absolute (sym c.fits.ensures ∙ c.if-not-fits.true))))

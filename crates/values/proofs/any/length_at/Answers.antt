@@ -10,7 +10,7 @@ returns-then-end-at c =
 pub returns-in-1 : goal.returns-in-1
 returns-in-1 c =
     let a = c.args in
-    length_one a.s.now a.end a.at a.width c.requires.0.before c.requires.0.whole c.if-end-at.false c.in-1.is c.one_byte.ensures.0
+    length_one a.s.now a.end a.at a.width c.requires.0.before c.requires.0.whole c.if-end-at.false c.in-1.is c.from.ensures
 
 pub returns-in-2 : goal.returns-in-2
 returns-in-2 c =

@@ -15,7 +15,7 @@ loop-i-preserved c =
     let h = c.loop-i-test.true in
     let b = note_is (get_or a.s.now l.i 0) (l.invariant.1 h) c.is_break.ensures in
     let past = byte_skipped note a.s.now a.end c.requires.whole l.i h (sym b ∙ c.if-is_break.true) in
-    (skipped_on l.invariant.0 (skipped_on past (c.long_line-i-then-is_break.ensures.skipped note)), c.long_line-i-then-is_break.ensures.stops)
+    (skipped_on l.invariant.0 (skipped_on past (c.long_line-i-in-loop-i.ensures.skipped note)), c.long_line-i-in-loop-i.ensures.stops)
 
 pub returns-else-is_break : goal.returns-else-is_break
 returns-else-is_break c =

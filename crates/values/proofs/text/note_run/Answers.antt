@@ -11,5 +11,5 @@ loop-i-init c = c.sixteens-i.ensures note
 pub loop-i-preserved : goal.loop-i-preserved
 loop-i-preserved c =
     let a = c.args in
-    let past = note_skipped a.s.now a.end c.requires.whole c.loop-i.i 15 (omega (arith, c.loop-i-test.true, c.loop-i.invariant.before)) (sym c.sixteen_in_note.ensures ∙ c.if-sixteen_in_note.true) in
-    skipped_on c.loop-i.invariant (skipped_on past (c.sixteens-i-then-sixteen_in_note.ensures note))
+    let past = note_skipped a.s.now a.end c.requires.whole c.loop-i.i 16 (omega (arith, c.loop-i-test.true, c.loop-i.invariant.before)) (sym c.all_text.ensures ∙ c.if-all_text.true) in
+    skipped_on c.loop-i.invariant (skipped_on past (c.sixteens-i-in-loop-i.ensures note))
