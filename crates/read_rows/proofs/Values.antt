@@ -10,29 +10,30 @@ use Rattle.meaning.specs.Editions.{State, Next, Move, go, moves, on◌▸◌▸�
 use Rattle.meaning.specs.Reading.{look, hit, take_value, reach_back, inside}
 use Rattle.laws_steps.specs.From.{from, from_length, from_cons, from_end}
 use Rattle.laws_steps.specs.Rows.{put}
-use Rattle.laws_steps.specs.Pouring.{stopped, pour, Source, run_at, landed, Ready, not_deep}
+use Rattle.laws_steps.specs.Pouring.{stopped, pour, Source, source, run_at, landed, Ready, not_deep}
 use Rattle.laws_steps.specs.Shapes.{Shaped}
 use Rattle.laws_steps.specs.ReadAt.{coded, strange_code, at_end}
 use Rattle.table.specs.Refusals.{answer_of}
 use Rattle.values.specs.declared.Value.{Value}
 use Rattle.values.specs.declared.Value.TheVariants.{Is, Refused}
 use Rattle.values.specs.Stages.{spans, misses, span, span_of, Stands, Valued, Coded, ended, unknown, valued}
-use Rattle.read_rows.specs.Stages.{after, Moved, Ran, goes_on, keeps, Fits}
+use Rattle.table.specs.declared.answers.Stage.{Stage}
+use Rattle.read_rows.specs.Stages.{after, Moved, Ran, StateRead, goes_on, keeps, Fits}
 use Rattle.read_rows.specs.Joining.{begun, arrives, refusing}
 
-pub value_fits : (s : List ℕ) (end at n kind back : ℕ) (taken : Taken) (v : Value) → Ready s end at n → Valued s end at kind back taken v → Fits v
+pub value_fits : {s : List ℕ} {end at n kind back : ℕ} {taken : Taken} (v : Value) → Ready s end at n → Valued s end at kind back taken v → Fits v
 unfolding Stands Fits
-value_fits s end at n kind back taken (Is k start len p) h a =
+value_fits (Is k start len p) h a =
     let small = h.small in
     let stands = a.stands in
     (omega arith, omega arith)
-value_fits s end at n kind back taken (Refused fault) h a = tt
+value_fits (Refused fault) h a = tt
 
-pub coded_fits : (t : Told) (s : List ℕ) (end at n strange : ℕ) (shape : Next → List Move) (v : Value) → Ready s end at n → Coded t shape strange s end at v → Fits v
+pub coded_fits : {t : Told} {s : List ℕ} {end at n strange : ℕ} {shape : Next → List Move} {v : Value} → Ready s end at n → Coded t shape strange s end at v → Fits v
 unfolding Fits
-coded_fits t s end at n strange shape v h (ended q) = tt
-coded_fits t s end at n strange shape v h (unknown z l q) = tt
-coded_fits t s end at n strange shape v h (valued kind form l b q a) = value_fits s end at n kind (reach_back form) (take_value t form (end - at) (get_or s at 0) (from s (at + 1) end)) v h a
+coded_fits h (ended q) = tt
+coded_fits h (unknown z l q) = tt
+coded_fits {v = v} h (valued kind form l b q a) = value_fits v h a
 
 module _ (i : Source) (at n level : ℕ) (m : List ℕ) (ready : Ready i.bytes i.end at n) where
   -- what is behind a value, by its span
@@ -81,3 +82,12 @@ module _ (i : Source) (at n level : ℕ) (m : List ℕ) (ready : Ready i.bytes i
       (coded i at n m code l ready.whole (from_cons i.bytes at i.end l ready.whole) q (on code ▸ kind ▸ form ▸ h.out) hits (not_deep q kind b.flat) b.coded b.rowed
       ∙ ap (λ (x : ℕ). landed i (reach_back form) kind x (go h.out q) taken n m) h.deep)
       (value_kept kind (reach_back form) (go h.out q) taken v a))
+
+-- .. as the stage that keeps the row answers it
+pub value_row : {t : Told} {s : List ℕ} {end at n kind back : ℕ} {taken : Taken} {v : Value} {r : Stage} {left : List ℕ} (level : ℕ) (m : List ℕ) (q : State) → Ready s end at n → Valued s end at kind back taken v → (r ≡ goes_on v n) × (left ≡ keeps v n level m)
+    → Ran (source t s end) (at + 1) (landed (source t s end) back kind level q taken n m) r q left
+value_row {t} {s} {end} {at} {n} {kind} {back} {taken} {v} level m q h a k = rw (k.0, k.1) (value_kept (source t s end) at n level m h kind back q taken v a)
+
+pub coded_row : {t : Told} {s : List ℕ} {end at n level refusal : ℕ} {shape : Next → List Move} {v : Value} {r : Stage} {q d : State} {left : List ℕ} (m : List ℕ) → Ready s end at n → Shaped t q d level refusal shape → Coded t shape refusal s end at v → (r ≡ goes_on v n) × (left ≡ keeps v n level m)
+    → StateRead t s end q at n m r d left
+coded_row {t} {s} {end} {at} {n} {level} {refusal} {shape} {v} {q = q} {d = d} m h shaped a k = rw (k.0, k.1) (coded_kept (source t s end) at n level m h refusal shape q d v shaped a)

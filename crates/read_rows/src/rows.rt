@@ -77,7 +77,8 @@ pub fn date(s: &[u8], from: Reached, rows: &mut [u32], level: u32, told: Told) -
 
 // Takes a value's answer. Puts its row as row n and goes on behind it, or hands its refusal up.
 fn keep(value: Value, rows: &mut [u32], n: usize, level: u32) -> Stage
-    requires { (Fits value) × (n ≤ header_most) }
+    requires fits { Fits value }
+    requires few { n ≤ header_most }
     ensures { (result ≡ goes_on value n) × (rows.new ≡ keeps value n level rows.old) }
 {
     match value {

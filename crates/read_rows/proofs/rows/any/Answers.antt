@@ -1,20 +1,9 @@
 -- `rows::any`: the value's stage, and its row kept.
-use Rattle.std.specs.Prelude.{length}
-use native.Mathlib.Omega.{arith}
-use Rattle.meaning.specs.Editions.{any_values}
-use Rattle.laws_steps.specs.Pouring.{source}
-use Rattle.table.specs.Told.{told_of}
-use Rattle.read_rows.proofs.Values.{coded_fits, coded_kept}
+use Rattle.read_rows.proofs.Values.{coded_fits, coded_row}
 use Rattle.read_rows.proofs.rows.any.Goals as goal
 
-pub keep-requires : goal.keep-requires
-keep-requires c =
-    let a = c.args in
-    let h = c.requires in
-    (coded_fits (told_of a.told) a.s.now (length a.s.now) a.from.at a.from.rows 7 any_values c.take-v.result h c.take-v.ensures, omega (arith, h.small, h.before, h.few))
+pub keep-requires-clause-fits : goal.keep-requires-clause-fits
+keep-requires-clause-fits c = coded_fits c.requires c.take-v.ensures
 
 pub returns : goal.returns
-returns c q d h =
-    let a = c.args in
-    let k = c.keep.ensures in
-    rw (k.0, k.1) (coded_kept (source (told_of a.told) a.s.now (length a.s.now)) a.from.at a.from.rows a.level a.rows.now c.requires 7 any_values q d c.take-v.result h c.take-v.ensures)
+returns c q d h = coded_row c.args.rows.now c.requires h c.take-v.ensures c.keep.ensures

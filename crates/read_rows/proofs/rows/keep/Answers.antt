@@ -6,5 +6,5 @@ use Rattle.read_rows.proofs.rows.keep.Goals as goal
 pub put_row-requires : goal.put_row-requires
 unfolding Fits
 put_row-requires c =
-    let f = rw c.in-Is.is at c.requires.0 in
-    (omega (arith, c.requires.1), omega (arith, f.0), omega (arith, f.1))
+    let f = rw c.in-Is.is at c.requires.fits in
+    (omega (arith, c.requires.few), omega (arith, f.0), omega (arith, f.1))
