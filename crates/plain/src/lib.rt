@@ -8,4 +8,4 @@ pub mod header;
 pub mod lists;
 pub mod read;
 pub mod run;
-pub mod state;
+pub mod standing;

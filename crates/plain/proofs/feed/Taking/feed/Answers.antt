@@ -1,6 +1,6 @@
--- `feed::feed`: by what is being taken.
+-- `feed::Taking::feed`: by what is being taken.
 use Rattle.table.specs.Told.{told_of}
-use Rattle.plain.proofs.feed.feed.Goals as goal
+use Rattle.plain.proofs.feed.Taking.feed.Goals as goal
 
 pub returns-in-Text : goal.returns-in-Text
 returns-in-Text c = let q = c.in-Text.is in rw q (c.feed_text.ensures (told_of c.args.told))
