@@ -9,6 +9,6 @@ returns-in-None c = ended_closed c.args.self c.args.here.at c.args.here.rows c.i
 
 pub returns-in_default : goal.returns-in_default
 returns-in_default c = elim c.in_default.branch [
-    in_default-via-in-None+else-is_closed w ↦ ended_open c.args.self c.args.here.at c.args.here.rows c.at.ensures w.in-None.is (sym w.is_closed.ensures ∙ w.if-is_closed.false)
+  | in_default-via-in-None+else-is_closed w ↦ ended_open c.args.self c.args.here.at c.args.here.rows c.at.ensures w.in-None.is (sym w.is_closed.ensures ∙ w.if-is_closed.false)
   | in_default-via-in_default w ↦ ended_value c.args.self c.args.here.at c.args.here.rows c.at.ensures w.in_default.is
-  ]
+]
