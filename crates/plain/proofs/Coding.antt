@@ -30,7 +30,6 @@ use Rattle.values.specs.declared.text.Rule.{Rule}
 use Rattle.date.specs.Dates.{reaching, date_length}
 use Rattle.date.specs.DateSteps.{date_begins, nine_at_least}
 use Rattle.moves.specs.declared.rooms.Room as declared
-use Rattle.moves.specs.declared.rooms.Room.TheVariants as rooms
 use Rattle.moves.specs.declared.rooms.Move.{Move}
 use Rattle.moves.specs.declared.rooms.Move.TheVariants.{Coded, Quiet, Uncoded}
 use Rattle.moves.specs.declared.rooms.Form as declaredForm

@@ -1,5 +1,5 @@
 -- The open lists as `meaning` has them: the level is how many they are, and the first says whether the agent is the one of `from`.
-use Rattle.std.specs.Prelude.{ℕ, ◌-◌, ◌≤◌, ◌<◌, Bool, true, false, Option, None, Some, ◌≡◌, eqb, get_or}
+use Rattle.std.specs.Prelude.{◌-◌, ◌≤◌, Bool, true, false, Option, None, Some, ◌≡◌, eqb, get_or}
 use Rattle.meaning.specs.Basics.{pick}
 use Rattle.meaning.specs.Editions.{State, state}
 use Rattle.moves.specs.declared.rooms.Next.{Next}

@@ -4,7 +4,6 @@
 pub mod codes;
 pub mod engine;
 pub mod feed;
-pub mod header;
 pub mod lists;
 pub mod read;
 pub mod run;

@@ -3,7 +3,7 @@ use mathlib.Core.Path.{refl, ◌∙◌}
 use native.Mathlib.Omega.{arith}
 use Rattle.laws_steps.specs.Pouring.{source}
 use Rattle.table.specs.Told.{told_of}
-use Rattle.plain.proofs.Running.{begins_comes, code_holds, run_ended, run_refused, run_over, run_goes, moves_lead, run_moves, ends_lead, row_fits, run_ends}
+use Rattle.plain.proofs.Running.{begins_comes, code_holds, run_refused, run_over, run_goes, moves_lead, run_moves, ends_lead, row_fits, run_ends}
 use Rattle.plain.proofs.run.run_inside.Goals as goal
 
 pub loop-told-init : goal.loop-told-init
