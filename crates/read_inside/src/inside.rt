@@ -12,7 +12,7 @@ use read_rows::rows;
 use table::answers::{Reached, Stage};
 use table::told::Told;
 
-// The inside of a base or of an extension, from behind its length up to its 01; nothing is read from `end` on.
+// The inside of a base or of an extension that ends where `s` does, from behind its length up to its 01.
 pub fn read_inside(s: &[u8], from: Reached, rows: &mut [u32], base: bool, told: Told) -> Stage
     requires { ReadyAt s.now from }
     ensures { StateReadAt (told_of told) s.now (start base) from rows.old result (state closed 0 false) rows.new }

@@ -6,8 +6,8 @@ use Rattle.read_envelopes.proofs.Envelopes.{enveloped}
 use Rattle.read_envelopes.proofs.envelope.read_opened.Goals as goal
 
 pub returns : goal.returns
-returns c =
+returns g c =
     let a = c.args in
     let f = c.requires.1 in
-    let read = cut (told_of a.told) a.s.now a.end f.whole _ _ _ f.before c.read_inside-r.ensures in
+    let read = cut (told_of a.told) a.s.now a.end f.whole _ _ _ f.before c.inside-r.ensures in
     enveloped (told_of a.told) a.s.now a.from.at a.first a.end a.base a.from.rows a.rows.now (omega (arith, f.before)) f.whole (rw (← c.opening_kind.ensures) c.open-opened.ensures.put) (rw c.open-opened.ensures.rows at read) c.ended.ensures
