@@ -1,5 +1,4 @@
 -- Bytes that are no code of a parameter that both editions have: 08, and none.
-use Rattle.std.specs.Prelude.{ℕ}
 use native.Mathlib.Omega.{arith}
 use Rattle.laws_steps.specs.Shapes.{NoCode}
 

@@ -1,6 +1,5 @@
 -- `parameters::open_encrypted`: in B the opening row, then a list of texts; in D the code is in no move.
 use Rattle.std.specs.Prelude.{ℕ, false, ◌≡◌, refl}
-use Rattle.std.proofs.Common.{◌<◌}
 use native.Mathlib.Nat.{le_refl}
 use native.Mathlib.Omega.{arith}
 use Rattle.meaning.specs.Editions.{encrypted_texts, outer, parameters, state}

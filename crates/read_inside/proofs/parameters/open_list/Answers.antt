@@ -1,5 +1,5 @@
 -- `parameters::open_list`: the opening row, then the 01 of an empty list, or the list's stage at level 1.
-use Rattle.std.specs.Prelude.{◌+◌, ◌<◌, false, refl}
+use Rattle.std.specs.Prelude.{false, refl}
 use native.Mathlib.Omega.{arith}
 use Rattle.meaning.specs.Editions.{agent_list, state}
 use Rattle.laws_steps.specs.AgentRooms.{list_stop, not_single}

@@ -1,5 +1,5 @@
 -- `parameters::read_parameter`: each code against the table of moves, and the stage of its value.
-use Rattle.std.specs.Prelude.{ℕ, false, true, ◌≡◌, refl, ltb}
+use Rattle.std.specs.Prelude.{false, true, ◌≡◌, refl, ltb}
 use borrow.Author.Tests.{lt-ltb}
 use native.Mathlib.Omega.{arith}
 use Rattle.meaning.specs.Bytes.{line, note}

@@ -1,6 +1,6 @@
 -- `parameters::read_parameters`: each turn reads one parameter and is among the parameters again; the 01 closes the envelope.
-use Rattle.std.proofs.Common.{◌<◌, ◌∙◌}
-use Rattle.std.specs.Prelude.{ℕ, false, ◌≡◌, refl}
+use Rattle.std.proofs.Common.{◌∙◌}
+use Rattle.std.specs.Prelude.{false, ◌≡◌, refl}
 use native.Mathlib.Nat.{le_refl}
 use native.Mathlib.Omega.{arith}
 use Rattle.meaning.specs.Editions.{parameters, state}
