@@ -1,9 +1,10 @@
 -- What each code value of the table's words says, as `meaning` has it.
-use Rattle.std.specs.Prelude.{ℕ, Bool, true, false}
+use Rattle.std.specs.Prelude.{ℕ, Bool, true, false, Option, None, Some}
 use Rattle.meaning.specs.Bytes.{Reach, absolute, relative, one_byte, two_bytes, four_bytes}
-use Rattle.meaning.specs.Editions.{no_code, on◌▸◌▸◌▸◌}
+use Rattle.meaning.specs.Editions.{no_code, on◌▸◌▸◌▸◌, pass◌▸◌}
 use Rattle.meaning.specs.Editions as meaning
 use Rattle.meaning.specs.Reading as reading
+use Rattle.table.specs.Kinds.{number_of}
 use Rattle.values.specs.Stages.{rule_of}
 use Rattle.moves.specs.declared.rooms.Room.{Room}
 use Rattle.moves.specs.declared.rooms.Room.TheVariants as room
@@ -11,8 +12,8 @@ use Rattle.moves.specs.declared.rooms.Form.{Form}
 use Rattle.moves.specs.declared.rooms.Form.TheVariants as form
 use Rattle.moves.specs.declared.rooms.Next.{Next}
 use Rattle.moves.specs.declared.rooms.Next.TheVariants as next
-use Rattle.moves.specs.declared.rooms.Found.{Found}
-use Rattle.moves.specs.declared.rooms.Found.TheVariants.{Nothing, Coded, Uncoded}
+use Rattle.moves.specs.declared.rooms.Move.{Move}
+use Rattle.moves.specs.declared.rooms.Move.TheVariants.{Coded, Quiet, Uncoded}
 
 abbrev pub room_of : Room → meaning.Room
 room_of room.ReceivedBegins = meaning.received_begins
@@ -51,7 +52,6 @@ form_of form.TwoBytes = meaning.block two_bytes
 form_of form.FourBytes = meaning.block four_bytes
 form_of form.Itself = meaning.itself
 form_of form.Opens = meaning.opens
-form_of form.Quiet = meaning.quiet
 
 abbrev pub next_of : Next → meaning.Next
 next_of (next.Outer r) = meaning.outer (room_of r)
@@ -62,8 +62,13 @@ next_of next.Deeper = meaning.deeper meaning.agent_list
 next_of next.ListEnds = meaning.list_ends
 next_of next.AgentEnds = meaning.agent_ends
 
+-- the move that is found at the byte b
+abbrev pub move_of : ℕ → Move → meaning.Move
+move_of b (Coded kind form next) = on b ▸ number_of kind ▸ form_of form ▸ next_of next
+move_of b (Quiet next) = pass b ▸ next_of next
+move_of b (Uncoded kind rule next) = on no_code ▸ number_of kind ▸ meaning.text (rule_of rule) ▸ next_of next
+
 -- what is found at the byte b
-abbrev pub found_of : ℕ → Found → reading.Found
-found_of b Nothing = reading.none
-found_of b (Coded kind form next) = reading.hit (on b ▸ kind ▸ form_of form ▸ next_of next)
-found_of b (Uncoded kind rule next) = reading.hit (on no_code ▸ kind ▸ meaning.text (rule_of rule) ▸ next_of next)
+abbrev pub found_of : ℕ → Option Move → reading.Found
+found_of b None = reading.none
+found_of b (Some m) = reading.hit (move_of b m)

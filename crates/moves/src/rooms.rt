@@ -1,12 +1,15 @@
-// The words of the table: rooms, forms of values, where moves lead, and a move that was found.
+// The words of the table: rooms, forms of values, where moves lead, and a move.
 ghost use Rattle.std.specs.Prelude.{◌≡◌};
 ghost use Rattle.meaning.specs.Reading.{strange, is_closed};
+ghost use Rattle.table.specs.Refusals.{answer_of};
 ghost use Rattle.moves.specs.Words.{room_of};
 
+use table::kinds::Kind;
+use table::refusals::Refusal;
 use values::text::Rule;
 
 // A place in the grammar.
-#[derive(Clone, Copy)]
+#[derive(Clone, Copy, PartialEq, Eq)]
 pub enum Room {
     ReceivedBegins,
     HeadRepresentation,
@@ -33,7 +36,7 @@ pub enum Room {
 }
 
 // How a move's value stands behind its code: a text by its rule; a date, absolute or relative, with a designator or without; a number; bytes behind a
-// length of one, two or four; the code itself; nothing, with a row or without.
+// length of one, two or four; the code itself; nothing.
 #[derive(Clone, Copy)]
 pub enum Form {
     Text(Rule),
@@ -44,7 +47,6 @@ pub enum Form {
     FourBytes,
     Itself,
     Opens,
-    Quiet,
 }
 
 // Where a move leads: to a room at envelope level; inside a received object or a parameter's list; to the one agent of `from`; to a room at the same
@@ -60,73 +62,53 @@ pub enum Next {
     AgentEnds,
 }
 
-// A move at a byte, by its row's kind, the form of its value and where it leads: the byte is its code, or a text begins at the byte.
-#[derive(Drop)]
-pub enum Found {
-    Nothing,
-    Coded { kind: u32, form: Form, next: Next },
-    Uncoded { kind: u32, rule: Rule, next: Next },
+// A move at a byte, and where it leads. The byte is its code, before a value that has a row, by its kind and its form; or its code, with no row; or no
+// code but the first byte of a text.
+#[derive(Clone, Copy)]
+pub enum Move {
+    Coded(Kind, Form, Next),
+    Quiet(Next),
+    Uncoded(Kind, Rule, Next),
 }
 
-// The kind of a move that has no row.
-pub const NO_KIND: u32 = 0;
+impl Move {
+    // A line behind its code.
+    pub fn line(kind: Kind, next: Next) -> Move
+        ensures { result ≡ Move.Coded kind (Form.Text Rule.Line) next }
+    {
+        Move::Coded(kind, Form::Text(Rule::Line), next)
+    }
 
-// Takes a room. Answers the refusal of a byte that is in none of its moves: "7: code not allowed here"; "9: date code .. wrong".
-pub fn strange_in(room: Room) -> u32
-    ensures { result ≡ strange (room_of room) }
-{
-    match room {
-        Room::ReceivedBegins => 7,
-        Room::HeadRepresentation => 7,
-        Room::HeadDate => 9,
-        Room::Parameters => 7,
-        Room::OwnText => 7,
-        Room::ParameterRepresentation => 7,
-        Room::BehaviourValue => 7,
-        Room::EncryptedTexts => 7,
-        Room::ReceivedDate => 9,
-        Room::AfterDate => 7,
-        Room::AfterFrom => 7,
-        Room::AfterId => 7,
-        Room::AfterVia => 7,
-        Room::ReceivedExtra => 7,
-        Room::AgentList => 7,
-        Room::OneAgent => 7,
-        Room::AfterName => 7,
-        Room::AddressTexts => 7,
-        Room::AfterAddresses => 7,
-        Room::AfterResolvers => 7,
-        Room::AgentExtra => 7,
-        Room::Closed => 7,
+    // A note behind its code.
+    pub fn note(kind: Kind, next: Next) -> Move
+        ensures { result ≡ Move.Coded kind (Form.Text Rule.Note) next }
+    {
+        Move::Coded(kind, Form::Text(Rule::Note), next)
+    }
+
+    // A row that opens what its code begins.
+    pub fn opens(kind: Kind, next: Next) -> Move
+        ensures { result ≡ Move.Coded kind Form.Opens next }
+    {
+        Move::Coded(kind, Form::Opens, next)
     }
 }
 
-// Takes a room. Answers whether it is the one behind an envelope's closing 01.
-pub fn is_closed(room: Room) -> bool
-    ensures { result ≡ is_closed (room_of room) }
-{
-    match room {
-        Room::ReceivedBegins => false,
-        Room::HeadRepresentation => false,
-        Room::HeadDate => false,
-        Room::Parameters => false,
-        Room::OwnText => false,
-        Room::ParameterRepresentation => false,
-        Room::BehaviourValue => false,
-        Room::EncryptedTexts => false,
-        Room::ReceivedDate => false,
-        Room::AfterDate => false,
-        Room::AfterFrom => false,
-        Room::AfterId => false,
-        Room::AfterVia => false,
-        Room::ReceivedExtra => false,
-        Room::AgentList => false,
-        Room::OneAgent => false,
-        Room::AfterName => false,
-        Room::AddressTexts => false,
-        Room::AfterAddresses => false,
-        Room::AfterResolvers => false,
-        Room::AgentExtra => false,
-        Room::Closed => true,
+impl Room {
+    // Answers the refusal of a byte that is in none of the room's moves: "7: code not allowed here"; "9: date code .. wrong".
+    pub fn strange(self) -> Refusal
+        ensures { answer_of result ≡ strange (room_of self) }
+    {
+        match self {
+            Room::HeadDate | Room::ReceivedDate => Refusal::DateWrong,
+            _ => Refusal::CodeWrong,
+        }
+    }
+
+    // Answers whether the room is the one behind an envelope's closing 01.
+    pub fn is_closed(self) -> bool
+        ensures { result ≡ is_closed (room_of self) }
+    {
+        self == Room::Closed
     }
 }

@@ -8,38 +8,44 @@ use native.Mathlib.Omega.{arith}
 use lib.Dec.{eqb, ltb}
 use lib.ListN.{length, get_or}
 use borrow.Author.Tests.{ne_eqb, eq-eqb, lt-ltb, ltb-false}
+use Rattle.std.specs.Prelude.{Option, None, Some}
 use Rattle.meaning.specs.Basics.{pick}
 use Rattle.meaning.specs.Told.{Edition, Told}
 use Rattle.meaning.specs.Kinds.{agent_name}
 use Rattle.meaning.specs.Bytes.{line, Taken, took, failed, take_text, take_block, Width, bytes_of}
-use Rattle.meaning.specs.Editions.{Room, State, state, go, Next, Form, is_quiet, no_code, moves, shared, own, on◌▸◌▸◌▸◌, pass◌▸◌}
+use Rattle.meaning.specs.Editions.{Room, State, state, go, Next, Form, is_quiet, no_code, no_kind, moves, shared, own, on◌▸◌▸◌▸◌, pass◌▸◌}
 use Rattle.meaning.specs.Editions as meaning
 use Rattle.meaning.specs.Reading.{take_value, reach_back, Found, or_else, look, find, none, hit, is_closed, strange, level_most, too_deep, next, step, step_move, onward, inside}
 use Rattle.laws_steps.specs.From.{from, from_length, from_cons}
 use Rattle.laws_steps.specs.Pouring.{filled, Source, source, pour, run_at, landed, Peeked, pour_none, run_step}
 use Rattle.laws_steps.specs.ReadAt.{stepped, coded, too_deep_lem, strange_code, uncoded}
+use Rattle.table.specs.declared.answers.Fault.{Fault}
+use Rattle.table.specs.declared.kinds.Kind.{Kind}
+use Rattle.table.specs.declared.refusals.Refusal.{Refusal}
+use Rattle.table.specs.declared.refusals.Refusal.TheVariants.{AgentLevel}
+use Rattle.table.specs.Kinds.{number_of}
+use Rattle.table.specs.Refusals.{answer_of}
 use Rattle.values.specs.Stages.{span, rule_of}
 use Rattle.values.specs.declared.text.Rule.{Rule}
 use Rattle.date.specs.Dates.{reaching, date_length}
 use Rattle.date.specs.DateSteps.{date_begins, nine_at_least}
 use Rattle.moves.specs.declared.rooms.Room as declared
-use Rattle.moves.specs.declared.rooms.Room.TheVariants as rooms
-use Rattle.moves.specs.declared.rooms.Found as declaredFound
-use Rattle.moves.specs.declared.rooms.Found.TheVariants as found
+use Rattle.moves.specs.declared.rooms.Move.{Move}
+use Rattle.moves.specs.declared.rooms.Move.TheVariants.{Coded, Quiet, Uncoded}
 use Rattle.moves.specs.declared.rooms.Form as declaredForm
 use Rattle.moves.specs.declared.rooms.Form.TheVariants as form
 use Rattle.moves.specs.declared.rooms.Next as declaredNext
 use Rattle.moves.specs.declared.rooms.Next.TheVariants as nexts
 use Rattle.moves.specs.Words.{room_of, reach_of, form_of, next_of, found_of}
-use Rattle.plain.specs.declared.lists.Lists.{Lists}
+use Rattle.plain.specs.declared.standing.Standing.{Standing}
 use Rattle.plain.specs.declared.feed.Pending.{Pending}
 use Rattle.plain.specs.declared.feed.Taking.{Taking}
 use Rattle.plain.specs.declared.feed.Taking.TheVariants.{Text, Date, Number, Length}
 use Rattle.plain.specs.declared.feed.Fed.{Fed}
 use Rattle.plain.specs.declared.feed.Fed.TheVariants as fed
-use Rattle.plain.specs.Lists.{state_of, Bounded, MayLead, Leads}
+use Rattle.plain.specs.Lists.{state_of, Leads}
 use Rattle.plain.specs.Values.{pending_of, back_of, width_of, span_from, Valid}
-use Rattle.plain.specs.Steps.{landed_span, value_at, fed_at, FedLeads, FedValid, CodeSteps, CodedHere, UncodedHere, NoneHere}
+use Rattle.plain.specs.Steps.{landed_span, value_at, fed_at, FedLeads, FedValid, CodeSteps, Here}
 
 landed_span_lem : (i : Source) (back kind level : ℕ) (q : State) (g : Taken) (n : ℕ) (m : List ℕ) → landed i back kind level q g n m ≡ landed_span i back kind level q (span 0 g) n m
 landed_span_lem i back kind level q (took v rest) n m = let u : 0 + length v ≡ length v = omega arith in rw u refl
@@ -98,7 +104,7 @@ pub closed_same : (i : Source) (at n : ℕ) (m : List ℕ) → at ≤ i.end → 
 closed_same i at n m h k r level o c = rw (closed_is r c) (closed_filled i at n m h k level o ∙ sym (closed_filled i at n m h k 0 false))
 
 -- The values of each form, taken up behind their code
-module _ (t : Told) (s : List ℕ) (at : ℕ) (kind : ℕ) (g : declaredNext.Next) (end : ℕ) (h : at < end) (k : end ≤ length s) where
+module _ (t : Told) (s : List ℕ) (at : ℕ) (kind : Kind) (g : declaredNext.Next) (end : ℕ) (h : at < end) (k : end ≤ length s) where
   abbrev pending : Pending
   pending = record { kind = kind; next = g; start = at + 1 }
 
@@ -125,115 +131,6 @@ module _ (t : Told) (s : List ℕ) (at : ℕ) (kind : ℕ) (g : declaredNext.Nex
       let u : at + 1 + width - (at + 1) ≡ width = omega arith in
       let v : at + 1 - 1 ≡ at = omega arith in
       rw (u, v, p, r) refl
-
--- where a code is awaited
-module _ (t : Told) (s : List ℕ) (at : ℕ) (room : declared.Room) (l : Lists) where
-  abbrev q : State
-  q = state_of room l
-
-  abbrev b : ℕ
-  b = get_or s at 0
-
-  -- a move whose code is the byte
-  module _ (kind : ℕ) (f : declaredForm.Form) (g : declaredNext.Next) (here : CodedHere t s at room kind f g) (flat : eqb kind agent_name && ltb level_most l.depth ≡ false) where
-    code_not : eqb b no_code ≡ false
-    code_not = ne_eqb b no_code (λ e. omega (arith, here.byte))
-
-    coded_span : is_quiet (form_of f) ≡ false → (end : ℕ) → at < end → end ≤ length s → (n : ℕ) (m : List ℕ)
-        → run_at (source t s end) q at n m ≡ landed_span (source t s end) (reach_back (form_of f)) kind l.depth (go (next_of g) q) (span 0 (take_value t (form_of f) (end - at) b (from s (at + 1) end))) n m
-    coded_span z end h k n m =
-        coded (source t s end) at n m b h k (from_cons s at end h k) q (on b ▸ kind ▸ form_of f ▸ next_of g) here.is flat code_not z
-        ∙ landed_span_lem (source t s end) (reach_back (form_of f)) kind l.depth (go (next_of g) q) (take_value t (form_of f) (end - at) b (from s (at + 1) end)) n m
-
-    abbrev of : Pending
-    of = record { kind = kind; next = g; start = at + 1 }
-
-    -- .. and a value behind it
-    module _ (leads : Leads g l) where
-      pub taken_up : (taking : Taking) → pending_of taking ≡ of → is_quiet (form_of f) ≡ false → reach_back (form_of f) ≡ back_of taking → Valid taking (at + 1)
-          → ((end : ℕ) → at < end → end ≤ length s → span 0 (take_value t (form_of f) (end - at) b (from s (at + 1) end)) ≡ span_from (source t s end) taking (at + 1))
-          → CodeSteps room l t s at (fed.Goes taking)
-      unfolding value_at fed_at FedLeads FedValid
-      taken_up taking p z y v w = record { is = λ end h k n m. coded_span z end h k n m ∙ rw (p, ← y, w end h k) refl; valid = v; leads = rw p leads }
-
-      pub takes_text : (rule : Rule) → f ≡ form.Text rule → CodeSteps room l t s at (fed.Goes (Text rule of))
-      unfolding Valid
-      takes_text rule x = taken_up (Text rule of) refl (rw x refl) (rw x refl) (omega arith) (λ end h k. rw x (text_begins t s at kind g end h k rule))
-
-      pub takes_date : (isAbsolute designated : Bool) → f ≡ form.Date isAbsolute designated → CodeSteps room l t s at (fed.Goes (Date isAbsolute designated of))
-      unfolding Valid
-      takes_date isAbsolute designated x =
-          taken_up (Date isAbsolute designated of) refl (rw x refl) (rw x refl) (omega arith, omega (arith, nine_at_least designated)) (λ end h k. rw x (date_begun t s at kind g end h k isAbsolute designated))
-
-      pub takes_number : f ≡ form.Number → CodeSteps room l t s at (fed.Goes (Number 0 of))
-      unfolding Valid
-      takes_number x = taken_up (Number 0 of) refl (rw x refl) (rw x refl) (omega arith, omega arith) (λ end h k. rw x (number_begins t s at kind g end h k))
-
-      pub takes_block : (w : Width) (width : ℕ) → width_of width ≡ w → bytes_of w ≡ width → 0 < width → form_of f ≡ meaning.block w → CodeSteps room l t s at (fed.Goes (Length width 0 of))
-      unfolding Valid
-      takes_block w width p c d x =
-          let u : at + 1 - (at + 1) ≡ 0 = omega arith in
-          taken_up (Length width 0 of) refl (rw x refl) (rw x refl) (omega arith, omega arith, omega arith, ap bytes_of p ∙ c, rw u (omega arith))
-          (λ end h k. rw x (block_begins t s at kind g end h k w width p c))
-
-      -- a row at the code
-      abbrev here_row : Pending
-      here_row = record { kind = kind; next = g; start = at }
-
-      pub coded_itself : f ≡ form.Itself → {x : Fed} → x ≡ fed.Ends here_row 1 → CodeSteps room l t s at x
-      unfolding take_value fed_at FedLeads FedValid
-      coded_itself x q = rw q (record {
-        is = λ end h k n m.
-            let u : end - (length (from s (at + 1) end) + 1 + 0) ≡ at = omega (arith, from_length s (at + 1) end (omega arith) k) in
-            coded_span (rw x refl) end h k n m ∙ rw (x, u) refl;
-        valid = (omega arith, omega arith);
-        leads = leads;
-      })
-
-      pub coded_opens : f ≡ form.Opens → {x : Fed} → x ≡ fed.Ends here_row 0 → CodeSteps room l t s at x
-      unfolding take_value fed_at FedLeads FedValid
-      coded_opens x q = rw q (record {
-        is = λ end h k n m.
-            let u : end - (length (from s (at + 1) end) + 0 + 1) ≡ at = omega (arith, from_length s (at + 1) end (omega arith) k) in
-            coded_span (rw x refl) end h k n m ∙ rw (x, u) refl;
-        valid = (omega arith, omega arith);
-        leads = leads;
-      })
-
-      pub coded_quiet : f ≡ form.Quiet → CodeSteps room l t s at (fed.Moves g)
-      unfolding take_value step step_move fed_at FedLeads FedValid
-      coded_quiet x = record {
-        is = λ end h k n m.
-            let y : look b (moves t.edition (room_of room)) ≡ hit (on b ▸ kind ▸ meaning.quiet ▸ next_of g) = here.is ∙ rw x refl in
-            stepped (source t s end) at n m q (b ∷ from s (at + 1) end) (next (go (next_of g) q) [] (from s (at + 1) end)) (from_cons s at end h k) (rw (y, flat, code_not) refl)
-            ∙ pour_none end (inside t (go (next_of g) q) (from s (at + 1) end)) n m;
-        valid = tt;
-        leads = leads;
-      }
-
-  -- an agent of level 9
-  pub coded_deep : (v : meaning.Move) → look b (moves t.edition (room_of room)) ≡ hit v → too_deep v q ≡ true → CodeSteps room l t s at (fed.Wrong 12 at)
-  unfolding fed_at FedLeads FedValid
-  coded_deep v y d = record { is = λ end h k n m. too_deep_lem (source t s end) at n m b h k (from_cons s at end h k) q v y d; valid = tt; leads = tt }
-
-  -- no move
-  pub none_closed : is_closed (room_of room) ≡ true → CodeSteps room l t s at fed.Over
-  unfolding fed_at FedLeads FedValid
-  none_closed c = record { is = λ end h k n m. closed_same (source t s end) at n m (omega arith) k (room_of room) l.depth _ c; valid = tt; leads = tt }
-
-  pub none_strange : NoneHere t s at room → is_closed (room_of room) ≡ false → {refusal : ℕ} → refusal ≡ strange (room_of room) → CodeSteps room l t s at (fed.Wrong refusal at)
-  unfolding fed_at FedLeads FedValid
-  none_strange here c o = record { is = λ end h k n m. strange_code (source t s end) at n m b h k (from_cons s at end h k) q _ here.is c (sym o); valid = tt; leads = tt }
-
-  -- a text that begins at the byte
-  pub uncoded_span : (kind : ℕ) (rule : Rule) (g : declaredNext.Next) → UncodedHere t s at room kind rule g → eqb kind agent_name && ltb level_most l.depth ≡ false → (end : ℕ) → at < end → end ≤ length s → (n : ℕ) (m : List ℕ)
-      → run_at (source t s end) q at n m ≡ value_at (source t s end) q (Text rule (record { kind = kind; next = g; start = at })) at n m
-  unfolding value_at span_from
-  uncoded_span kind rule g here flat end h k n m =
-      let u : at - at ≡ 0 = omega arith in
-      let p : Peeked s end at b = record { is = from_cons s at end h k ∙ rw (lt-ltb b 256 here.byte) refl; inside = λ z. h; before = omega arith; whole = k; top = omega (arith, here.byte) } in
-      uncoded (source t s end) at n m b p q kind (rule_of rule) (next_of g) here.is flat (hit_open t.edition (room_of room) b here.is)
-      ∙ landed_span_lem (source t s end) 1 kind l.depth (go (next_of g) q) (take_text (rule_of rule) (from s at end)) n m ∙ rw u refl
 
 -- Where the ninth list is open
 
@@ -264,32 +161,140 @@ list_next e b c kind f g q = by (eqb 0x02 b) (eqb 0x01 b) q
     by false true q = inr (ends_list g (ap leads_to q))
     by false false q = absurd (let z : ◌≡◌ {A = ℕ} 0 1 = cc q in omega arith)
 
-pub may_lead : {room : declared.Room} {l : Lists} → Bounded room l → (e : Edition) (b c kind : ℕ) (f : Form) (g : declaredNext.Next) → look b (moves e (room_of room)) ≡ hit (on c ▸ kind ▸ f ▸ next_of g) → MayLead kind g l
-may_lead {room} {l} a e b c kind f g q = record { nested = a.nested; most = by a.most }
-  where
-    by : (l.depth ≤ 8) ⊎ (room ≡ rooms.AgentList) → (l.depth ≤ 8) ⊎ ((kind ≡ agent_name) ⊎ (g ≡ nexts.ListEnds))
-    by (inl h) = inl h
-    by (inr h) = let y : look b (moves e meaning.agent_list) ≡ hit (on c ▸ kind ▸ f ▸ next_of g) = ap (λ (x : declared.Room). look b (moves e (room_of x))) (sym h) ∙ q in inr (list_next e b c kind f g y)
+-- where a code is awaited
+module _ (t : Told) (s : List ℕ) (at : ℕ) (r : Standing) where
+  abbrev q : State
+  q = state_of r
 
--- what is not an agent too deep may lead on
-pub leads_on : {kind : ℕ} {g : declaredNext.Next} {l : Lists} → MayLead kind g l → eqb kind agent_name && ltb level_most l.depth ≡ false → Leads g l
-leads_on {kind} {g} {l} a h = record { nested = a.nested; most = by a.most }
-  where
-    by : (l.depth ≤ 8) ⊎ ((kind ≡ agent_name) ⊎ (g ≡ nexts.ListEnds)) → (l.depth ≤ 8) ⊎ (g ≡ nexts.ListEnds)
-    by (inl x) = inl x
-    by (inr (inr x)) = inr x
-    by (inr (inl x)) = let z : ltb level_most l.depth ≡ false = rw (eq-eqb kind agent_name x) at h in inl (ltb-false level_most l.depth z)
+  abbrev b : ℕ
+  b = get_or s at 0
 
--- what a look found
-module _ (t : Told) (s : List ℕ) (at : ℕ) (room : declared.Room) {b : ℕ} (x : declaredFound.Found) (byte : b ≡ get_or s at 0) (low : b < 256) (is : found_of b x ≡ look b (moves t.edition (room_of room))) where
-  found_is : look (get_or s at 0) (moves t.edition (room_of room)) ≡ found_of (get_or s at 0) x
-  found_is = rw (← byte) (sym is)
+  -- what is not an agent too deep may lead on
+  leads_on : (c kind : ℕ) (f : Form) (g : declaredNext.Next) → look b (moves t.edition (room_of r.room)) ≡ hit (on c ▸ kind ▸ f ▸ next_of g) → eqb kind agent_name && ltb level_most r.lists.depth ≡ false → Leads g r.lists
+  leads_on c kind f g y flat other = by (ltb level_most r.lists.depth) refl
+    where
+      no_agent : ltb level_most r.lists.depth ≡ true → (kind ≡ agent_name) ⊎ (g ≡ nexts.ListEnds) → ⊥
+      no_agent z (inl x) = let w : true ≡ false = sym z ∙ (rw (eq-eqb kind agent_name x) at flat) in let u : ◌≡◌ {A = ℕ} 0 1 = cc w in omega arith
+      no_agent z (inr x) = other x
 
-  pub none_here : x ≡ found.Nothing → NoneHere t s at room
-  none_here q = record { byte = omega arith; is = found_is ∙ rw q refl }
+      by : (z : Bool) → ltb level_most r.lists.depth ≡ z → r.lists.depth ≤ 8
+      by false z = ltb-false level_most r.lists.depth z
+      by true z = r.bounded (λ x. no_agent z (list_next t.edition b c kind f g (ap (λ (y : declared.Room). look b (moves t.edition (room_of y))) (sym x) ∙ y)))
 
-  pub coded_here : {kind : ℕ} {f : declaredForm.Form} {g : declaredNext.Next} → x ≡ found.Coded kind f g → CodedHere t s at room kind f g
-  coded_here q = record { byte = omega arith; is = found_is ∙ rw q refl }
+  -- a move whose code is the byte
+  module _ {kind : Kind} {f : declaredForm.Form} {g : declaredNext.Next} (here : Here t s at r.room (Some (Coded kind f g))) (flat : eqb (number_of kind) agent_name && ltb level_most r.lists.depth ≡ false) where
+    code_not : eqb b no_code ≡ false
+    code_not = ne_eqb b no_code (λ e. omega (arith, here.byte))
 
-  pub uncoded_here : {kind : ℕ} {rule : Rule} {g : declaredNext.Next} → x ≡ found.Uncoded kind rule g → UncodedHere t s at room kind rule g
-  uncoded_here q = record { byte = omega arith; is = found_is ∙ rw q refl }
+    leads : Leads g r.lists
+    leads = leads_on b (number_of kind) (form_of f) g here.is flat
+
+    coded_span : is_quiet (form_of f) ≡ false → (end : ℕ) → at < end → end ≤ length s → (n : ℕ) (m : List ℕ)
+        → run_at (source t s end) q at n m ≡ landed_span (source t s end) (reach_back (form_of f)) (number_of kind) r.lists.depth (go (next_of g) q) (span 0 (take_value t (form_of f) (end - at) b (from s (at + 1) end))) n m
+    coded_span z end h k n m =
+        coded (source t s end) at n m b h k (from_cons s at end h k) q (on b ▸ number_of kind ▸ form_of f ▸ next_of g) here.is flat code_not z
+        ∙ landed_span_lem (source t s end) (reach_back (form_of f)) (number_of kind) r.lists.depth (go (next_of g) q) (take_value t (form_of f) (end - at) b (from s (at + 1) end)) n m
+
+    abbrev of : Pending
+    of = record { kind = kind; next = g; start = at + 1 }
+
+    -- .. and a value behind it
+    taken_up : (taking : Taking) → pending_of taking ≡ of → is_quiet (form_of f) ≡ false → reach_back (form_of f) ≡ back_of taking → Valid taking (at + 1)
+        → ((end : ℕ) → at < end → end ≤ length s → span 0 (take_value t (form_of f) (end - at) b (from s (at + 1) end)) ≡ span_from (source t s end) taking (at + 1))
+        → CodeSteps r t s at (fed.Goes taking)
+    unfolding value_at fed_at FedLeads FedValid
+    taken_up taking p z y v w = record { is = λ end h k n m. coded_span z end h k n m ∙ rw (p, ← y, w end h k) refl; valid = v; leads = rw p leads }
+
+    pub takes_text : (rule : Rule) → f ≡ form.Text rule → CodeSteps r t s at (fed.Goes (Text rule of))
+    unfolding Valid
+    takes_text rule x = taken_up (Text rule of) refl (rw x refl) (rw x refl) (omega arith) (λ end h k. rw x (text_begins t s at kind g end h k rule))
+
+    pub takes_date : (isAbsolute designated : Bool) → f ≡ form.Date isAbsolute designated → CodeSteps r t s at (fed.Goes (Date isAbsolute designated of))
+    unfolding Valid
+    takes_date isAbsolute designated x =
+        taken_up (Date isAbsolute designated of) refl (rw x refl) (rw x refl) (omega arith, omega (arith, nine_at_least designated)) (λ end h k. rw x (date_begun t s at kind g end h k isAbsolute designated))
+
+    pub takes_number : f ≡ form.Number → CodeSteps r t s at (fed.Goes (Number 0 of))
+    unfolding Valid
+    takes_number x = taken_up (Number 0 of) refl (rw x refl) (rw x refl) (omega arith, omega arith) (λ end h k. rw x (number_begins t s at kind g end h k))
+
+    pub takes_block : (w : Width) (width : ℕ) → width_of width ≡ w → bytes_of w ≡ width → 0 < width → form_of f ≡ meaning.block w → {x : Fed} → x ≡ fed.Goes (Length width 0 of) → CodeSteps r t s at x
+    unfolding Valid
+    takes_block w width p c d x e =
+        let u : at + 1 - (at + 1) ≡ 0 = omega arith in
+        rw e (taken_up (Length width 0 of) refl (rw x refl) (rw x refl) (omega arith, omega arith, omega arith, ap bytes_of p ∙ c, rw u (omega arith))
+        (λ end h k. rw x (block_begins t s at kind g end h k w width p c)))
+
+    -- a row at the code
+    abbrev here_row : Pending
+    here_row = record { kind = kind; next = g; start = at }
+
+    pub coded_itself : f ≡ form.Itself → CodeSteps r t s at (fed.Ends here_row 1)
+    unfolding take_value fed_at FedLeads FedValid
+    coded_itself x = record {
+      is = λ end h k n m.
+          let u : end - (length (from s (at + 1) end) + 1 + 0) ≡ at = omega (arith, from_length s (at + 1) end (omega arith) k) in
+          coded_span (rw x refl) end h k n m ∙ rw (x, u) refl;
+      valid = (omega arith, omega arith);
+      leads = leads;
+    }
+
+    pub coded_opens : f ≡ form.Opens → CodeSteps r t s at (fed.Ends here_row 0)
+    unfolding take_value fed_at FedLeads FedValid
+    coded_opens x = record {
+      is = λ end h k n m.
+          let u : end - (length (from s (at + 1) end) + 0 + 1) ≡ at = omega (arith, from_length s (at + 1) end (omega arith) k) in
+          coded_span (rw x refl) end h k n m ∙ rw (x, u) refl;
+      valid = (omega arith, omega arith);
+      leads = leads;
+    }
+
+  -- a move without a row
+  pub quiet_moves : {g : declaredNext.Next} → Here t s at r.room (Some (Quiet g)) → CodeSteps r t s at (fed.Moves g)
+  unfolding take_value step step_move fed_at FedLeads FedValid
+  quiet_moves {g} here = record {
+    is = λ end h k n m.
+        let no : eqb b no_code ≡ false = ne_eqb b no_code (λ e. omega (arith, here.byte)) in
+        stepped (source t s end) at n m q (b ∷ from s (at + 1) end) (next (go (next_of g) q) [] (from s (at + 1) end)) (from_cons s at end h k) (rw (here.is, no) refl)
+        ∙ pour_none end (inside t (go (next_of g) q) (from s (at + 1) end)) n m;
+    valid = tt;
+    leads = leads_on b no_kind meaning.quiet g here.is refl;
+  }
+
+  -- an agent of level 9
+  agent_deep : (v : meaning.Move) → look b (moves t.edition (room_of r.room)) ≡ hit v → too_deep v q ≡ true → {fault : Fault} → fault ≡ record { refusal = AgentLevel; at = at } → CodeSteps r t s at (fed.Wrong fault)
+  unfolding fed_at FedLeads FedValid
+  agent_deep v y d e = rw e (record { is = λ end h k n m. too_deep_lem (source t s end) at n m b h k (from_cons s at end h k) q v y d; valid = tt; leads = tt })
+
+  pub coded_deep : {kind : Kind} {f : declaredForm.Form} {g : declaredNext.Next} → Here t s at r.room (Some (Coded kind f g)) → eqb (number_of kind) agent_name && ltb level_most r.lists.depth ≡ true → {fault : Fault} → fault ≡ record { refusal = AgentLevel; at = at } → CodeSteps r t s at (fed.Wrong fault)
+  coded_deep here d e = agent_deep _ here.is d e
+
+  pub uncoded_deep : {kind : Kind} {rule : Rule} {g : declaredNext.Next} → Here t s at r.room (Some (Uncoded kind rule g)) → eqb (number_of kind) agent_name && ltb level_most r.lists.depth ≡ true → {fault : Fault} → fault ≡ record { refusal = AgentLevel; at = at } → CodeSteps r t s at (fed.Wrong fault)
+  uncoded_deep here d e = agent_deep _ here.is d e
+
+  -- no move
+  pub none_closed : is_closed (room_of r.room) ≡ true → CodeSteps r t s at fed.Over
+  unfolding fed_at FedLeads FedValid
+  none_closed c = record { is = λ end h k n m. closed_same (source t s end) at n m (omega arith) k (room_of r.room) r.lists.depth _ c; valid = tt; leads = tt }
+
+  pub none_strange : Here t s at r.room None → is_closed (room_of r.room) ≡ false → {refusal : Refusal} → answer_of refusal ≡ strange (room_of r.room) → {fault : Fault} → fault ≡ record { refusal = refusal; at = at } → CodeSteps r t s at (fed.Wrong fault)
+  unfolding fed_at FedLeads FedValid
+  none_strange here c o e = rw e (record { is = λ end h k n m. strange_code (source t s end) at n m b h k (from_cons s at end h k) q _ here.is c (sym o); valid = tt; leads = tt })
+
+  -- a text that begins at the byte
+  module _ {kind : Kind} {rule : Rule} {g : declaredNext.Next} (here : Here t s at r.room (Some (Uncoded kind rule g))) (flat : eqb (number_of kind) agent_name && ltb level_most r.lists.depth ≡ false) where
+    pub uncoded_leads : Leads g r.lists
+    uncoded_leads = leads_on no_code (number_of kind) (meaning.text (rule_of rule)) g here.is flat
+
+    pub uncoded_span : (end : ℕ) → at < end → end ≤ length s → (n : ℕ) (m : List ℕ)
+        → run_at (source t s end) q at n m ≡ value_at (source t s end) q (Text rule (record { kind = kind; next = g; start = at })) at n m
+    unfolding value_at span_from
+    uncoded_span end h k n m =
+        let u : at - at ≡ 0 = omega arith in
+        let p : Peeked s end at b = record { is = from_cons s at end h k ∙ rw (lt-ltb b 256 here.byte) refl; inside = λ z. h; before = omega arith; whole = k; top = omega (arith, here.byte) } in
+        uncoded (source t s end) at n m b p q (number_of kind) (rule_of rule) (next_of g) here.is flat (hit_open t.edition (room_of r.room) b here.is)
+        ∙ landed_span_lem (source t s end) 1 (number_of kind) r.lists.depth (go (next_of g) q) (take_text (rule_of rule) (from s at end)) n m ∙ rw u refl
+
+  -- what a look found
+  pub is_here : {found : Option Move} → b < 256 → found_of b found ≡ look b (moves t.edition (room_of r.room)) → Here t s at r.room found
+  is_here low is = record { byte = low; is = sym is }

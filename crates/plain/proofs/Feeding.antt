@@ -11,6 +11,8 @@ use Rattle.meaning.specs.Basics.{pick}
 use Rattle.meaning.specs.Told.{Told}
 use Rattle.meaning.specs.Bytes.{Taken, text_byte, passes, number_most, stop, more, wrong, turn, take_number, high_first, too_wide, take_bytes, block_of, Width, one_byte, two_bytes, four_bytes, bytes_of}
 use Rattle.laws_steps.specs.From.{from, from_length, from_cons}
+use Rattle.table.specs.declared.answers.Fault.{Fault}
+use Rattle.table.specs.declared.refusals.Refusal.TheVariants.{TextWrong, DateWrong, NumberWrong, LengthFormWide}
 use Rattle.values.specs.Stages.{misses, span, rule_of}
 use Rattle.values.specs.Answers.{span_prefixed}
 use Rattle.values.proofs.Texts.{text_stops, text_wrong, text_goes}
@@ -37,9 +39,9 @@ module _ (t : Told) (s : List ℕ) (at : ℕ) where
     unfolding span_from fed_span Follows Valid
     text_further b = record { is = λ end h l. text_goes (rule_of rule) s end l of.start at v h b; follows = (record { kind = refl; next = refl }, refl, omega arith) }
 
-    pub text_refused : (get_or s at 0 ≡ 0 → ⊥) → text_byte (rule_of rule) (get_or s at 0) ≡ false → Feeds t s (Text rule of) at (Wrong 8 at)
+    pub text_refused : (get_or s at 0 ≡ 0 → ⊥) → text_byte (rule_of rule) (get_or s at 0) ≡ false → {fault : Fault} → fault ≡ record { refusal = TextWrong; at = at } → Feeds t s (Text rule of) at (Wrong fault)
     unfolding span_from fed_span Follows Valid
-    text_refused z b = record { is = λ end h l. text_wrong (rule_of rule) s end l of.start at v h z b; follows = omega arith }
+    text_refused z b e = rw e (record { is = λ end h l. text_wrong (rule_of rule) s end l of.start at v h z b; follows = omega arith })
 
   -- Dates; r: whether the byte passes
   module _ (isAbsolute designated : Bool) (of : Pending) (v : Valid (Date isAbsolute designated of) at) {r : Bool}
@@ -65,14 +67,14 @@ module _ (t : Told) (s : List ℕ) (at : ℕ) where
       follows = (record { kind = refl; next = refl }, omega (arith, v.0));
     }
 
-    pub date_refused : r ≡ false → Feeds t s (Date isAbsolute designated of) at (Wrong 9 at)
+    pub date_refused : r ≡ false → {fault : Fault} → fault ≡ record { refusal = DateWrong; at = at } → Feeds t s (Date isAbsolute designated of) at (Wrong fault)
     unfolding span_from fed_span Follows Valid
-    date_refused q = record {
+    date_refused q e = rw e (record {
       is = λ end h l.
           let u : of.start + (at - of.start) ≡ at = omega (arith, v.0) in
           date_wrong s end of.start isAbsolute (date_length designated) (at - of.start) (omega (arith, v.0, v.1)) l (omega (arith, v.0)) is q ∙ rw u refl;
       follows = omega arith;
-    }
+    })
 
   -- Payload lengths
   module _ (number : ℕ) (of : Pending) (v : Valid (Number number of) at) where
@@ -93,12 +95,12 @@ module _ (t : Told) (s : List ℕ) (at : ℕ) where
       follows = (record { kind = refl; next = refl }, refl, (omega (arith, v.0), k));
     }
 
-    pub number_refused : turn number (eqb at of.start) (get_or s at 0) ≡ wrong → Feeds t s (Number number of) at (Wrong 10 at)
+    pub number_refused : turn number (eqb at of.start) (get_or s at 0) ≡ wrong → {fault : Fault} → fault ≡ record { refusal = NumberWrong; at = at } → Feeds t s (Number number of) at (Wrong fault)
     unfolding span_from fed_span Follows Valid take_number
-    number_refused q = record {
+    number_refused q e = rw e (record {
       is = λ end h l. rw (from_cons s at end h l, q) (ap (misses 10) (omega (arith, from_length s (at + 1) end (omega arith) l)));
       follows = omega arith;
-    }
+    })
 
     -- .. by what a turn answers
     module _ {b : ℕ} {answer : Turning} (byte : b ≡ get_or s at 0) (turns : Turned number (eqb at of.start) b answer) where
@@ -113,9 +115,9 @@ module _ (t : Told) (s : List ℕ) (at : ℕ) where
       unfolding turned Worth
       number_goes {value} q = let w = rw q at turns.worth in number_further value w.0 (turn_is ∙ ap turned q)
 
-      pub number_wrongs : answer ≡ turning.Wrong → Feeds t s (Number number of) at (Wrong 10 at)
+      pub number_wrongs : answer ≡ turning.Wrong → {fault : Fault} → fault ≡ record { refusal = NumberWrong; at = at } → Feeds t s (Number number of) at (Wrong fault)
       unfolding turned
-      number_wrongs q = number_refused (turn_is ∙ ap turned q)
+      number_wrongs q e = number_refused (turn_is ∙ ap turned q) e
 
   -- Blocks
   module _ (until : ℕ) (of : Pending) (v : Valid (Block until of) at) where
@@ -163,9 +165,9 @@ module _ (t : Told) (s : List ℕ) (at : ℕ) where
           let z : of.start + width - (at + 1) ≡ 0 = omega (arith, v.1) in
           rw (length_on end h l, z) refl
 
-      pub length_wide : too_wide t (width_of width) n ≡ true → Feeds t s (Length width number of) at (Wrong 11 (of.start - 1))
+      pub length_wide : too_wide t (width_of width) n ≡ true → {fault : Fault} → fault ≡ record { refusal = LengthFormWide; at = of.start - 1 } → Feeds t s (Length width number of) at (Wrong fault)
       unfolding fed_span Follows Valid
-      length_wide q = record { is = λ end h l. length_over end h l ∙ rw q refl; follows = omega (arith, v.1) }
+      length_wide q e = rw e (record { is = λ end h l. length_over end h l ∙ rw q refl; follows = omega (arith, v.1) })
 
       module _ (narrow : too_wide t (width_of width) n ≡ false) where
         abbrev here : Pending

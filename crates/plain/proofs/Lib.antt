@@ -1,6 +1,5 @@
 -- The laws that the proofs of several functions share.
 pub mod Feeding
-pub mod Nesting
 pub mod Landing
 pub mod Coding
 pub mod Running

@@ -5,6 +5,7 @@ use Rattle.meaning.specs.Bytes.{take_text, take_number, number_most, take_bytes,
 use Rattle.meaning.specs.Told.{Told}
 use Rattle.laws_steps.specs.From.{from}
 use Rattle.laws_steps.specs.Pouring.{Source, source}
+use Rattle.table.specs.Refusals.{answer_of}
 use Rattle.values.specs.Stages.{Span, spans, misses, span, rule_of}
 use Rattle.date.specs.Dates.{date_length}
 use Rattle.date.specs.DateSteps.{date_from}
@@ -17,16 +18,16 @@ use Rattle.plain.specs.declared.feed.Fed.TheVariants.{Goes, Ends, Moves, Over, W
 abbrev pub pending_of : Taking → Pending
 pending_of (Text rule of) = of
 pending_of (Date isAbsolute designated of) = of
-pending_of (Number number of) = of
-pending_of (Length width number of) = of
+pending_of (Number so_far of) = of
+pending_of (Length width so_far of) = of
 pending_of (Block until of) = of
 
 -- how far a row's end lies before the value's: a text's closing 00
 abbrev pub back_of : Taking → ℕ
 back_of (Text rule of) = 1
 back_of (Date isAbsolute designated of) = 0
-back_of (Number number of) = 0
-back_of (Length width number of) = 0
+back_of (Number so_far of) = 0
+back_of (Length width so_far of) = 0
 back_of (Block until of) = 0
 
 -- "16, 17, 19 with a length of 1, 2, 4 bytes"
@@ -45,17 +46,17 @@ length_below (suc (suc (suc (suc j)))) = 4294967296
 unfoldable pub span_from : Source → Taking → ℕ → Span
 span_from i (Text rule of) at = span (at - of.start) (take_text (rule_of rule) (from i.bytes at i.end))
 span_from i (Date isAbsolute designated of) at = date_from i.bytes i.end of.start isAbsolute (date_length designated) (at - of.start)
-span_from i (Number number of) at = span (at - of.start) (take_number number (eqb at of.start) (from i.bytes at i.end))
-span_from i (Length width number of) at =
-    span 0 (block_of i.told (width_of width) (i.end - (of.start - 1)) (high_first (of.start + width - at) number (from i.bytes at i.end)))
+span_from i (Number so_far of) at = span (at - of.start) (take_number so_far (eqb at of.start) (from i.bytes at i.end))
+span_from i (Length width so_far of) at =
+    span 0 (block_of i.told (width_of width) (i.end - (of.start - 1)) (high_first (of.start + width - at) so_far (from i.bytes at i.end)))
 span_from i (Block until of) at = span (at - of.start) (take_bytes (until - at) (from i.bytes at i.end))
 
 -- what is being taken is so at the place `at`
 unfoldable pub Valid : Taking → ℕ → Type 0
 Valid (Text rule of) at = of.start ≤ at
 Valid (Date isAbsolute designated of) at = (of.start ≤ at) × (at < of.start + date_length designated)
-Valid (Number number of) at = (of.start ≤ at) × (number ≤ number_most)
-Valid (Length width number of) at = (1 ≤ of.start) × (of.start ≤ at) × (at < of.start + width) × (bytes_of (width_of width) ≡ width) × (number < length_below (at - of.start))
+Valid (Number so_far of) at = (of.start ≤ at) × (so_far ≤ number_most)
+Valid (Length width so_far of) at = (1 ≤ of.start) × (of.start ≤ at) × (at < of.start + width) × (bytes_of (width_of width) ≡ width) × (so_far < length_below (at - of.start))
 Valid (Block until of) at = (of.start ≤ at) × (at < until)
 
 -- what a byte does to it; a value's byte makes no move
@@ -64,7 +65,7 @@ fed_span i (Goes taking) at = span_from i taking (at + 1)
 fed_span i (Ends of len) at = spans len (from i.bytes (at + 1) i.end)
 fed_span i (Moves next) at = misses 0 0
 fed_span i Over at = misses 0 0
-fed_span i (Wrong refusal p) at = misses refusal (i.end - p)
+fed_span i (Wrong fault) at = misses (answer_of fault.refusal) (i.end - fault.at)
 
 pub record Alike (taking : Taking) (of : Pending) : Type 0 where
   pub kind : of.kind ≡ (pending_of taking).kind
@@ -75,7 +76,7 @@ Follows taking at (Goes further) = Alike taking (pending_of further) × (back_of
 Follows taking at (Ends of len) = Alike taking of × (of.start + len + back_of taking ≡ at + 1)
 Follows taking at (Moves next) = ⊥
 Follows taking at Over = ⊥
-Follows taking at (Wrong refusal p) = p ≤ at
+Follows taking at (Wrong fault) = fault.at ≤ at
 
 -- a block of n bytes from the place `first` on
 abbrev pub block_from : ℕ → ℕ → Pending → Fed

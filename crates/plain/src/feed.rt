@@ -9,7 +9,9 @@ ghost use Rattle.plain.specs.Values.{Valid, Feeds, block_from};
 
 use date::{byte_passes, length_of};
 use moves::rooms::Next;
-use table::refusals::{DATE_WRONG, LENGTH_FORM_WIDE, NUMBER_WRONG, TEXT_WRONG};
+use table::answers::Fault;
+use table::kinds::Kind;
+use table::refusals::Refusal;
 use table::told::Told;
 use values::any::too_wide;
 use values::bytes::{one_byte, wide};
@@ -19,7 +21,7 @@ use values::text::{Rule, in_note};
 // The row that a value will have, and where its move leads: kind, next, and where it begins.
 #[derive(Clone, Copy)]
 pub struct Pending {
-    pub kind: u32,
+    pub kind: Kind,
     pub next: Next,
     pub start: usize,
 }
@@ -28,35 +30,58 @@ pub struct Pending {
 // bytes, and what it is so far; a block, and the place behind it. How far it is taken, the place says.
 #[derive(Clone, Copy)]
 pub enum Taking {
-    Text(Rule, Pending),
-    Date(bool, bool, Pending),
-    Number(u64, Pending),
-    Length(usize, usize, Pending),
-    Block(usize, Pending),
+    Text {
+        rule: Rule,
+        of: Pending,
+    },
+    Date {
+        absolute: bool,
+        designated: bool,
+        of: Pending,
+    },
+    Number {
+        so_far: u64,
+        of: Pending,
+    },
+    Length {
+        width: usize,
+        so_far: usize,
+        of: Pending,
+    },
+    Block {
+        until: usize,
+        of: Pending,
+    },
 }
 
 // What a byte does: a value is taken further; a row ends, with this length; a move without a row was made; the envelope's 01 was the byte before; or the
-// byte is refused.
+// byte is refused. No function goes on behind another's refusal here, so that a Result's `?` would stand nowhere.
 #[derive(Drop)]
 pub enum Fed {
     Goes(Taking),
-    Ends(Pending, usize),
+    Ends { of: Pending, length: usize },
     Moves(Next),
     Over,
-    Wrong { refusal: u32, at: usize },
+    Wrong(Fault),
 }
 
-// Takes what is being taken, and the place of the next byte.
-pub fn feed(taking: Taking, told: Told, s: &[u8], at: usize) -> Fed
-    requires { (Valid taking at) × (at < length s.now) × (at < header_most) }
-    ensures { Feeds (told_of told) s.now taking at result }
-{
-    match taking {
-        Taking::Text(rule, of) => feed_text(rule, of, s, at),
-        Taking::Date(absolute, designated, of) => feed_date(absolute, designated, of, s, at),
-        Taking::Number(number, of) => feed_number(number, of, s, at),
-        Taking::Length(width, number, of) => feed_length(width, number, of, told, s, at),
-        Taking::Block(until, of) => feed_block(until, of, at),
+impl Taking {
+    // Takes the place of the next byte. Answers what the byte does to the value.
+    pub fn feed(self, told: Told, s: &[u8], at: usize) -> Fed
+        requires { (Valid self at) × (at < length s.now) × (at < header_most) }
+        ensures { Feeds (told_of told) s.now self at result }
+    {
+        match self {
+            Taking::Text { rule, of } => feed_text(rule, of, s, at),
+            Taking::Date {
+                absolute,
+                designated,
+                of,
+            } => feed_date(absolute, designated, of, s, at),
+            Taking::Number { so_far, of } => feed_number(so_far, of, s, at),
+            Taking::Length { width, so_far, of } => feed_length(width, so_far, of, told, s, at),
+            Taking::Block { until, of } => feed_block(until, of, at),
+        }
     }
 }
 
@@ -67,16 +92,15 @@ pub fn feed_text(rule: Rule, of: Pending, s: &[u8], at: usize) -> Fed
 {
     let b = s[at];
     if b == 0 {
-        let start = of.start;
-        return Fed::Ends(of, at - start);
+        return Fed::Ends {
+            of,
+            length: at - of.start,
+        };
     }
     if allows(rule, b) {
-        return Fed::Goes(Taking::Text(rule, of));
+        return Fed::Goes(Taking::Text { rule, of });
     }
-    Fed::Wrong {
-        refusal: TEXT_WRONG,
-        at: at,
-    }
+    Fed::Wrong(Refusal::TextWrong.at(at))
 }
 
 // Whether a text of this rule has this byte.
@@ -97,51 +121,52 @@ fn feed_date(absolute: bool, designated: bool, of: Pending, s: &[u8], at: usize)
     let start = of.start;
     let j = at - start;
     if byte_passes(s, start, j, absolute) {
-        let more = j + 1;
-        if more < length_of(designated) {
-            return Fed::Goes(Taking::Date(absolute, designated, of));
+        let length = j + 1;
+        if length < length_of(designated) {
+            return Fed::Goes(Taking::Date {
+                absolute,
+                designated,
+                of,
+            });
         }
-        return Fed::Ends(of, more);
+        return Fed::Ends { of, length };
     }
-    Fed::Wrong {
-        refusal: DATE_WRONG,
-        at: at,
-    }
+    Fed::Wrong(Refusal::DateWrong.at(at))
 }
 
 // A payload length's byte.
-fn feed_number(number: u64, of: Pending, s: &[u8], at: usize) -> Fed
-    requires { (Valid (Taking.Number number of) at) × (at < length s.now) }
-    ensures { (t : meaning.Told) → Feeds t s.now (Taking.Number number of) at result }
+fn feed_number(so_far: u64, of: Pending, s: &[u8], at: usize) -> Fed
+    requires { (Valid (Taking.Number so_far of) at) × (at < length s.now) }
+    ensures { (t : meaning.Told) → Feeds t s.now (Taking.Number so_far of) at result }
 {
     let start = of.start;
-    let t = turn(number, at == start, wide(s[at]));
-    match t {
-        Turning::Wrong => Fed::Wrong {
-            refusal: NUMBER_WRONG,
-            at: at,
+    match turn(so_far, at == start, wide(s[at])) {
+        Turning::Wrong => Fed::Wrong(Refusal::NumberWrong.at(at)),
+        Turning::Stop(_) => Fed::Ends {
+            of,
+            length: at - start + 1,
         },
-        Turning::Stop(_) => Fed::Ends(of, at - start + 1),
-        Turning::More(value) => Fed::Goes(Taking::Number(value, of)),
+        Turning::More(so_far) => Fed::Goes(Taking::Number { so_far, of }),
     }
 }
 
 // A byte of a block's length: "11 comes after the length bytes, before the block", at the code.
-fn feed_length(width: usize, number: usize, of: Pending, told: Told, s: &[u8], at: usize) -> Fed
-    requires { (Valid (Taking.Length width number of) at) × (at < length s.now) × (at < header_most) }
-    ensures { Feeds (told_of told) s.now (Taking.Length width number of) at result }
+fn feed_length(width: usize, so_far: usize, of: Pending, told: Told, s: &[u8], at: usize) -> Fed
+    requires { (Valid (Taking.Length width so_far of) at) × (at < length s.now) × (at < header_most) }
+    ensures { Feeds (told_of told) s.now (Taking.Length width so_far of) at result }
 {
     let start = of.start;
-    let n = 256 * number + one_byte(s, at);
+    let n = 256 * so_far + one_byte(s, at);
     let first = at + 1;
     if first - start < width {
-        return Fed::Goes(Taking::Length(width, n, of));
+        return Fed::Goes(Taking::Length {
+            width,
+            so_far: n,
+            of,
+        });
     }
     if too_wide(width, n, told) {
-        return Fed::Wrong {
-            refusal: LENGTH_FORM_WIDE,
-            at: start - 1,
-        };
+        return Fed::Wrong(Refusal::LengthFormWide.at(start - 1));
     }
     block_from(first, n, of)
 }
@@ -151,17 +176,17 @@ fn block_from(first: usize, n: usize, of: Pending) -> Fed
     requires { (n < 4294967296) × (first ≤ header_most) }
     ensures { result ≡ block_from first n of }
 {
-    let kind = of.kind;
-    let next = of.next;
-    let here = Pending {
-        kind: kind,
-        next: next,
-        start: first,
-    };
+    let here = Pending { start: first, ..of };
     if n == 0 {
-        return Fed::Ends(here, 0);
+        return Fed::Ends {
+            of: here,
+            length: 0,
+        };
     }
-    Fed::Goes(Taking::Block(first + n, here))
+    Fed::Goes(Taking::Block {
+        until: first + n,
+        of: here,
+    })
 }
 
 // A block's byte.
@@ -171,8 +196,10 @@ fn feed_block(until: usize, of: Pending, at: usize) -> Fed
 {
     let after = at + 1;
     if after < until {
-        return Fed::Goes(Taking::Block(until, of));
+        return Fed::Goes(Taking::Block { until, of });
     }
-    let start = of.start;
-    Fed::Ends(of, after - start)
+    Fed::Ends {
+        of,
+        length: after - of.start,
+    }
 }

@@ -4,8 +4,7 @@
 pub mod codes;
 pub mod engine;
 pub mod feed;
-pub mod header;
 pub mod lists;
 pub mod read;
 pub mod run;
-pub mod state;
+pub mod standing;

@@ -6,8 +6,8 @@ ghost use Rattle.table.specs.Kinds.{number_of};
 ghost use Rattle.table.specs.Told.{told_of};
 ghost use Rattle.read_envelopes.specs.Envelopes.{EnvelopeRead, EnvelopeOpened, ended_by, closed_by};
 
+use crate::insides::ReadsInside;
 use frames::frame::{Frame, frame_at};
-use read_inside::inside::read_inside;
 use read_rows::rows;
 use table::answers::{Fault, Reached, Stage};
 use table::kinds::Kind;
@@ -24,19 +24,27 @@ pub enum Envelope {
 }
 
 // Takes the envelope at a place, of which `left` may still come, and the rows so far. Answers which it was, or the first refusal.
-pub fn read_envelope(s: &[u8], from: Reached, left: u32, rows: &mut [u32], told: Told) -> Envelope
+pub fn read_envelope<R: ReadsInside>(
+    s: &[u8],
+    from: Reached,
+    left: u32,
+    rows: &mut [u32],
+    told: Told,
+) -> Envelope
     requires { (from.at ≤ length s.now) × (from.rows ≤ from.at) × (from.at + left * envelope_most ≤ header_most) }
     ensures { EnvelopeRead (told_of told) s.now left from.at from.rows rows.old result rows.new }
 {
     let f = frame_at(s, from.at, left);
     match f {
         Frame::Refused(fault) => Envelope::Refused(fault),
-        Frame::Opens { base, first, end } => read_opened(s, from, first, end, rows, base, told),
+        Frame::Opens { base, first, end } => {
+            read_opened::<R>(s, from, first, end, rows, base, told)
+        }
     }
 }
 
 // Takes an envelope whose inside lies from `first` up to `end`. Puts its own row, and reads its inside.
-fn read_opened(
+fn read_opened<R: ReadsInside>(
     s: &[u8],
     from: Reached,
     first: usize,
@@ -53,7 +61,7 @@ fn read_opened(
         at: first,
         rows: opened.rows,
     };
-    let r = read_inside(s, end, inside, rows, base, told);
+    let r = R::inside(s, end, inside, rows, base, told);
     ended(r, end, base)
 }
 

@@ -13,7 +13,7 @@ use Rattle.meaning.specs.Told.{Edition, B, D, known, unknown, label_of, Strictne
 use Rattle.meaning.specs.Headers.{Answer, refused, accepted, envelope_most, envelopes_most, labelled, read_by, read}
 use Rattle.meaning.specs.Skips.{Rank}
 use Rattle.meaning.specs.Words.{words_of}
-use Rattle.meaning.specs.Memory.{reply, table_of, room_of, laid_over, room_with, answer_by, rows_by, words_by}
+use Rattle.meaning.specs.Memory.{table_of, room_of, laid_over, room_with, answer_by, rows_by, words_by}
 use Rattle.meaning.specs.Payload.{part_start, part_end, part_bytes, payload_start, payload_end, payload_bytes}
 use Rattle.laws_steps.specs.Logic.{are_bytes}
 use Rattle.laws_steps.specs.Rows.{put_all}
@@ -34,7 +34,7 @@ use Rattle.table.specs.declared.answers.Fault.{Fault}
 use Rattle.table.specs.declared.answers.Reached.{Reached}
 use Rattle.table.specs.declared.answers.Stage.{Stage}
 use Rattle.table.specs.declared.answers.Stage.TheVariants.{Go, Refused}
-use Rattle.table.specs.declared.refusals.Refusal.TheVariants.{EditionUnknown, RowsShort}
+use Rattle.table.specs.declared.refusals.Refusal.TheVariants.{EditionUnknown}
 use Rattle.read_envelopes.specs.Headers.{filling_of, PlaceFits, HeaderRead}
 use Rattle.reader.specs.Promises.{ReadsBy, PartPromise, PayloadPromise, AcceptedHeader, Surveyed, Counted}
 

@@ -10,6 +10,7 @@ ghost use Rattle.reader.specs.Promises.{ReadsBy, ReadPromise, TolerantPromise, P
 
 use lay_skips::finish;
 use read_envelopes::header::read_header;
+use read_envelopes::insides::{ByStages, ReadsInside};
 use table::answers::{Reached, Stage};
 use table::limits::WORDS_BORROWED;
 use table::refusals::Refusal;
@@ -31,19 +32,19 @@ pub struct Part {
 pub fn read(edition: u32, input: &[u8], rows: &mut [u32], words: &mut [u32]) -> Reply
     ensures { ReadPromise edition input.now rows.old words.old result rows.new words.new }
 {
-    read_by(edition, Strictness::Strict, input, rows, words)
+    read_by::<ByStages>(edition, Strictness::Strict, input, rows, words)
 }
 
 // The same, tolerantly: a block's length may stand in a wider form than it needs, and 11 is never the answer.
 pub fn read_tolerant(edition: u32, input: &[u8], rows: &mut [u32], words: &mut [u32]) -> Reply
     ensures { TolerantPromise edition input.now rows.old words.old result rows.new words.new }
 {
-    read_by(edition, Strictness::Tolerant, input, rows, words)
+    read_by::<ByStages>(edition, Strictness::Tolerant, input, rows, words)
 }
 
-// Either of the two. Two passes of the same functions: the first, over no rows, validates and counts; the second fills. A third, over the
+// Either of the two, by whatever reads an inside. Two passes of the same functions: the first, over no rows, validates and counts; the second fills. A third, over the
 // rows, lays their skip numbers and the words. "1: edition not 1 or 2; before all else, 0."
-fn read_by(
+pub fn read_by<R: ReadsInside>(
     edition: u32,
     strictness: Strictness,
     input: &[u8],
@@ -59,10 +60,10 @@ fn read_by(
         edition,
         strictness,
     };
-    let counted = read_header(input, &mut rows[..0], told);
+    let counted = read_header::<R>(input, &mut rows[..0], told);
     match counted {
         Stage::Refused(fault) => Reply::from(fault),
-        Stage::Go(to) => fill(told, input, rows, words, to),
+        Stage::Go(to) => fill_by::<R>(told, input, rows, words, to),
     }
 }
 
@@ -86,13 +87,28 @@ pub fn count_in(edition: Edition, input: &[u8]) -> Stage
         strictness: Strictness::Strict,
     };
     let mut none = [0u32; 1];
-    read_header(input, &mut none[..0], told)
+    read_header::<ByStages>(input, &mut none[..0], told)
 }
 
 // The second pass, over a header that is accepted up to a place with so many rows, and then their skip numbers and words. "14: all well, but rows exceed
 // the room": then no row and no word changes.
 // The header is taken by place and count, and not as a value that only a first pass makes: the relay fills a header that it joined, and no pass accepted.
 pub fn fill(told: Told, input: &[u8], rows: &mut [u32], words: &mut [u32], to: Reached) -> Reply
+    requires { Accepted (told_of told) input.now to }
+    ensures { (edition : ℕ) → label_of edition ≡ known (edition_of told.edition) →
+        ReadsBy (strictness_of told.strictness) edition input.now rows.old words.old result rows.new words.new }
+{
+    fill_by::<ByStages>(told, input, rows, words, to)
+}
+
+// The same, by whatever reads an inside.
+fn fill_by<R: ReadsInside>(
+    told: Told,
+    input: &[u8],
+    rows: &mut [u32],
+    words: &mut [u32],
+    to: Reached,
+) -> Reply
     requires { Accepted (told_of told) input.now to }
     ensures { (edition : ℕ) → label_of edition ≡ known (edition_of told.edition) →
         ReadsBy (strictness_of told.strictness) edition input.now rows.old words.old result rows.new words.new }
@@ -104,7 +120,7 @@ pub fn fill(told: Told, input: &[u8], rows: &mut [u32], words: &mut [u32], to: R
             rows: to.rows,
         };
     }
-    read_header(input, rows, told);
+    read_header::<R>(input, rows, told);
     finish(rows, to.rows, words);
     Reply {
         answer: 0,

@@ -10,20 +10,20 @@ use Rattle.reader.proofs.Memory.{header_counted, known_edition, nothing_lent, re
 use Rattle.reader.proofs.read_by.Goals as goal
 
 pub returns-in_default : goal.returns-in_default
-returns-in_default c =
+returns-in_default g c =
     let a = c.args in
     let is : label_of a.edition ≡ unknown = sym (rw c.in_default.is at c.try_from.ensures) in
     let bytes = slice_of_bytes a.input.now (λ i. omega (arith, c.type_inv.input i)) in
     refusal_answered _ a.edition a.input.now [] [] bytes a.rows.now a.words.now refl (unknown_edition _ a.edition a.input.now [] is) (rw c.at.ensures at c.from.ensures)
 
-pub fill-requires : goal.fill-requires
-fill-requires c =
+pub fill_by-requires : goal.fill_by-requires
+fill_by-requires g c =
     let a = c.args in
     let is : label_of a.edition ≡ known (edition_of c.in-Ok.edition) = sym (rw c.in-Ok.is at c.try_from.ensures) in
     accepted_told is (header_counted _ a.edition a.input.now _ _ c.in-Go.is (known_edition _ a.edition a.input.now _ is c.read_header-counted.ensures))
 
 pub returns-in-Refused : goal.returns-in-Refused
-returns-in-Refused c =
+returns-in-Refused g c =
     let a = c.args in
     let first = c.read_header-counted in
     let is : label_of a.edition ≡ known (edition_of c.in-Ok.edition) = sym (rw c.in-Ok.is at c.try_from.ensures) in

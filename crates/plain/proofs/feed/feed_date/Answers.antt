@@ -12,11 +12,11 @@ pub byte_passes-requires : goal.byte_passes-requires
 unfolding Valid
 byte_passes-requires c = omega (arith, c.requires.0.0, c.requires.1)
 
-pub returns-then-more-length_of : goal.returns-then-more-length_of
-returns-then-more-length_of c = λ t. date_further t c.args.s.now c.args.at c.args.absolute c.args.designated c.args.of c.requires.0 c.byte_passes.ensures c.if-byte_passes.true (omega (arith, c.if-more-length_of.true, c.length_of.ensures))
+pub returns-then-length-length_of : goal.returns-then-length-length_of
+returns-then-length-length_of c = λ t. date_further t c.args.s.now c.args.at c.args.absolute c.args.designated c.args.of c.requires.0 c.byte_passes.ensures c.if-byte_passes.true (omega (arith, c.if-length-length_of.true, c.length_of.ensures))
 
 pub returns-then-byte_passes : goal.returns-then-byte_passes
-returns-then-byte_passes c = λ t. date_ended t c.args.s.now c.args.at c.args.absolute c.args.designated c.args.of c.requires.0 c.byte_passes.ensures c.if-byte_passes.true (omega (arith, c.if-more-length_of.false, c.length_of.ensures))
+returns-then-byte_passes c = λ t. date_ended t c.args.s.now c.args.at c.args.absolute c.args.designated c.args.of c.requires.0 c.byte_passes.ensures c.if-byte_passes.true (omega (arith, c.if-length-length_of.false, c.length_of.ensures))
 
 pub returns : goal.returns
-returns c = λ t. date_refused t c.args.s.now c.args.at c.args.absolute c.args.designated c.args.of c.requires.0 c.byte_passes.ensures c.if-byte_passes.false
+returns c = λ t. date_refused t c.args.s.now c.args.at c.args.absolute c.args.designated c.args.of c.requires.0 c.byte_passes.ensures c.if-byte_passes.false c.at.ensures

@@ -15,4 +15,4 @@ pub returns-then-allows : goal.returns-then-allows
 returns-then-allows c = λ t. text_further t c.args.s.now c.args.at c.args.rule c.args.of c.requires.0 (sym c.allows.ensures ∙ c.if-allows.true)
 
 pub returns : goal.returns
-returns c = λ t. text_refused t c.args.s.now c.args.at c.args.rule c.args.of c.requires.0 c.if-b-eq0.false (sym c.allows.ensures ∙ c.if-allows.false)
+returns c = λ t. text_refused t c.args.s.now c.args.at c.args.rule c.args.of c.requires.0 c.if-b-eq0.false (sym c.allows.ensures ∙ c.if-allows.false) c.at.ensures

@@ -11,28 +11,28 @@ use Rattle.read_envelopes.proofs.Turns.{extension_fits, header_based, header_onw
 use Rattle.read_envelopes.proofs.header.read_header.Goals as goal
 
 pub loop-fault-init : goal.loop-fault-init
-loop-fault-init c =
+loop-fault-init g c =
     let a = c.args in
     (omega arith, omega arith, omega arith, refl, ap (λ (x : List ℕ). finish (header envelopes_most (told_of a.told) 0 x) 0 a.rows.now) (sym (from_all a.s.now)))
 
 pub returns-in-Refused : goal.returns-in-Refused
-returns-in-Refused c = header_refused c.in-Refused.is c.loop-fault.invariant.4 c.read_envelope-r.ensures
+returns-in-Refused g c = header_refused c.in-Refused.is c.loop-fault.invariant.4 c.read_envelope-r.ensures
 
 pub returns-in-Base : goal.returns-in-Base
-returns-in-Base c = header_based (omega (arith, c.loop-fault.invariant.2)) c.in-Base.is c.loop-fault.invariant.4 c.read_envelope-r.ensures
+returns-in-Base g c = header_based (omega (arith, c.loop-fault.invariant.2)) c.in-Base.is c.loop-fault.invariant.4 c.read_envelope-r.ensures
 
 pub overflow_sub-left : goal.overflow_sub-left
-overflow_sub-left c =
+overflow_sub-left g c =
     let u = extension_fits c.in-Extension.is c.read_envelope-r.ensures in
     omega (arith, u)
 
 pub loop-fault-smaller : goal.loop-fault-smaller
-loop-fault-smaller c =
+loop-fault-smaller g c =
     let u = extension_fits c.in-Extension.is c.read_envelope-r.ensures in
     omega (arith, u)
 
 pub loop-fault-preserved : goal.loop-fault-preserved
-loop-fault-preserved c =
+loop-fault-preserved g c =
     let i = c.loop-fault.invariant in
     let u = extension_fits c.in-Extension.is c.read_envelope-r.ensures in
     (u.1, u.2, omega (arith, u, i), c.read_envelope-r.auto.rows ∙ i.3, header_onward c.in-Extension.is i.4 c.read_envelope-r.ensures)

@@ -9,9 +9,9 @@ use Rattle.table.specs.Told.{told_of}
 use Rattle.read_envelopes.proofs.header.read_header.Given as goal
 
 abbrev pub invariant-loop-fault : goal.invariant-loop-fault
-invariant-loop-fault l =
+invariant-loop-fault g l =
     (l.here.at ≤ length l.s) × (l.here.rows ≤ l.here.at) × (l.here.at + l.left * envelope_most ≤ header_most) × (length l.rows ≡ length l.initial.rows)
     × (finish (header envelopes_most (told_of l.told) 0 l.s) 0 l.initial.rows ≡ header_at (told_of l.told) l.s l.left l.here.at l.here.rows l.rows)
 
 abbrev pub decreases-loop-fault : goal.decreases-loop-fault
-decreases-loop-fault l = l.left
+decreases-loop-fault g l = l.left
