@@ -14,7 +14,6 @@ use table::kinds::Kind;
 use table::refusals::Refusal;
 use table::told::Told;
 use values::any::too_wide;
-use values::bytes::{one_byte, wide};
 use values::number::{Turning, turn};
 use values::text::{Rule, in_note};
 
@@ -140,7 +139,7 @@ fn feed_number(so_far: u64, of: Pending, s: &[u8], at: usize) -> Fed
     ensures { (t : meaning.Told) → Feeds t s.now (Taking.Number so_far of) at result }
 {
     let start = of.start;
-    match turn(so_far, at == start, wide(s[at])) {
+    match turn(so_far, at == start, u32::from(s[at])) {
         Turning::Wrong => Fed::Wrong(Refusal::NumberWrong.at(at)),
         Turning::Stop(_) => Fed::Ends {
             of,
@@ -156,7 +155,7 @@ fn feed_length(width: usize, so_far: usize, of: Pending, told: Told, s: &[u8], a
     ensures { Feeds (told_of told) s.now (Taking.Length width so_far of) at result }
 {
     let start = of.start;
-    let n = 256 * so_far + one_byte(s, at);
+    let n = 256 * so_far + usize::from(s[at]);
     let first = at + 1;
     if first - start < width {
         return Fed::Goes(Taking::Length {

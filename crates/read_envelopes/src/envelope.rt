@@ -15,6 +15,7 @@ use table::refusals::Refusal;
 use table::told::Told;
 
 // The place behind an envelope and the rows then, or a refusal. The base ends the header; behind an extension stands the next envelope.
+// An enum of its own, as document 01 names it: a stage's answer, which the stage above takes apart.
 #[derive(Drop)]
 pub enum Envelope {
     Base(Reached),

@@ -33,6 +33,7 @@ impl Reached {
 }
 
 // "either a value with the place after it, or a refusal": what a stage of the reader answers, which the stage above takes apart with let .. else.
+// An enum of its own and no Result, as document 01 names it.
 #[derive(Drop)]
 pub enum Stage {
     Go(Reached),

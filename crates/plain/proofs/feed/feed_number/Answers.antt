@@ -7,17 +7,17 @@ use Rattle.plain.proofs.feed.feed_number.Goals as goal
 
 pub turn-requires : goal.turn-requires
 unfolding Valid
-turn-requires c = (c.requires.0.1, omega (arith, c.wide.ensures, c.shared_slice_known-1.given c.args.at))
+turn-requires c = (c.requires.0.1, omega (arith, c.from.ensures, c.type_inv.s c.args.at))
 
 pub overflow_sub-result : goal.overflow_sub-result
 unfolding Valid
 overflow_sub-result c = c.requires.0.0
 
 pub returns-in-Wrong : goal.returns-in-Wrong
-returns-in-Wrong c = λ t. number_wrongs t c.args.s.now c.args.at c.args.so_far c.args.of c.requires.0 c.wide.ensures c.in-Wrong.ensures refl c.at.ensures
+returns-in-Wrong c = λ t. number_wrongs t c.args.s.now c.args.at c.args.so_far c.args.of c.requires.0 c.from.ensures c.in-Wrong.ensures refl c.at.ensures
 
 pub returns-in-Stop : goal.returns-in-Stop
-returns-in-Stop c = λ t. number_stops t c.args.s.now c.args.at c.args.so_far c.args.of c.requires.0 c.wide.ensures c.in-Stop.ensures refl
+returns-in-Stop c = λ t. number_stops t c.args.s.now c.args.at c.args.so_far c.args.of c.requires.0 c.from.ensures c.in-Stop.ensures refl
 
 pub returns-in-More : goal.returns-in-More
-returns-in-More c = λ t. number_goes t c.args.s.now c.args.at c.args.so_far c.args.of c.requires.0 c.wide.ensures c.in-More.ensures refl
+returns-in-More c = λ t. number_goes t c.args.s.now c.args.at c.args.so_far c.args.of c.requires.0 c.from.ensures c.in-More.ensures refl
