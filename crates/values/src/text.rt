@@ -136,7 +136,7 @@ fn long_line(s: &[u8], end: usize, at: usize) -> usize
     ensures { LineRun s.now end at result }
 {
     let i = sixteens(s, end, at);
-    line_run(s, end, i)
+    line_stop(s, end, i)
 }
 
 // Past sixteen bytes at a time while all of them are of a line. A step of sixteen or of eight, here and below, is no iterator's: what is left
