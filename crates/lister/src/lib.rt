@@ -24,7 +24,7 @@ const PIECE_LENT: usize = 4096;
 
 // The listing of what `from` gives, in this edition, to `to`. The one byte more tells an input that is too long.
 pub fn list<R: Read, W: Write>(edition: u32, from: &mut R, to: &mut W) -> io::Result<()> {
-    let mut input = [0u8; 65537];
+    let mut input = [0u8; INPUT_MOST + 1];
     let n = read_full(from, &mut input)?;
     if is_long(n) {
         let line = too_long();
@@ -65,7 +65,7 @@ fn is_long(n: usize) -> bool
 pub fn too_long() -> [u8; 9]
     ensures { LongPromise result }
 {
-    [b't', b'o', b'o', b' ', b'l', b'o', b'n', b'g', b'\n']
+    *b"too long\n"
 }
 
 // Lists this input. "lends 3,072 rows"; and the words that the reader borrows. Answers what the reader answered, or the writer's error, which
