@@ -9,11 +9,12 @@ use lib.Dec.{leb}
 use lib.ListN.{get_or}
 use Rattle.meaning.specs.Bytes.{half, letter, is_digit, two_digits, pair_within, passes}
 use Rattle.meaning.specs.Plain.{pair_byte}
-use Rattle.meaning.specs.Told.{Edition}
+use Rattle.meaning.specs.Told.{Edition, B, D}
 use Rattle.meaning.specs.Editions.{Next, date, on◌▸◌▸◌▸◌}
-use Rattle.meaning.specs.Reading.{look, hit, none}
-use Rattle.date.specs.declared.Form.{Form}
-use Rattle.date.specs.declared.Form.TheVariants.{Dated, Unknown}
+use Rattle.meaning.specs.Reading.{look, find, hit, none}
+use Rattle.std.specs.Prelude.{Option, None, Some}
+use Rattle.date.specs.declared.Dated.{Dated}
+use Rattle.table.specs.Kinds.{number_of}
 use Rattle.values.specs.Stages.{Bears}
 use Rattle.date.specs.Dates.{reaching, absolute_check, pair_check, check_at, earlier, dates_of, DateCode}
 use Rattle.laws_steps.specs.Logic.{both_hold}
@@ -72,12 +73,18 @@ pub check_relative : (j b : ℕ) (before : List ℕ) {isAbsolute r : Bool} → i
 unfolding passes
 check_relative j b before h a = a ∙ rw h refl
 
-module _ (e : Edition) (code : ℕ) {r : Form} (a : DateCode e code r) where
-  pub dated_at : {kind : ℕ} {isAbsolute designated : Bool} → r ≡ Dated kind isAbsolute designated
-      → Bears code kind (date (reaching isAbsolute) designated) × ((n : Next) → look code (dates_of e n) ≡ hit (on code ▸ kind ▸ date (reaching isAbsolute) designated ▸ n))
+module _ (e : Edition) (code : ℕ) {r : Option Dated} (a : DateCode e code r) where
+  pub dated_at : {d : Dated} → r ≡ Some d
+      → Bears code (number_of d.kind) (date (reaching d.form.absolute) d.form.designated) × ((n : Next) → look code (dates_of e n) ≡ hit (on code ▸ number_of d.kind ▸ date (reaching d.form.absolute) d.form.designated ▸ n))
   unfolding DateCode
   dated_at h = rw h at a
 
-  pub undated : r ≡ Unknown → (n : Next) → look code (dates_of e n) ≡ none
+  pub undated : r ≡ None → (n : Next) → look code (dates_of e n) ≡ none
   unfolding DateCode
   undated h = rw h at a
+
+-- a code of no date
+pub no_date : (e : Edition) (code : ℕ) → (code ≡ 0x20 → ⊥) → (code ≡ 0x21 → ⊥) → (code ≡ 0x22 → ⊥) → (code ≡ 0x24 → ⊥) → (code ≡ 0x25 → ⊥) → (code ≡ 0x26 → ⊥) → (n : Next) → look code (dates_of e n) ≡ none
+unfolding look find
+no_date B code a b c d f g n = rw (ne_eqb 0x20 code (λ q. a (sym q)), ne_eqb 0x21 code (λ q. b (sym q))) refl
+no_date D code a b c d f g n = rw (ne_eqb 0x20 code (λ q. a (sym q)), ne_eqb 0x21 code (λ q. b (sym q)), ne_eqb 0x22 code (λ q. c (sym q)), ne_eqb 0x24 code (λ q. d (sym q)), ne_eqb 0x25 code (λ q. f (sym q)), ne_eqb 0x26 code (λ q. g (sym q))) refl

@@ -1,12 +1,16 @@
 -- What the stages of a date promise: the check of each byte by its number, and what a code says in each edition.
-use Rattle.std.specs.Prelude.{ℕ, zero, suc, ◌+◌, List, [], ◌∷◌, ◌++◌, Bool, true, false, ◌≡◌, eqb, get_or}
+use Rattle.std.specs.Prelude.{ℕ, zero, suc, ◌+◌, List, [], ◌∷◌, ◌++◌, ◌-◌, Option, None, Some, Result, Ok, Err, Bool, true, false, ◌≡◌, eqb, get_or}
 use Rattle.meaning.specs.Basics.{pick}
 use Rattle.meaning.specs.Bytes.{Check, pair, day, half, letter, any_pair, passes, Reach, absolute, relative}
 use Rattle.meaning.specs.Told.{Edition}
 use Rattle.meaning.specs.Editions.{Next, Move, date, shared_date, own_dates, on◌▸◌▸◌▸◌}
 use Rattle.meaning.specs.Reading.{look, none, hit}
-use Rattle.date.specs.declared.Form.{Form}
-use Rattle.date.specs.declared.Form.TheVariants.{Dated, Unknown}
+use Rattle.date.specs.declared.Dated.{Dated}
+use Rattle.table.specs.declared.answers.Fault.{Fault}
+use Rattle.table.specs.declared.kinds.Kind.{Kind}
+use Rattle.table.specs.Kinds.{number_of}
+use Rattle.values.specs.declared.Value.{Value}
+use Rattle.values.specs.declared.Value.TheVariants.{Is, Refused}
 use Rattle.values.specs.Stages.{Bears}
 
 abbrev pub reaching : Bool → Reach
@@ -43,7 +47,12 @@ Passing s at isAbsolute (suc n) = Passing s at isAbsolute n × (passes (check_at
 abbrev pub dates_of : Edition → Next → List Move
 dates_of e n = shared_date n ++ own_dates e n
 
-unfoldable pub DateCode : Edition → ℕ → Form → Type 0
-DateCode e code (Dated kind isAbsolute designated) =
-    Bears code kind (date (reaching isAbsolute) designated) × ((n : Next) → look code (dates_of e n) ≡ hit (on code ▸ kind ▸ date (reaching isAbsolute) designated ▸ n))
-DateCode e code Unknown = (n : Next) → look code (dates_of e n) ≡ none
+-- the date whose bytes at a place were read, as a value of a kind
+abbrev pub value_by : Kind → ℕ → Result ℕ Fault → Value
+value_by kind at (Ok after) = Is kind at (after - at) after
+value_by kind at (Err fault) = Refused fault
+
+unfoldable pub DateCode : Edition → ℕ → Option Dated → Type 0
+DateCode e code (Some d) =
+    Bears code (number_of d.kind) (date (reaching d.form.absolute) d.form.designated) × ((n : Next) → look code (dates_of e n) ≡ hit (on code ▸ number_of d.kind ▸ date (reaching d.form.absolute) d.form.designated ▸ n))
+DateCode e code None = (n : Next) → look code (dates_of e n) ≡ none

@@ -7,21 +7,30 @@ ghost use Rattle.meaning.specs.Bytes.{pair_within, passes, half, letter, is_leap
 ghost use Rattle.meaning.specs.Told.{Told, B, D};
 ghost use Rattle.laws_steps.specs.From.{from};
 ghost use Rattle.table.specs.Told.{edition_of};
+ghost use Rattle.table.specs.Kinds.{number_of};
+ghost use Rattle.table.specs.declared.kinds.Kind as declared;
 ghost use Rattle.values.specs.Stages.{Inside, Valued, Coded};
-ghost use Rattle.date.specs.Dates.{reaching, absolute_check, check_at, earlier, date_length, Passing, DateCode, dates_of};
+ghost use Rattle.date.specs.Dates.{value_by, reaching, absolute_check, check_at, earlier, date_length, Passing, DateCode, dates_of};
 
-use table::kinds::{DATE_ABSOLUTE, DATE_BACKWARD, DATE_FORWARD};
-use table::refusals::{DATE_WRONG, ENVELOPE_ENDS};
+use table::answers::Fault;
+use table::kinds::Kind;
+use table::refusals::Refusal;
 use table::told::Edition;
 use values::Value;
-use values::bytes::wide;
 use values::digits::{is_digit, pair_at, pair_byte};
 
-// What a date's code says: its kind, whether it is absolute, and whether a designator follows.
-#[derive(Drop)]
-pub enum Form {
-    Dated(u32, bool, bool),
-    Unknown,
+// What a date's code says of its bytes: whether they are held to the calendar, and whether a designator follows.
+#[derive(Clone, Copy)]
+pub struct Form {
+    pub absolute: bool,
+    pub designated: bool,
+}
+
+// A date by its code: its row's kind, and the form of its bytes.
+#[derive(Clone, Copy)]
+struct Dated {
+    kind: Kind,
+    form: Form,
 }
 
 // A date from its code on.
@@ -30,53 +39,38 @@ pub fn take(s: &[u8], end: usize, at: usize, edition: Edition) -> Value
     ensures { (t : Told) → Coded t (dates_of (edition_of edition)) 9 s.now end at result }
 {
     if end <= at {
-        return Value::Refused {
-            refusal: ENVELOPE_ENDS,
-            at: at,
-        };
+        return Value::Refused(Refusal::EnvelopeEnds.at(at));
     }
-    let f = form_of(edition, wide(s[at]));
-    let Form::Dated(kind, absolute, designated) = f else {
-        return Value::Refused {
-            refusal: DATE_WRONG,
-            at: at,
-        };
+    let Some(dated) = dated_by(edition, s[at]) else {
+        return Value::Refused(Refusal::DateWrong.at(at));
     };
     let first = at + 1;
-    bytes(s, end, first, kind, absolute, designated)
+    match bytes(s, end, first, dated.form) {
+        Ok(after) => Value::Is {
+            kind: dated.kind,
+            start: first,
+            length: after - first,
+            after: after,
+        },
+        Err(fault) => Value::Refused(fault),
+    }
 }
 
-// The nine bytes of a date, and its designator.
-pub fn bytes(s: &[u8], end: usize, at: usize, kind: u32, absolute: bool, designated: bool) -> Value
+// The nine bytes of a date, and its designator. Answers the place behind them, or the refusal.
+pub fn bytes(s: &[u8], end: usize, at: usize, form: Form) -> Result<usize, Fault>
     requires { Inside s.now end at }
-    ensures { Valued s.now end at kind 0 (take_date (date_checks (reaching absolute) designated) [] (from s.now at end)) result }
+    ensures { (kind : declared.Kind) → Valued s.now end at (number_of kind) 0 (take_date (date_checks (reaching form.absolute) form.designated) [] (from s.now at end)) (value_by kind at result) }
 {
-    let length = length_of(designated);
-    let mut j = passed(s, end, at, absolute);
-    while j < length {
+    let length = length_of(form.designated);
+    for j in passed(s, end, at, form.absolute)..length {
         if end - at <= j {
-            return Value::Refused {
-                refusal: ENVELOPE_ENDS,
-                at: end,
-            };
+            return Err(Refusal::EnvelopeEnds.at(end));
         }
-        let i = at + j;
-        if byte_passes(s, at, j, absolute) {
-            j += 1;
-        } else {
-            return Value::Refused {
-                refusal: DATE_WRONG,
-                at: i,
-            };
+        if !byte_passes(s, at, j, form.absolute) {
+            return Err(Refusal::DateWrong.at(at + j));
         }
     }
-    let after = at + j;
-    Value::Is {
-        kind: kind,
-        start: at,
-        length: j,
-        after: after,
-    }
+    Ok(at + length)
 }
 
 // How many bytes a date has, with a designator or without.
@@ -121,7 +115,7 @@ pub fn byte_passes(s: &[u8], at: usize, j: usize, absolute: bool) -> bool
     ensures { result ≡ passes (check_at absolute j) (earlier s.now at j) (get_or s.now (at + j) 0) }
 {
     let i = at + j;
-    let b = wide(s[i]);
+    let b = u32::from(s[i]);
     if j == 8 {
         return padded(b);
     }
@@ -198,8 +192,8 @@ fn within(b: u32, least: u32, most: u32) -> bool
     requires { (b < 256) × (least ≤ 99) × (most ≤ 99) }
     ensures { result ≡ pair_within least most b }
 {
-    let first = wide(pair_byte(least));
-    let last = wide(pair_byte(most));
+    let first = u32::from(pair_byte(least));
+    let last = u32::from(pair_byte(most));
     is_digit(b % 16) & (first <= b) & (b <= last)
 }
 
@@ -217,39 +211,27 @@ fn is_letter(b: u32) -> bool
     ((0x41 <= b) & (b <= 0x5a)) | ((0x61 <= b) & (b <= 0x7a))
 }
 
-// Takes a date's code. Answers what it says in the edition.
-fn form_of(edition: Edition, code: u32) -> Form
-    requires { code < 256 }
+// "Codes in B: 20 absolute, 21 absolute with designator. In D: 20, 21, 22 absolute, forward, backward; 24, 25, 26 the same with designator."
+// Takes a date's code. Answers what it says in the edition, or that it is none there.
+fn dated_by(edition: Edition, code: u8) -> Option<Dated>
     ensures { DateCode (edition_of edition) code result }
 {
-    match edition {
-        Edition::B => form_in_b(code),
-        Edition::D => form_in_d(code),
-    }
-}
-
-// "Codes in B: 20 absolute, 21 absolute with designator."
-fn form_in_b(code: u32) -> Form
-    ensures { DateCode B code result }
-{
-    match code {
-        0x20 => Form::Dated(DATE_ABSOLUTE, true, false),
-        0x21 => Form::Dated(DATE_ABSOLUTE, true, true),
-        _ => Form::Unknown,
-    }
-}
-
-// "In D: 20, 21, 22 absolute, forward, backward; 24, 25, 26 the same with designator."
-fn form_in_d(code: u32) -> Form
-    ensures { DateCode D code result }
-{
-    match code {
-        0x20 => Form::Dated(DATE_ABSOLUTE, true, false),
-        0x21 => Form::Dated(DATE_FORWARD, false, false),
-        0x22 => Form::Dated(DATE_BACKWARD, false, false),
-        0x24 => Form::Dated(DATE_ABSOLUTE, true, true),
-        0x25 => Form::Dated(DATE_FORWARD, false, true),
-        0x26 => Form::Dated(DATE_BACKWARD, false, true),
-        _ => Form::Unknown,
-    }
+    let (kind, designated) = match (edition, code) {
+        (_, 0x20) => (Kind::DateAbsolute, false),
+        (Edition::B, 0x21) => (Kind::DateAbsolute, true),
+        (Edition::D, 0x21) => (Kind::DateForward, false),
+        (Edition::D, 0x22) => (Kind::DateBackward, false),
+        (Edition::D, 0x24) => (Kind::DateAbsolute, true),
+        (Edition::D, 0x25) => (Kind::DateForward, true),
+        (Edition::D, 0x26) => (Kind::DateBackward, true),
+        _ => return None,
+    };
+    let absolute = kind == Kind::DateAbsolute;
+    Some(Dated {
+        kind: kind,
+        form: Form {
+            absolute: absolute,
+            designated: designated,
+        },
+    })
 }

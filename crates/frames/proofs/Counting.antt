@@ -11,6 +11,8 @@ use Rattle.meaning.specs.Memory.{words_read}
 use Rattle.laws_steps.specs.From.{from}
 use Rattle.laws_steps.specs.Frames.{from_all}
 use Rattle.laws_tables.specs.EnvelopeCounts.{base_alone, others_behind}
+use Rattle.table.specs.declared.answers.Fault.{Fault}
+use Rattle.table.specs.Refusals.{answer_of}
 use Rattle.frames.specs.declared.frame.Frame.{Frame}
 use Rattle.frames.specs.declared.frame.Frame.TheVariants.{Opens, Refused}
 use Rattle.frames.specs.Frames.{framed, FrameFits, MayCome, HeaderFramed}
@@ -31,14 +33,14 @@ module _ {s : List ℕ} {left at : ℕ} {r : Frame} (f : HeaderFramed s at left 
   may_come h = let fits = rw h at f.fits in let more = rw h at f.more in (more, fits.2)
 
   module _ (p : Passed s left at) where
-    pub counted_none : {refusal there : ℕ} → r ≡ Refused refusal there → EnvelopesCounted s 0
+    pub counted_none : {fault : Fault} → r ≡ Refused fault → EnvelopesCounted s 0
     unfolding framed
-    counted_none {refusal} {there} h =
+    counted_none {fault} h =
         record {
           is = λ t place rows q.
               let (rest, a, n) = p t place rows q in
               let is = rw h at (f.is t) in
-              let no : refused refusal there ≡ accepted place rest = sym is ∙ a in
+              let no : refused (answer_of fault.refusal) fault.at ≡ accepted place rest = sym is ∙ a in
               let z : ◌≡◌ {A = ℕ} 0 1 = cc no in
               absurd (omega arith);
         }

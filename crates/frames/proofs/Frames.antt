@@ -14,6 +14,9 @@ use Rattle.meaning.specs.Headers as meaning
 use Rattle.laws_steps.specs.From.{from}
 use Rattle.laws_steps.specs.Frames.{Identified, identifier_is}
 use Rattle.laws_steps.specs.Finishing.{opened}
+use Rattle.table.specs.declared.answers.Fault.{Fault}
+use Rattle.table.specs.declared.refusals.Refusal.{Refusal}
+use Rattle.table.specs.Refusals.{answer_of}
 use Rattle.frames.specs.declared.frame.Frame.{Frame}
 use Rattle.frames.specs.declared.frame.Frame.TheVariants.{Opens, Refused}
 use Rattle.frames.specs.Frames.{framed, FrameFits, FrameRead, MayCome, HeaderFramed}
@@ -38,9 +41,9 @@ identified_none b h = none (eqb b 0xfd) (eqb b 0xfe) h
     none false false h = refl
 
 -- a stage's answer
-pub frame_refused : {answer : Told → Onward → Answer} {s : List ℕ} {at refusal p : ℕ} → ((t : Told) (more : Onward) → answer t more ≡ refused refusal p) → FrameRead answer s at (Refused refusal p)
+pub frame_refused : {answer : Told → Onward → Answer} {s : List ℕ} {at p : ℕ} {refusal : Refusal} {fault : Fault} → fault ≡ record { refusal = refusal; at = p } → ((t : Told) (more : Onward) → answer t more ≡ refused (answer_of refusal) p) → FrameRead answer s at (Refused fault)
 unfolding framed FrameFits
-frame_refused h = record { is = h; fits = tt }
+frame_refused e h = rw e (record { is = h; fits = tt })
 
 pub frame_opens : {answer : Told → Onward → Answer} {s : List ℕ} {at head n : ℕ} {base : Bool} → ((t : Told) (more : Onward) → answer t more ≡ opened t more s at base (at + head) (at + n))
     → 3 ≤ head → head ≤ n → n ≤ envelope_most → at + n ≤ length s → FrameRead answer s at (Opens base (at + head) (at + n))
@@ -51,14 +54,14 @@ frame_opens is k h most l = record { is = is; fits = (omega arith, omega arith, 
 pub frame_begun : {answer onward : Told → Onward → Answer} {s : List ℕ} {at : ℕ} {r : Frame} → ((t : Told) (more : Onward) → answer t more ≡ onward t more) → FrameRead onward s at r → FrameRead answer s at r
 frame_begun h f = record { is = λ t more. h t more ∙ f.is t more; fits = f.fits }
 
-pub refused_at_frame : {s : List ℕ} {at left refusal p : ℕ} → ((t : Told) → header left t at (from s at (length s)) ≡ refused refusal p) → HeaderFramed s at left (Refused refusal p)
+pub refused_at_frame : {s : List ℕ} {at left p : ℕ} {refusal : Refusal} {fault : Fault} → fault ≡ record { refusal = refusal; at = p } → ((t : Told) → header left t at (from s at (length s)) ≡ refused (answer_of refusal) p) → HeaderFramed s at left (Refused fault)
 unfolding framed FrameFits MayCome
-refused_at_frame h = record { is = h; fits = tt; more = tt }
+refused_at_frame e h = rw e (record { is = h; fits = tt; more = tt })
 
 may_come : (left : ℕ) (r : Frame) → 1 ≤ left → MayCome left r
 unfolding MayCome
 may_come left (Opens base first end) h = h
-may_come left (Refused refusal p) h = tt
+may_come left (Refused fault) h = tt
 
 pub header_framed : {answer : Told → Onward → Answer} {s : List ℕ} {at left : ℕ} {r : Frame} → ((t : Told) → header left t at (from s at (length s)) ≡ answer t (header (left - 1) t)) → (left ≡ 0 → ⊥) → FrameRead answer s at r → HeaderFramed s at left r
 header_framed {left = left} {r = r} is h f = record { is = λ t. is t ∙ f.is t (header (left - 1) t); fits = f.fits; more = may_come left r (omega arith) }

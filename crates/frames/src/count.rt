@@ -14,7 +14,7 @@ pub fn count_envelopes(s: &[u8]) -> u32
     loop {
         let f = frame_at(s, at, left);
         match f {
-            Frame::Refused { refusal: _, at: _ } => return 0,
+            Frame::Refused(_) => return 0,
             Frame::Opens {
                 base,
                 first: _,

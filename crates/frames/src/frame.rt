@@ -6,8 +6,9 @@ ghost use Rattle.laws_steps.specs.From.{from};
 ghost use Rattle.laws_steps.specs.Frames.{Identified};
 ghost use Rattle.frames.specs.Frames.{FrameRead, HeaderFramed};
 
+use table::answers::Fault;
 use table::limits::{ENVELOPE_MOST, LONG_HEAD, SHORT_HEAD};
-use table::refusals::{ENVELOPE_LIMIT, IDENTIFIER_WRONG, INPUT_ENDS, LENGTH_WRONG};
+use table::refusals::Refusal;
 use values::bytes::{four_bytes, two_bytes};
 
 // Which envelope opens, where its inside begins and its declared end; or the refusal.
@@ -18,10 +19,7 @@ pub enum Frame {
         first: usize,
         end: usize,
     },
-    Refused {
-        refusal: u32,
-        at: usize,
-    },
+    Refused(Fault),
 }
 
 // "4: short length 1 or 2, or long length below 65,540".
@@ -36,19 +34,13 @@ pub fn frame_at(s: &[u8], at: usize, left: u32) -> Frame
 {
     let all = s.len();
     if all <= at {
-        return Frame::Refused {
-            refusal: INPUT_ENDS,
-            at: at,
-        };
+        return Frame::Refused(Refusal::InputEnds.at(at));
     }
     let b = s[at];
     if is_identifier(b) {
         return counted(s, at, left, b == 0xfe);
     }
-    Frame::Refused {
-        refusal: IDENTIFIER_WRONG,
-        at: at,
-    }
+    Frame::Refused(Refusal::IdentifierWrong.at(at))
 }
 
 // "identifier .. FD or FE".
@@ -64,10 +56,7 @@ fn counted(s: &[u8], at: usize, left: u32, base: bool) -> Frame
     ensures { HeaderFramed s.now at left result }
 {
     if left == 0 {
-        return Frame::Refused {
-            refusal: ENVELOPE_LIMIT,
-            at: at,
-        };
+        return Frame::Refused(Refusal::EnvelopeLimit.at(at));
     }
     measured(s, at, base)
 }
@@ -79,20 +68,14 @@ fn measured(s: &[u8], at: usize, base: bool) -> Frame
 {
     let all = s.len();
     if all - at < SHORT_HEAD {
-        return Frame::Refused {
-            refusal: INPUT_ENDS,
-            at: all,
-        };
+        return Frame::Refused(Refusal::InputEnds.at(all));
     }
     let brief = two_bytes(s, at + 1);
     if brief != 0 {
         return bounded(s, at, base, SHORT_HEAD, brief, SHORT_LEAST);
     }
     if all - at < LONG_HEAD {
-        return Frame::Refused {
-            refusal: INPUT_ENDS,
-            at: all,
-        };
+        return Frame::Refused(Refusal::InputEnds.at(all));
     }
     let long = four_bytes(s, at + SHORT_HEAD);
     bounded(s, at, base, LONG_HEAD, long, LONG_LEAST)
@@ -107,22 +90,13 @@ fn bounded(s: &[u8], at: usize, base: bool, head: usize, n: usize, least: usize)
     let first = at + head;
     let size = at + 1;
     if n < least {
-        return Frame::Refused {
-            refusal: LENGTH_WRONG,
-            at: size,
-        };
+        return Frame::Refused(Refusal::LengthWrong.at(size));
     }
     if ENVELOPE_MOST < n {
-        return Frame::Refused {
-            refusal: ENVELOPE_LIMIT,
-            at: size,
-        };
+        return Frame::Refused(Refusal::EnvelopeLimit.at(size));
     }
     if all - at < n {
-        return Frame::Refused {
-            refusal: INPUT_ENDS,
-            at: all,
-        };
+        return Frame::Refused(Refusal::InputEnds.at(all));
     }
     let end = at + n;
     Frame::Opens {

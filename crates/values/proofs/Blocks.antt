@@ -12,6 +12,9 @@ use Rattle.meaning.specs.Told.{strict, tolerant, Told}
 use Rattle.meaning.specs.Kinds.{any_bytes}
 use Rattle.laws_steps.specs.From.{from, from_length, from_end, from_cons}
 use Rattle.laws_steps.specs.HighFirst.{high_few, high_one, high_two, high_four}
+use Rattle.table.specs.declared.answers.Fault.{Fault}
+use Rattle.table.specs.declared.kinds.Kind.TheVariants.{AnyBytes}
+use Rattle.table.specs.declared.refusals.Refusal.TheVariants.{EnvelopeEnds, LengthFormWide}
 use Rattle.values.specs.declared.any.Length.{Length}
 use Rattle.values.specs.declared.any.Length.TheVariants.{Says, Short}
 use Rattle.values.specs.declared.Value.TheVariants.{Is, Refused}
@@ -76,27 +79,27 @@ module _ (s : List ℕ) (end at width : ℕ) (l : end ≤ length s) (b : at < en
   length_is : high_first (bytes_of w) 0 (from s (at + 1) end) ≡ said s end n
   length_is = ap (λ (x : ℕ). high_first x 0 (from s (at + 1) end)) hw ∙ a.is
 
-  pub block_short : n ≡ Short → Valued s end (at + 1) any_bytes 0 (take_block t w (end - at) (from s (at + 1) end)) (Refused 6 end)
+  pub block_short : {fault : Fault} → fault ≡ record { refusal = EnvelopeEnds; at = end } → n ≡ Short → Valued s end (at + 1) any_bytes 0 (take_block t w (end - at) (from s (at + 1) end)) (Refused fault)
   unfolding take_block block_of said
-  block_short h = refuses (rw (length_is, h) (ap (misses 6) (omega arith))) (omega arith)
+  block_short e h = refuses e (rw (length_is, h) (ap (misses 6) (omega arith))) (omega arith)
 
   module _ {value after : ℕ} (h : n ≡ Says value after) {r : Bool} (is : r ≡ too_wide t w value) where
-    pub block_wide : r ≡ true → Valued s end (at + 1) any_bytes 0 (take_block t w (end - at) (from s (at + 1) end)) (Refused 11 at)
+    pub block_wide : {fault : Fault} → fault ≡ record { refusal = LengthFormWide; at = at } → r ≡ true → Valued s end (at + 1) any_bytes 0 (take_block t w (end - at) (from s (at + 1) end)) (Refused fault)
     unfolding take_block block_of said
-    block_wide q = refuses (rw (length_is, h, sym is ∙ q) refl) (omega arith)
+    block_wide f q = refuses f (rw (length_is, h, sym is ∙ q) refl) (omega arith)
 
-    pub block_far : r ≡ false → end - after < value → Valued s end (at + 1) any_bytes 0 (take_block t w (end - at) (from s (at + 1) end)) (Refused 6 end)
+    pub block_far : {fault : Fault} → fault ≡ record { refusal = EnvelopeEnds; at = end } → r ≡ false → end - after < value → Valued s end (at + 1) any_bytes 0 (take_block t w (end - at) (from s (at + 1) end)) (Refused fault)
     unfolding take_block block_of said
-    block_far q d =
+    block_far f q d =
         let (p, e) = length_to a h in
-        refuses (rw (length_is, h, sym is ∙ q) (take_short s end l value after 0 e (omega arith) ∙ ap (misses 6) (omega arith))) (omega arith)
+        refuses f (rw (length_is, h, sym is ∙ q) (take_short s end l value after 0 e (omega arith) ∙ ap (misses 6) (omega arith))) (omega arith)
 
-    pub block_goes : r ≡ false → value ≤ end - after → Valued s end (at + 1) any_bytes 0 (take_block t w (end - at) (from s (at + 1) end)) (Is any_bytes after value (after + value))
+    pub block_goes : r ≡ false → value ≤ end - after → Valued s end (at + 1) any_bytes 0 (take_block t w (end - at) (from s (at + 1) end)) (Is AnyBytes after value (after + value))
     unfolding take_block block_of said
     block_goes q d =
         let (p, e) = length_to a h in
         let some = some_bytes w in
-        answered (rw (length_is, h, sym is ∙ q) (take_all s end l value after 0 (omega arith) ∙ ap (λ (x : ℕ). spans x (from s (after + value) end)) (omega arith)))
+        answered refl (rw (length_is, h, sym is ∙ q) (take_all s end l value after 0 (omega arith) ∙ ap (λ (x : ℕ). spans x (from s (after + value) end)) (omega arith)))
         (omega arith) (omega arith) (omega arith) (omega arith)
 
 -- the fewest of each width

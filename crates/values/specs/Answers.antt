@@ -4,6 +4,11 @@ use Rattle.std.proofs.Math.Path.{ap}
 use Rattle.std.proofs.Common.{◌∙◌, arith}
 use Rattle.meaning.specs.Bytes.{Taken, took, failed, prefixed}
 use Rattle.laws_steps.specs.From.{from}
+use Rattle.table.specs.declared.answers.Fault.{Fault}
+use Rattle.table.specs.declared.kinds.Kind.{Kind}
+use Rattle.table.specs.declared.refusals.Refusal.{Refusal}
+use Rattle.table.specs.Kinds.{number_of}
+use Rattle.table.specs.Refusals.{answer_of}
 use Rattle.values.specs.declared.Value.{Value}
 use Rattle.values.specs.declared.Value.TheVariants.{Is, Refused}
 use Rattle.values.specs.Stages.{spans, misses, span, span_of, Stands, Valued}
@@ -13,20 +18,20 @@ span_prefixed k b (took v rest) = let q : k + suc (length v) ≡ k + 1 + length 
 span_prefixed k b (failed refusal left) = refl
 
 module _ {s : List ℕ} {end at kind back : ℕ} {taken : Taken} where
-  pub answered : {start length after : ℕ} → span 0 taken ≡ spans length (from s after end) → start + length + back ≡ after → at ≤ start → at < after → after ≤ end
-      → Valued s end at kind back taken (Is kind start length after)
+  pub answered : {k : Kind} {start length after : ℕ} → number_of k ≡ kind → span 0 taken ≡ spans length (from s after end) → start + length + back ≡ after → at ≤ start → at < after → after ≤ end
+      → Valued s end at kind back taken (Is k start length after)
   unfolding span_of Stands
-  answered q a b c d = record { is = q; stands = (refl, a, b, c, d) }
+  answered h q a b c d = record { is = q; stands = (h, a, b, c, d) }
 
-  pub refuses : {refusal place : ℕ} → span 0 taken ≡ misses refusal (end - place) → place ≤ end → Valued s end at kind back taken (Refused refusal place)
+  pub refuses : {refusal : Refusal} {place : ℕ} {fault : Fault} → fault ≡ record { refusal = refusal; at = place } → span 0 taken ≡ misses (answer_of refusal) (end - place) → place ≤ end → Valued s end at kind back taken (Refused fault)
   unfolding span_of Stands
-  refuses q a = record { is = q; stands = a }
+  refuses h q a = record { is = rw h q; stands = rw h a }
 
-  pub valued_at : {r : Value} {k start length after : ℕ} → Valued s end at kind back taken r → r ≡ Is k start length after
-      → (span 0 taken ≡ spans length (from s after end)) × (k ≡ kind) × (start + length + back ≡ after) × (at ≤ start) × (at < after) × (after ≤ end)
+  pub valued_at : {r : Value} {k : Kind} {start length after : ℕ} → Valued s end at kind back taken r → r ≡ Is k start length after
+      → (span 0 taken ≡ spans length (from s after end)) × (number_of k ≡ kind) × (start + length + back ≡ after) × (at ≤ start) × (at < after) × (after ≤ end)
   unfolding span_of Stands
   valued_at a h = let p = rw h at a.stands in (a.is ∙ ap (span_of s end) h, p.0, p.1, p.2, p.3, p.4)
 
-  pub valued_refused : {r : Value} {refusal place : ℕ} → Valued s end at kind back taken r → r ≡ Refused refusal place → (span 0 taken ≡ misses refusal (end - place)) × (place ≤ end)
+  pub valued_refused : {r : Value} {fault : Fault} → Valued s end at kind back taken r → r ≡ Refused fault → (span 0 taken ≡ misses (answer_of fault.refusal) (end - fault.at)) × (fault.at ≤ end)
   unfolding span_of Stands
   valued_refused a h = (a.is ∙ ap (span_of s end) h, rw h at a.stands)

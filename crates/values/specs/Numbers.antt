@@ -3,6 +3,7 @@ use Rattle.std.specs.Prelude.{ℕ, ◌+◌, ◌-◌, ◌≤◌, ◌<◌, List, [
 use Rattle.meaning.specs.Bytes.{Taken, took, failed, Turn, stop, more, wrong, turn, take_number, number_most}
 use Rattle.meaning.specs.Plain.{number_value}
 use Rattle.laws_steps.specs.From.{from}
+use Rattle.table.specs.Refusals.{answer_of}
 use Rattle.values.specs.declared.number.Turning.{Turning}
 use Rattle.values.specs.declared.number.Turning.TheVariants.{Stop, More, Wrong}
 use Rattle.values.specs.declared.number.Number.{Number}
@@ -36,11 +37,11 @@ tally before number (failed refusal left) = fails refusal left
 
 unfoldable pub tallied : List ℕ → ℕ → ℕ → Number → Tally
 tallied s end at (Counts value after) = counts (after - at) value (from s after end)
-tallied s end at (Fails refusal place) = fails refusal (end - place)
+tallied s end at (Fails fault) = fails (answer_of fault.refusal) (end - fault.at)
 
 unfoldable pub Ends : ℕ → ℕ → Number → Type 0
 Ends end at (Counts value after) = (at < after) × (after ≤ end)
-Ends end at (Fails refusal place) = (place ≤ end)
+Ends end at (Fails fault) = fault.at ≤ end
 
 pub record Counted (s : List ℕ) (end at : ℕ) (answer : Number) : Type 0 where
   pub is : tally 0 0 (take_number 0 true (from s at end)) ≡ tallied s end at answer

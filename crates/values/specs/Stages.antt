@@ -7,6 +7,10 @@ use Rattle.meaning.specs.Kinds.{agent_name}
 use Rattle.meaning.specs.Editions.{Next, Move, Form, is_quiet, no_code, on◌▸◌▸◌▸◌}
 use Rattle.meaning.specs.Reading.{look, none, hit, take_value, reach_back}
 use Rattle.laws_steps.specs.From.{from}
+use Rattle.table.specs.declared.refusals.Refusal.{Refusal}
+use Rattle.table.specs.declared.refusals.Refusal.TheVariants.{EnvelopeEnds}
+use Rattle.table.specs.Kinds.{number_of}
+use Rattle.table.specs.Refusals.{answer_of}
 use Rattle.values.specs.declared.text.Rule as declared
 use Rattle.values.specs.declared.text.Rule.TheVariants.{Line, Note}
 use Rattle.values.specs.declared.Value.{Value}
@@ -25,12 +29,12 @@ span before (failed refusal left) = misses refusal left
 -- "either a value with the place after it, or a refusal": what each case of the enum says
 unfoldable pub span_of : List ℕ → ℕ → Value → Span
 span_of s end (Is kind start length after) = spans length (from s after end)
-span_of s end (Refused refusal at) = misses refusal (end - at)
+span_of s end (Refused fault) = misses (answer_of fault.refusal) (end - fault.at)
 
 -- where a value stands: its row has this kind and begins `back` bytes and its length before the place after it, which is behind `at`
 unfoldable pub Stands : ℕ → ℕ → ℕ → ℕ → Value → Type 0
-Stands end at kind back (Is k start length after) = (k ≡ kind) × (start + length + back ≡ after) × (at ≤ start) × (at < after) × (after ≤ end)
-Stands end at kind back (Refused refusal place) = place ≤ end
+Stands end at kind back (Is k start length after) = (number_of k ≡ kind) × (start + length + back ≡ after) × (at ≤ start) × (at < after) × (after ≤ end)
+Stands end at kind back (Refused fault) = fault.at ≤ end
 
 -- a stage's answer for the value that `meaning` takes at a place
 pub record Valued (s : List ℕ) (end at kind back : ℕ) (taken : Taken) (answer : Value) : Type 0 where
@@ -46,8 +50,8 @@ pub record Bears (code kind : ℕ) (form : Form) : Type 0 where
 -- a stage's answer where a room's moves begin at a code, whichever room is next:
 -- "6: a byte is needed at the declared end"; a code that is in no move, with its refusal; or the code's move and its value
 pub data Coded (t : Told) (moves : Next → List Move) (strange : ℕ) (s : List ℕ) (end at : ℕ) : Value → Type 0 where
-  ended : at ≡ end → Coded t moves strange s end at (Refused 6 at)
-  unknown : at < end → ((n : Next) → look (get_or s at 0) (moves n) ≡ none) → Coded t moves strange s end at (Refused strange at)
+  ended : at ≡ end → Coded t moves strange s end at (Refused (record { refusal = EnvelopeEnds; at = at }))
+  unknown : {refusal : Refusal} → answer_of refusal ≡ strange → at < end → ((n : Next) → look (get_or s at 0) (moves n) ≡ none) → Coded t moves strange s end at (Refused (record { refusal = refusal; at = at }))
   valued : {answer : Value} (kind : ℕ) (form : Form) → at < end → Bears (get_or s at 0) kind form
       → ((n : Next) → look (get_or s at 0) (moves n) ≡ hit (on get_or s at 0 ▸ kind ▸ form ▸ n))
       → Valued s end at kind (reach_back form) (take_value t form (end - at) (get_or s at 0) (from s (at + 1) end)) answer

@@ -11,8 +11,9 @@ ghost use Rattle.values.specs.Blocks.{BlockAt, IsWidth, LengthRead};
 use crate::bytes::{four_bytes, one_byte, two_bytes};
 use crate::text::Rule;
 use crate::{Value, text};
-use table::kinds::{ANY_BYTES, ANY_TEXT};
-use table::refusals::{CODE_WRONG, ENVELOPE_ENDS, LENGTH_FORM_WIDE};
+use table::answers::Fault;
+use table::kinds::Kind;
+use table::refusals::Refusal;
 use table::told::{Strictness, Told};
 
 // A number of some bytes and the place after it, or too few bytes.
@@ -28,22 +29,16 @@ pub fn take(s: &[u8], end: usize, at: usize, told: Told) -> Value
     ensures { Coded (told_of told) any_values 7 s.now end at result }
 {
     if end <= at {
-        return Value::Refused {
-            refusal: ENVELOPE_ENDS,
-            at: at,
-        };
+        return Value::Refused(Refusal::EnvelopeEnds.at(at));
     }
     let code = s[at];
     let first = at + 1;
     match code {
-        0x14 => text::take(s, end, first, ANY_TEXT, Rule::Note),
+        0x14 => text::take(s, end, first, Kind::AnyText, Rule::Note),
         0x16 => block(s, end, at, 1, told),
         0x17 => block(s, end, at, 2, told),
         0x19 => block(s, end, at, 4, told),
-        _ => Value::Refused {
-            refusal: CODE_WRONG,
-            at: at,
-        },
+        _ => Value::Refused(Refusal::CodeWrong.at(at)),
     }
 }
 
@@ -87,10 +82,10 @@ fn in_parts(v: Value) -> Value
             length: length,
             after: after,
         },
-        Value::Refused { refusal, at } => Value::Refused {
+        Value::Refused(Fault { refusal, at }) => Value::Refused(Fault {
             refusal: refusal,
             at: at,
-        },
+        }),
     }
 }
 
@@ -102,26 +97,17 @@ fn block(s: &[u8], end: usize, at: usize, width: usize, told: Told) -> Value
     let first = at + 1;
     let n = length_at(s, end, first, width);
     let Length::Says { value, after } = n else {
-        return Value::Refused {
-            refusal: ENVELOPE_ENDS,
-            at: end,
-        };
+        return Value::Refused(Refusal::EnvelopeEnds.at(end));
     };
     if too_wide(width, value, told) {
-        return Value::Refused {
-            refusal: LENGTH_FORM_WIDE,
-            at: at,
-        };
+        return Value::Refused(Refusal::LengthFormWide.at(at));
     }
     if end - after < value {
-        return Value::Refused {
-            refusal: ENVELOPE_ENDS,
-            at: end,
-        };
+        return Value::Refused(Refusal::EnvelopeEnds.at(end));
     }
     let behind = after + value;
     Value::Is {
-        kind: ANY_BYTES,
+        kind: Kind::AnyBytes,
         start: after,
         length: value,
         after: behind,

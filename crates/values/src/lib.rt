@@ -9,17 +9,17 @@ pub mod number;
 pub mod representation;
 pub mod text;
 
+use table::answers::Fault;
+use table::kinds::Kind;
+
 // "either a value with the place after it, or a refusal": a row's kind, start and length, or document 01's number and place.
 #[derive(Drop)]
 pub enum Value {
     Is {
-        kind: u32,
+        kind: Kind,
         start: usize,
         length: usize,
         after: usize,
     },
-    Refused {
-        refusal: u32,
-        at: usize,
-    },
+    Refused(Fault),
 }

@@ -9,8 +9,9 @@ ghost use Rattle.values.specs.Numbers.{Turned, Counted};
 use crate::Value;
 use crate::bytes::wide;
 use crate::digits::{digit, is_digit};
-use table::kinds::PAYLOAD_LENGTH;
-use table::refusals::{ENVELOPE_ENDS, NUMBER_WRONG};
+use table::answers::Fault;
+use table::kinds::Kind;
+use table::refusals::Refusal;
 
 pub const MOST: u64 = 4294967295;
 
@@ -26,7 +27,7 @@ pub enum Turning {
 #[derive(Drop)]
 pub enum Number {
     Counts { value: u64, after: usize },
-    Fails { refusal: u32, at: usize },
+    Fails(Fault),
 }
 
 // A payload length from its first byte on.
@@ -37,15 +38,12 @@ pub fn take(s: &[u8], end: usize, at: usize) -> Value
     let r = count(s, end, at);
     match r {
         Number::Counts { value: _, after } => Value::Is {
-            kind: PAYLOAD_LENGTH,
+            kind: Kind::PayloadLength,
             start: at,
             length: after - at,
             after: after,
         },
-        Number::Fails { refusal, at: place } => Value::Refused {
-            refusal: refusal,
-            at: place,
-        },
+        Number::Fails(fault) => Value::Refused(fault),
     }
 }
 
@@ -60,10 +58,7 @@ pub fn count(s: &[u8], end: usize, at: usize) -> Number
     while i < end {
         let t = turn(number, first, wide(s[i]));
         match t {
-            Turning::Wrong => return Number::Fails {
-                refusal: NUMBER_WRONG,
-                at: i,
-            },
+            Turning::Wrong => return Number::Fails(Refusal::NumberWrong.at(i)),
             Turning::Stop(value) => return Number::Counts {
                 value: value,
                 after: i + 1,
@@ -75,10 +70,7 @@ pub fn count(s: &[u8], end: usize, at: usize) -> Number
             }
         }
     }
-    Number::Fails {
-        refusal: ENVELOPE_ENDS,
-        at: i,
-    }
+    Number::Fails(Refusal::EnvelopeEnds.at(i))
 }
 
 // Takes the number so far, whether this is its first byte, and the byte. Answers what the byte does to it: it ends the number, leads on, or is wrong.

@@ -2,11 +2,13 @@
 ghost use Rattle.std.specs.Prelude.{◌≡◌, true, false, ℕ, ◌+◌, ◌-◌, ◌≤◌, ◌<◌, length, get_or};
 ghost use Rattle.meaning.specs.Bytes.{line, note, is_break, text_byte, take_text};
 ghost use Rattle.laws_steps.specs.From.{from};
+ghost use Rattle.table.specs.Kinds.{number_of};
 ghost use Rattle.values.specs.Stages.{Inside, Valued, rule_of, Skipped, Run, LineRun, text_run};
 
 use crate::Value;
 use crate::eights::{eight_bytes, first_mark, marks};
-use table::refusals::{ENVELOPE_ENDS, TEXT_WRONG};
+use table::kinds::Kind;
+use table::refusals::Refusal;
 
 // What a text is for: a line, or a note, which may have line breaks.
 #[derive(Clone, Copy)]
@@ -19,33 +21,30 @@ pub enum Rule {
 const FIRST_TEXT: u8 = 0x20;
 
 // A text by its rule, from its first byte on: its row and the place behind its 00, or the refusal.
-pub fn take(s: &[u8], end: usize, at: usize, kind: u32, rule: Rule) -> Value
+pub fn take(s: &[u8], end: usize, at: usize, kind: Kind, rule: Rule) -> Value
     requires { Inside s.now end at }
-    ensures { Valued s.now end at kind 1 (take_text (rule_of rule) (from s.now at end)) result }
+    ensures { Valued s.now end at (number_of kind) 1 (take_text (rule_of rule) (from s.now at end)) result }
 {
     let i = stop(s, end, at, rule);
     ended(s, end, at, i, kind)
 }
 
 // The same of a line that seldom stands there: its bytes are looked at behind a call, so that the code before it stays short.
-pub fn rare_line(s: &[u8], end: usize, at: usize, kind: u32) -> Value
+pub fn rare_line(s: &[u8], end: usize, at: usize, kind: Kind) -> Value
     requires { Inside s.now end at }
-    ensures { Valued s.now end at kind 1 (take_text line (from s.now at end)) result }
+    ensures { Valued s.now end at (number_of kind) 1 (take_text line (from s.now at end)) result }
 {
     let i = long_line(s, end, at);
     ended(s, end, at, i, kind)
 }
 
 // Takes the place i where the run of the text at `at` stops. Answers the row and the place behind its 00, or the refusal at i.
-fn ended(s: &[u8], end: usize, at: usize, i: usize, kind: u32) -> Value
+fn ended(s: &[u8], end: usize, at: usize, i: usize, kind: Kind) -> Value
     requires { (end ≤ length s.now) × (at ≤ i) × (i ≤ end) }
-    ensures { (rule : Rattle.meaning.specs.Bytes.Rule) → Run rule s.now end at i → Valued s.now end at kind 1 (take_text rule (from s.now at end)) result }
+    ensures { (rule : Rattle.meaning.specs.Bytes.Rule) → Run rule s.now end at i → Valued s.now end at (number_of kind) 1 (take_text rule (from s.now at end)) result }
 {
     if end <= i {
-        return Value::Refused {
-            refusal: ENVELOPE_ENDS,
-            at: i,
-        };
+        return Value::Refused(Refusal::EnvelopeEnds.at(i));
     }
     if s[i] == 0 {
         let length = i - at;
@@ -57,10 +56,7 @@ fn ended(s: &[u8], end: usize, at: usize, i: usize, kind: u32) -> Value
             after: after,
         };
     }
-    Value::Refused {
-        refusal: TEXT_WRONG,
-        at: i,
-    }
+    Value::Refused(Refusal::TextWrong.at(i))
 }
 
 // As `run`, for a reading, in which most texts stop before the end: an empty text is found at one look, and a line's stop by marks.

@@ -6,5 +6,5 @@ use Rattle.date.proofs.byte_passes.Goals as goal
 pub returns : goal.returns
 returns c =
     let a = c.args in
-    check_pair a.s.now a.at a.j a.absolute c.wide-b.ensures c.if-j-eq8.false c.if-j-eq9.false
-    (check_relative a.j c.wide-b.result (earlier a.s.now a.at a.j) c.if-absolute.false c.within.ensures)
+    check_pair a.s.now a.at a.j a.absolute c.from-b.ensures c.if-j-eq8.false c.if-j-eq9.false
+    (check_relative a.j c.from-b.result (earlier a.s.now a.at a.j) c.if-absolute.false c.within.ensures)

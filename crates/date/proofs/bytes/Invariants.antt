@@ -1,5 +1,5 @@
 -- `bytes`: the invariant says that the date is what is left of it from byte j on; each turn is one law.
-use Prim.Native.Nat.{◌+◌, ◌-◌, ◌≤◌}
+use Prim.Native.Nat.{◌+◌, ◌≤◌}
 use mathlib.Core.List.{[]}
 use mathlib.Core.Path.{◌≡◌}
 use Rattle.meaning.specs.Bytes.{take_date, date_checks}
@@ -10,7 +10,4 @@ use Rattle.date.specs.DateSteps.{date_from}
 use Rattle.date.proofs.bytes.Given as goal
 
 abbrev pub invariant-loop-j : goal.invariant-loop-j
-invariant-loop-j l = (l.j ≤ l.length) × (l.at + l.j ≤ l.end) × (span 0 (take_date (date_checks (reaching l.absolute) l.designated) [] (from l.s l.at l.end)) ≡ date_from l.s l.end l.at l.absolute l.length l.j)
-
-abbrev pub decreases-loop-j : goal.decreases-loop-j
-decreases-loop-j l = l.length - l.j
+invariant-loop-j l = (l.j ≤ l.length) × (l.at + l.j ≤ l.end) × (span 0 (take_date (date_checks (reaching l.form.absolute) l.form.designated) [] (from l.s l.at l.end)) ≡ date_from l.s l.end l.at l.form.absolute l.length l.j)

@@ -1,20 +1,30 @@
 -- `take`: what the code says, and the bytes behind it.
+use mathlib.Core.Path.{refl}
 use native.Mathlib.Omega.{arith}
 use Rattle.meaning.specs.Reading.{take_value}
-use Rattle.values.specs.Stages.{ended}
 use Rattle.date.proofs.Dates.{dated_at, undated}
-use Rattle.values.specs.Coded.{code_unknown, code_before}
+use Rattle.values.specs.Answers.{valued_at}
+use Rattle.table.specs.declared.kinds.Kind.TheVariants.{DateAbsolute}
+use Rattle.values.specs.Coded.{code_missing, code_unknown, code_before}
 use Rattle.date.proofs.take.Goals as goal
 
 pub returns-then-end-at : goal.returns-then-end-at
-returns-then-end-at c t = ended (omega (arith, c.requires.before))
+returns-then-end-at c t = code_missing c.at.ensures (omega (arith, c.requires.before))
 
 pub returns-in_default : goal.returns-in_default
-returns-in_default c t =
-    code_unknown c.if-end-at.false c.wide.ensures (undated _ c.wide.result c.form_of-f.ensures c.in_default.is)
+returns-in_default c t = code_unknown c.if-end-at.false refl c.at-in_default.ensures refl (undated _ _ c.dated_by.ensures c.in_default.is)
 
-pub returns : goal.returns
+pub overflow_sub-result : goal.overflow_sub-result
+overflow_sub-result c = let p = valued_at (rw c.in-Ok.is at (c.bytes.ensures DateAbsolute)) refl in omega arith
+
+pub returns-in-Ok : goal.returns-in-Ok
 unfolding take_value
-returns c t =
-    let f = dated_at _ c.wide.result c.form_of-f.ensures c.in-Dated.is in
-    code_before c.if-end-at.false c.wide.ensures _ f.0 f.1 c.bytes.ensures
+returns-in-Ok c t =
+    let f = dated_at _ _ c.dated_by.ensures c.in-Some.is in
+    code_before c.if-end-at.false refl _ f.0 f.1 (rw c.in-Ok.is at (c.bytes.ensures c.in-Some.dated.kind))
+
+pub returns-in-Err : goal.returns-in-Err
+unfolding take_value
+returns-in-Err c t =
+    let f = dated_at _ _ c.dated_by.ensures c.in-Some.is in
+    code_before c.if-end-at.false refl _ f.0 f.1 (rw c.in-Err.is at (c.bytes.ensures c.in-Some.dated.kind))

@@ -4,7 +4,7 @@ use Rattle.frames.proofs.Frames.{frame_begun, frame_refused}
 use Rattle.frames.proofs.frame.measured.Goals as goal
 
 pub returns-then-all-at-lt-SHORT_HEAD : goal.returns-then-all-at-lt-SHORT_HEAD
-returns-then-all-at-lt-SHORT_HEAD c = let a = c.args in frame_refused (no_length a.s.now a.at a.base c.requires c.if-all-at-lt-SHORT_HEAD.true)
+returns-then-all-at-lt-SHORT_HEAD c = let a = c.args in frame_refused c.at.ensures (no_length a.s.now a.at a.base c.requires c.if-all-at-lt-SHORT_HEAD.true)
 
 pub returns-then-brief-ne0 : goal.returns-then-brief-ne0
 returns-then-brief-ne0 c =
@@ -16,7 +16,7 @@ pub returns-then-all-at-lt-LONG_HEAD : goal.returns-then-all-at-lt-LONG_HEAD
 returns-then-all-at-lt-LONG_HEAD c =
     let a = c.args in
     let two_bytes = c.two_bytes-brief in
-    frame_refused (no_long_length a.s.now a.at a.base c.requires two_bytes.result c.if-all-at-lt-SHORT_HEAD.false two_bytes.ensures.0 c.if-brief-ne0.false c.if-all-at-lt-LONG_HEAD.true)
+    frame_refused c.at-then-all-at-lt-LONG_HEAD.ensures (no_long_length a.s.now a.at a.base c.requires two_bytes.result c.if-all-at-lt-SHORT_HEAD.false two_bytes.ensures.0 c.if-brief-ne0.false c.if-all-at-lt-LONG_HEAD.true)
 
 pub returns : goal.returns
 returns c =

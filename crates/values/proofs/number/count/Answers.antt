@@ -10,10 +10,10 @@ unfolding tallied Ends
 returns-in-Wrong c =
     let l = c.loop-i in
     let a = c.args in
-    record {
+    rw c.at.ensures (record {
       is = l.invariant.3 ∙ number_wrong a.s.now a.end c.requires.whole a.at l.i l.number l.first l.invariant.0 c.loop-i-test.true c.wide.ensures c.turn-t.ensures c.in-Wrong.is;
       ends = l.invariant.1;
-    }
+    })
 
 pub returns-in-Stop : goal.returns-in-Stop
 unfolding tallied Ends
@@ -40,7 +40,7 @@ unfolding tallied Ends
 returns c =
     let l = c.loop-i in
     let a = c.args in
-    record {
+    rw c.at-2.ensures (record {
       is = l.invariant.3 ∙ number_ends a.s.now a.end c.requires.whole a.at l.i l.number l.first l.invariant.0 (omega arith);
       ends = l.invariant.1;
-    }
+    })
