@@ -106,7 +106,7 @@ fn hold_envelope(rows: &[u32], i: usize, end: usize) -> Option<Held>
 }
 
 // Takes row `last`, of a kind that follows another. Holds its skip number, those of the rows of its kind right before it, and that of the row that
-// opens them.
+// opens them. By hand: a range from the last row down would hold each place against an end twice, and this pass is counted.
 fn hold_run(rows: &[u32], last: usize, kind: u32, end: usize) -> Option<Held>
     requires { (n : ℕ) × RunToHold rows.now n last kind end }
     ensures { (n : ℕ) → RunToHold rows.now n last kind end → HeldTurn rows.now n (suc last) result }
