@@ -10,7 +10,7 @@ ghost use Rattle.figures.specs.Promises.{AddPromise, message};
 use crate::Figured;
 use crate::judge::{BYTES_AT, EDITION_NUMBERS, ENVELOPES_AT, MESSAGES_MOST, UNKNOWN_AT, messages};
 use frames::count::count_envelopes;
-use reader::count;
+use reader::count_in;
 use table::answers::Stage;
 use table::refusals::Refusal;
 use table::told::Edition;
@@ -50,7 +50,7 @@ fn enter(edition: u32, input: &[u8], figures: &mut [u64])
         return;
     };
     let first = first_of(told);
-    match count(edition, input) {
+    match count_in(told, input) {
         Stage::Refused(fault) => enter_turned(figures, first, fault.refusal),
         Stage::Go(reached) => {
             let envelopes = count_envelopes(input);

@@ -112,18 +112,24 @@ fn hold_run(rows: &[u32], last: usize, kind: u32, end: usize) -> Option<Held>
     ensures { (n : ℕ) → RunToHold rows.now n last kind end → HeldTurn rows.now n (suc last) result }
 {
     let level = level_at(rows, last);
-    let mut i = last;
-    while kind_at(rows, i) == kind {
-        if level_at(rows, i) != level || skip_at(rows, i) != i + 1 || i == 0 {
+    for i in (0..=last).rev() {
+        if level_at(rows, i) != level {
             return None;
         }
-        i -= 1;
+        let first = kind_at(rows, i);
+        if first != kind {
+            let right = last + 1;
+            return if opens_run(first, kind) {
+                hold_as(rows, i, right, end)
+            } else {
+                None
+            };
+        }
+        if skip_at(rows, i) != i + 1 {
+            return None;
+        }
     }
-    if level_at(rows, i) != level || !opens_run(kind_at(rows, i), kind) {
-        return None;
-    }
-    let right = last + 1;
-    hold_as(rows, i, right, end)
+    None
 }
 
 // Takes two kinds, of which the second follows another. Answers whether a row of the first opens a run of the second.

@@ -102,7 +102,7 @@ fn lay_row(rows: &mut [u32], n: usize, next: usize, classes: &Classes, word: u32
 }
 
 // Takes row `last`, of a kind that follows another. Lays the skip numbers of it, of the rows of its kind right before it, and of the row that opens
-// them, which it answers. By hand: the opener is there, so that no place is held against an end, as a range's would be; this pass is counted.
+// them, which it answers. A `while`: the opener is there, and a range would need an answer for its end, which is never reached.
 fn lay_run(rows: &mut [u32], last: usize, kind: u32) -> usize
     requires { (m : List ℕ) × (n : ℕ) × RunBefore m n rows.old last kind }
     ensures { (m : List ℕ) (n : ℕ) → RunBefore m n rows.old last kind → RunLaid m n rows.new result last kind }

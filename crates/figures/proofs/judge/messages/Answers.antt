@@ -1,5 +1,5 @@
 -- `messages`: an edition's numbers after the other's, the unknown, and then whether the editions fit.
-use mathlib.Core.Bool.{Bool, true, false, ◌&&◌}
+use mathlib.Core.Bool.{true, false}
 use mathlib.Core.Path.{◌≡◌, refl, ap, ◌∙◌, sym}
 use native.Mathlib.Omega.{arith}
 use borrow.Author.Tests.{eq-eqb, ne_eqb, le-leb}
@@ -64,6 +64,6 @@ returns c =
     let long : eqb (length ns) figures_borrowed ≡ true = eq-eqb (length ns) figures_borrowed (omega arith) in
     let most : leb (messages_in ns) messages_most ≡ true = le-leb (messages_in ns) messages_most (omega (arith, all, few)) in
     elim c.else-edition_fits.branch [
-      else-edition_fits-via-then-edition_fits+else-edition_fits-2 w ↦ judged_by ns true false long most (sym w.if-edition_fits.true ∙ c.edition_fits.ensures) (sym w.if-edition_fits-2.false ∙ w.edition_fits-then-edition_fits.ensures)
-    | else-edition_fits-via-else-edition_fits w ↦ judged_by ns false _ long most (sym w.if-edition_fits.false ∙ c.edition_fits.ensures) refl
+      | else-edition_fits-via-then-edition_fits+else-edition_fits-2 w ↦ judged_by ns true false long most (sym w.if-edition_fits.true ∙ c.edition_fits.ensures) (sym w.if-edition_fits-2.false ∙ w.edition_fits-then-edition_fits.ensures)
+      | else-edition_fits-via-else-edition_fits w ↦ judged_by ns false _ long most (sym w.if-edition_fits.false ∙ c.edition_fits.ensures) refl
     ]
