@@ -31,6 +31,10 @@ raised_sums (x ∷ xs) [] i k h l = absurd (omega arith)
 raised_sums (x ∷ xs) (y ∷ ys) zero k h l = let q : (x + y) + k ≡ x + (y + k) = omega arith in ap (λ (n : ℕ). n ∷ sums xs ys) q
 raised_sums (x ∷ xs) (y ∷ ys) (suc i) k h l = ap (λ (l : List ℕ). (x + y) ∷ l) (raised_sums xs ys i k (omega arith) (omega arith))
 
+-- another number stays
+pub raised_other : (ns : List ℕ) (i j k : ℕ) → (j ≡ i → ⊥) → get_or (raised ns i k) j 0 ≡ get_or ns j 0
+raised_other ns i j k n = get_or-set_other ns i j (get_or ns i 0 + k) 0 n
+
 module _ (ns : List ℕ) (long : length ns ≡ figures_borrowed) where
   -- one number raised
   once : (i k : ℕ) → i < figures_borrowed → raised ns i k ≡ sums ns (raised zeros i k)
@@ -53,18 +57,6 @@ module _ (ns : List ℕ) (long : length ns ≡ figures_borrowed) where
       ∙ ap (λ (l : List ℕ). raised l 15 1) (raised_sums ns (raised zeros 29 bytes) 28 envelopes (omega arith) (omega arith))
       ∙ raised_sums ns (raised (raised zeros 29 bytes) 28 envelopes) 15 1 (omega arith) (omega arith)
       ∙ (let p : 0 + bytes ≡ bytes = omega arith in let q : 0 + envelopes ≡ envelopes = omega arith in rw (p, q) refl)
-
-  -- .. and together
-  pub taken_set : (e : Edition) (envelopes bytes : ℕ)
-      → set (set (set ns (first_of e + 14) (get_or ns (first_of e + 14) 0 + bytes)) (first_of e + 13) (get_or ns (first_of e + 13) 0 + envelopes)) (first_of e) (get_or ns (first_of e) 0 + 1) ≡ sums ns (adds_of (taken e envelopes bytes))
-  taken_set e envelopes bytes =
-      let f = first_of e in
-      let with-bytes = raised ns (f + 14) bytes in
-      let p : get_or with-bytes (f + 13) 0 ≡ get_or ns (f + 13) 0 = get_or-set_other ns (f + 14) (f + 13) (get_or ns (f + 14) 0 + bytes) 0 (λ q. omega arith) in
-      let with-both = raised with-bytes (f + 13) envelopes in
-      let r : get_or with-both f 0 ≡ get_or ns f 0 =
-      get_or-set_other with-bytes (f + 13) f (get_or with-bytes (f + 13) 0 + envelopes) 0 (λ q. omega arith) ∙ get_or-set_other ns (f + 14) f (get_or ns (f + 14) 0 + bytes) 0 (λ q. omega arith) in
-      ap (λ (n : ℕ). set (set with-bytes (f + 13) (n + envelopes)) f (get_or ns f 0 + 1)) (sym p) ∙ ap (λ (n : ℕ). set with-both f (n + 1)) (sym r) ∙ taken_raised e envelopes bytes
 
 -- a refusal's number: one computed test over 2 to 13 in both editions
 

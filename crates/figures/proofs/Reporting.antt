@@ -16,18 +16,6 @@ use Rattle.figures.specs.declared.Figured.{Figured}
 use Rattle.figures.specs.Stages.{Printed, Laid, field_most, line_most, text_most}
 use Rattle.figures.specs.Promises.{ReportPromise}
 
-pub mean_none : (bytes accepted : ℕ) → accepted ≡ 0 → 0 ≡ mean_of bytes accepted
-mean_none bytes accepted q = rw (eq-eqb accepted 0 q) refl
-
-pub mean_some : (bytes accepted : ℕ) → (accepted ≡ 0 → ⊥) → bytes / accepted ≡ mean_of bytes accepted
-mean_some bytes accepted n = rw (ne_eqb accepted 0 n) refl
-
-pub remainder_none : (bytes accepted : ℕ) → accepted ≡ 0 → 0 ≡ remainder_of bytes accepted
-remainder_none bytes accepted q = rw (eq-eqb accepted 0 q) refl
-
-pub remainder_some : (bytes accepted : ℕ) → (accepted ≡ 0 → ⊥) → bytes % accepted ≡ remainder_of bytes accepted
-remainder_some bytes accepted n = rw (ne_eqb accepted 0 n) refl
-
 -- one text after the other
 pub printed_then : {a b c : List ℕ} {at mid end m n : ℕ} {x y : List ℕ} → Printed a b at m x mid → Printed b c mid n y end → Printed a c at (m + n) (x ++ y) end
 printed_then p q = record { wrote = wrote_then p.wrote q.wrote; few = omega (arith, p.few, q.few) }
@@ -81,8 +69,8 @@ pub report_printed : {a b c d : List ℕ} {i j end : ℕ} (ns : List ℕ) → Pr
 report_printed ns b d unknown = printed_as refl (report_lines ns) (printed_then (printed_then b d) unknown)
 
 -- a text over the front of an output
-pub laid_short : (text before : List ℕ) → length before < length text → Laid text before before (record { answer = 16; place = length text })
-laid_short text before h = record { answers = rw (lt-leb (length text) (length before) h) refl; output = rw (lt-leb (length text) (length before) h) refl }
+pub laid_short : (text before : List ℕ) {r : Figured} → length before < length text → r ≡ record { answer = 16; place = length text } → Laid text before before r
+laid_short text before h e = rw e (record { answers = rw (lt-leb (length text) (length before) h) refl; output = rw (lt-leb (length text) (length before) h) refl })
 
 pub laid_whole : (text before after : List ℕ) → length text ≤ length before → after ≡ laid_over before text → Laid text before after (record { answer = 0; place = length text })
 laid_whole text before after h q = record { answers = rw (le-leb (length text) (length before) h) refl; output = q ∙ rw (le-leb (length text) (length before) h) refl }
@@ -102,9 +90,9 @@ front_printed {before} {after} {most} {end} {text} p =
 pub front_long : {before after : List ℕ} {most end : ℕ} {text : List ℕ} → Printed before after 0 most text end → end ≡ length (take end after)
 front_long p = p.wrote.ends ∙ omega (arith, ap length (front_printed p))
 
-pub report_refused : (ns before : List ℕ) → are_figures ns ≡ false → ReportPromise ns before before (record { answer = 19; place = 0 })
+pub report_refused : (ns before : List ℕ) {r : Figured} → are_figures ns ≡ false → r ≡ record { answer = 19; place = 0 } → ReportPromise ns before before r
 unfolding report_answer report_output
-report_refused ns before q = record { answers = rw q refl; text = rw q refl }
+report_refused ns before q e = rw e (record { answers = rw q refl; text = rw q refl })
 
 pub report_laid : (ns before after : List ℕ) {text : List ℕ} {r : Figured} → are_figures ns ≡ true → text ≡ report ns → Laid text before after r → ReportPromise ns before after r
 unfolding report_answer report_output

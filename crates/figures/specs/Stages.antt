@@ -1,20 +1,26 @@
 -- What the stages of figures promise.
-use Rattle.std.specs.Prelude.{ℕ, suc, ◌+◌, ◌*◌, ◌≤◌, List, true, ◌≡◌, leb, length, set, get_or}
+use Rattle.std.specs.Prelude.{ℕ, Option, Some, None, ◌+◌, ◌*◌, ◌≤◌, List, true, ◌≡◌, leb, length, set, get_or}
 use Rattle.meaning.specs.Basics.{pick}
 use Rattle.meaning.specs.Told.{Edition, B, D}
 use Rattle.meaning.specs.Headers.{envelope_most, envelopes_most}
 use Rattle.meaning.specs.Plain.{outcome, encode_outcome, encode_memory}
 use Rattle.meaning.specs.Figures.{messages_most, messages_in, are_figures, edition_width, figures_borrowed}
 use Rattle.pen.specs.Wrote.{Wrote}
+use Rattle.table.specs.declared.answers.Fault.{Fault}
+use Rattle.table.specs.Refusals.{answer_of}
 use Rattle.figures.specs.declared.Figured.{Figured}
 
--- so many messages, or one more than there may be
-unfoldable pub capped : ℕ → ℕ
-capped n = pick (leb n messages_most) n (suc messages_most)
+-- a refusal with its place, as it is answered
+abbrev pub fault_figured : Fault → Figured
+fault_figured f = record { answer = answer_of f.refusal; place = f.at }
 
--- how many messages lent numbers are the figures of, or one more than there may be
-unfoldable pub judged : List ℕ → ℕ
-judged ns = pick (are_figures ns) (messages_in ns) (suc messages_most)
+-- so many messages, if there may be so many
+unfoldable pub capped : ℕ → Option ℕ
+capped n = pick (leb n messages_most) (Some n) None
+
+-- how many messages lent numbers are the figures of, if they are figures
+unfoldable pub judged : List ℕ → Option ℕ
+judged ns = pick (are_figures ns) (Some (messages_in ns)) None
 
 -- where an edition's numbers begin
 abbrev pub first_of : Edition → ℕ

@@ -2,6 +2,11 @@
 // then the messages of an unknown edition.
 #![tactic(auto)]
 
+ghost use Rattle.std.specs.Prelude.{◌≡◌};
+ghost use Rattle.figures.specs.Stages.{fault_figured};
+
+use table::answers::Fault;
+
 pub mod add;
 pub mod join;
 pub mod judge;
@@ -13,4 +18,15 @@ pub mod report;
 pub struct Figured {
     pub answer: u32,
     pub place: usize,
+}
+
+impl From<Fault> for Figured {
+    ghost from_gives = { λ fault r. r ≡ fault_figured fault };
+
+    fn from(fault: Fault) -> Self {
+        Figured {
+            answer: fault.refusal.answer(),
+            place: fault.at,
+        }
+    }
 }

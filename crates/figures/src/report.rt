@@ -9,9 +9,9 @@ ghost use Rattle.figures.specs.Promises.{ReportPromise};
 ghost use Rattle.meaning.specs.Figures as meaning;
 
 use crate::Figured;
-use crate::judge::{BYTES_AT, EDITION_NUMBERS, MESSAGES_MOST, UNKNOWN_AT, messages};
+use crate::judge::{BYTES_AT, EDITION_NUMBERS, UNKNOWN_AT, messages};
 use pen::{NEWLINE, TAB, field};
-use table::refusals::{FIGURES_FULL, OUTPUT_SHORT};
+use table::refusals::Refusal;
 
 // Memory for any report: no number has more than twenty digits.
 const TEXT_MOST: usize = 1024;
@@ -21,13 +21,9 @@ const TEXT_MOST: usize = 1024;
 pub fn report(figures: &[u64], output: &mut [u8]) -> Figured
     ensures { ReportPromise figures.now output.old output.new result }
 {
-    let many = messages(figures);
-    if MESSAGES_MOST < many {
-        return Figured {
-            answer: FIGURES_FULL,
-            place: 0,
-        };
-    }
+    let Some(_) = messages(figures) else {
+        return Refusal::FiguresFull.at(0).into();
+    };
     let mut text = [0u8; TEXT_MOST];
     let end = print(figures, &mut text);
     lay(&text[..end], output)
@@ -63,10 +59,8 @@ fn fields(numbers: &[u64], out: &mut [u8], at: usize) -> usize
     ensures { Printed out.old out.new at (field_most * length numbers.now) (fields_of numbers.now) result }
 {
     let mut end = at;
-    let mut j: usize = 0;
-    while j < numbers.len() {
-        end = print_field(out, end, numbers[j], TAB);
-        j += 1;
+    for number in numbers {
+        end = print_field(out, end, *number, TAB);
     }
     end
 }
@@ -83,20 +77,14 @@ fn print_field(out: &mut [u8], at: usize, value: u64, closing: u8) -> usize
 fn mean_of(bytes: u64, accepted: u64) -> u64
     ensures { result ≡ mean_of bytes accepted }
 {
-    if accepted == 0 {
-        return 0;
-    }
-    bytes / accepted
+    bytes.checked_div(accepted).unwrap_or(0)
 }
 
 // .. the remainder.
 fn remainder_of(bytes: u64, accepted: u64) -> u64
     ensures { result ≡ remainder_of bytes accepted }
 {
-    if accepted == 0 {
-        return 0;
-    }
-    bytes % accepted
+    bytes.checked_rem(accepted).unwrap_or(0)
 }
 
 // Takes a text. Lays it over the front of `output` and answers 0 and its length, or refuses an output that is too short (16).
@@ -105,10 +93,7 @@ fn lay(text: &[u8], output: &mut [u8]) -> Figured
 {
     let many = text.len();
     if output.len() < many {
-        return Figured {
-            answer: OUTPUT_SHORT,
-            place: many,
-        };
+        return Refusal::OutputShort.at(many).into();
     }
     output[..many].copy_from_slice(text);
     Figured {

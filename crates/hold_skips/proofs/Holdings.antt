@@ -16,8 +16,8 @@ use Rattle.laws_tables.specs.Neighbours.{is_follower, leads}
 use Rattle.skips.specs.Owners.{Hoppable, Owned, deeper_test, above_test}
 use Rattle.skips.specs.Classes.{class_of}
 use Rattle.hold_skips.specs.Holding.{held_if, HeldFrom, HeldTurn, EnvelopeHeld, RunToHold}
+use Rattle.std.specs.Prelude.{Option, Some, None}
 use Rattle.hold_skips.specs.declared.Held.{Held}
-use Rattle.hold_skips.specs.declared.Held.TheVariants.{Row, Envelope, Wrong}
 use Rattle.skips.specs.Owning.{of_agent}
 use Rattle.skips.specs.Belonging.{follower_alone, follower_inner, Light, light_belongs, Leader, is_leader}
 use Rattle.skips.specs.Passes.{hoppable, none_wrong}
@@ -37,17 +37,26 @@ right_more m n i a q j x y = at (eqb j i) refl
 
 -- A row that is held or not
 
-held_turn : {m : List ℕ} {n next end i right : ℕ} {r : Held} → r ≡ held_if (given_at m i) right i → (given_at m i ≡ right → HeldFrom m n i end × (i < next)) → HeldTurn m n next end r
+held_turn : {m : List ℕ} {n next end i right : ℕ} {r : Option Held} → r ≡ held_if (given_at m i) right i end → (given_at m i ≡ right → HeldFrom m n i end × (i < next)) → HeldTurn m n next r
 unfolding HeldTurn
-held_turn {m} {n} {next} {end} {i} {right} {r} q f = subst (HeldTurn m n next end) (sym q) (at (eqb (given_at m i) right) refl)
+held_turn {m} {n} {next} {end} {i} {right} {r} q f = subst (HeldTurn m n next) (sym q) (at (eqb (given_at m i) right) refl)
   where
-    at : (z : Bool) → eqb (given_at m i) right ≡ z → HeldTurn m n next end (pick z (Row i) Wrong)
+    at : (z : Bool) → eqb (given_at m i) right ≡ z → HeldTurn m n next (pick z (Some (record { next = i; end = end })) None)
     at true z = f (eqb-true (given_at m i) right z)
     at false z = tt
 
-pub nothing_held : (m : List ℕ) (n next end : ℕ) → HeldTurn m n next end Wrong
+pub nothing_held : (m : List ℕ) (n next : ℕ) → HeldTurn m n next None
 unfolding HeldTurn
-nothing_held m n next end = tt
+nothing_held m n next = tt
+
+-- an envelope's own row at level 0
+pub envelope_held_if : (m : List ℕ) (i end : ℕ) {r : Option Held} → (rank_at m i).level ≡ 0 → r ≡ held_if (given_at m i) end i i → EnvelopeHeld m i end r
+unfolding EnvelopeHeld
+envelope_held_if m i end l q = subst (EnvelopeHeld m i end) (sym q) (at (eqb (given_at m i) end) refl)
+  where
+    at : (z : Bool) → eqb (given_at m i) end ≡ z → EnvelopeHeld m i end (pick z (Some (record { next = i; end = i })) None)
+    at true z = (refl, l, eqb-true (given_at m i) end z)
+    at false z = tt
 
 -- A run
 
@@ -107,7 +116,7 @@ module _ {m : List ℕ} {n last kind end : ℕ} (b : RunToHold m n last kind end
           ends false z u = z
           ends true z u = false_not (sym (b.from.free u) ∙ light_belongs (rank_at m i) (rank_at m (suc last)) leader.light z)
 
-      pub run_held : {h : Held} → h ≡ held_if (given_at m i) (last + 1) i → HeldTurn m n (suc last) end h
+      pub run_held : {h : Option Held} → h ≡ held_if (given_at m i) (last + 1) i end → HeldTurn m n (suc last) h
       run_held q = held_turn q (λ g. (from g, omega (arith, less)))
         where
           from : given_at m i ≡ last + 1 → HeldFrom m n i end
@@ -164,7 +173,7 @@ module _ {m : List ℕ} {n next end : ℕ} (f : HeldFrom m n next end) (some : 0
   right_behind = subst (AllRight m n) (sym next_is) f.right
 
   module _ {kind class : ℕ} (k : kind ≡ get_or m ((next - 1) * row_width) 0) (known : 1 ≤ kind) (c : class ≡ class_of kind) where
-    one_turn : {right : ℕ} {h : Held} → is_envelope kind ≡ false → is_follower kind ≡ false → right ≡ skip_at m n (next - 1) → h ≡ held_if (given_at m (next - 1)) right (next - 1) → HeldTurn m n next end h
+    one_turn : {right : ℕ} {h : Option Held} → is_envelope kind ≡ false → is_follower kind ≡ false → right ≡ skip_at m n (next - 1) → h ≡ held_if (given_at m (next - 1)) right (next - 1) end → HeldTurn m n next h
     one_turn {right} e o v q = held_turn q (λ g. (from g, omega (arith, some)))
       where
         from : given_at m (next - 1) ≡ right → HeldFrom m n (next - 1) end
@@ -182,7 +191,7 @@ module _ {m : List ℕ} {n next end : ℕ} (f : HeldFrom m n next end) (some : 0
             at j x y true z = subst (λ (u : ℕ). 3 ≤ (rank_at m u).kind) (sym (eqb-true j (next - 1) z)) (omega (arith, k, not_envelope kind known e))
             at j x y false z = let d = eqb-false j (next - 1) z in f.inner j (omega (arith, some)) y
 
-    pub plain_held : {h : Held} → class < 0x1000 → h ≡ held_if (given_at m (next - 1)) next (next - 1) → HeldTurn m n next end h
+    pub plain_held : {h : Option Held} → class < 0x1000 → h ≡ held_if (given_at m (next - 1)) next (next - 1) end → HeldTurn m n next h
     plain_held u q = let (l, o) = is_plain kind class c u in one_turn l.no_envelope o (sym (skip l ∙ next_is)) q
       where
         ends : Light (rank_at m (next - 1)).kind → (z : Bool) → belongs (rank_at m (next - 1)) (rank_at m (suc (next - 1))) ≡ z → suc (next - 1) < n → belongs (rank_at m (next - 1)) (rank_at m (suc (next - 1))) ≡ false
@@ -200,31 +209,30 @@ module _ {m : List ℕ} {n next end : ℕ} (f : HeldFrom m n next end) (some : 0
           let level = (rank_at m (next - 1)).level in
           ap (λ (x : ℕ). belongs (rank x level) s) (sym k) ∙ deeper_owns kind level s p r d
 
-      pub deeper_held : {right : ℕ} {h : Held} → right ≡ skip_at m n (next - 1) → h ≡ held_if (given_at m (next - 1)) right (next - 1) → HeldTurn m n next end h
+      pub deeper_held : {right : ℕ} {h : Option Held} → right ≡ skip_at m n (next - 1) → h ≡ held_if (given_at m (next - 1)) right (next - 1) end → HeldTurn m n next h
       deeper_held v q = let (p, o, r, d) = is_deeper kind class c g u in one_turn p o v q
 
     module _ (g : 0x2000 ≤ class) (u : class < 0x3000) where
       pub agent_owned : Owned m (next - 1) (above_test 15)
       agent_owned s = of_agent (rank_at m (next - 1)).level s (sym k ∙ is_agent kind class c g u)
 
-      pub agent_held : {right : ℕ} {h : Held} → right ≡ skip_at m n (next - 1) → h ≡ held_if (given_at m (next - 1)) right (next - 1) → HeldTurn m n next end h
+      pub agent_held : {right : ℕ} {h : Option Held} → right ≡ skip_at m n (next - 1) → h ≡ held_if (given_at m (next - 1)) right (next - 1) end → HeldTurn m n next h
       agent_held v q = let e = is_agent kind class c g u in one_turn (ap is_envelope e) (ap is_follower e) v q
 
     module _ (g : 0x3000 ≤ class) (u : class < 0x4000) where
       pub run_to_hold : RunToHold m n (next - 1) kind end
       run_to_hold = record { from = subst (λ (x : ℕ). HeldFrom m n x end) (sym next_is) f; kind_is = k; follower = is_follower_lem kind class c g u }
 
-      pub run_turned : (h : Held) → HeldTurn m n (suc (next - 1)) end h → HeldTurn m n next end h
-      run_turned h t = subst (λ (x : ℕ). HeldTurn m n x end h) next_is t
+      pub run_turned : (h : Option Held) → HeldTurn m n (suc (next - 1)) h → HeldTurn m n next h
+      run_turned h t = subst (λ (x : ℕ). HeldTurn m n x h) next_is t
 
-    pub envelope_held : (h : Held) → 0x4000 ≤ class → EnvelopeHeld m (next - 1) end h → HeldTurn m n next end h
+    pub envelope_held : (h : Option Held) → 0x4000 ≤ class → EnvelopeHeld m (next - 1) end h → HeldTurn m n next h
     unfolding HeldTurn EnvelopeHeld
-    envelope_held (Row j) g t = absurd t
-    envelope_held Wrong g t = tt
-    envelope_held (Envelope j) g (q, z, v) =
+    envelope_held None g t = tt
+    envelope_held (Some h) g (q, z, v) =
         let top : IsTop (rank_at m (next - 1)) = subst (λ (x : ℕ). IsTop (rank x (rank_at m (next - 1)).level)) k (is_top kind (rank_at m (next - 1)).level (is_envelope_lem kind class c g) z) in
         let skip : skip_at m n (next - 1) ≡ end = envelope_run m n (next - 1) at_hand end top (omega (arith, some, f.few)) f.most (λ i x y. f.inner i (omega (arith, some)) y) f.there in (
-          subst (λ (x : ℕ). HeldFrom m n x x) (sym q)
+          subst (λ (x : Held). HeldFrom m n x.next x.end) (sym q)
               (record {
                 room = f.room;
                 few = omega arith;
@@ -234,19 +242,9 @@ module _ {m : List ℕ} {n next end : ℕ} (f : HeldFrom m n next end) (some : 0
                 free = λ _. leads_none top;
                 there = λ _. top;
               }),
-          omega (arith, q, some),
+          omega (arith, ap (λ (x : Held). x.next) q, some),
         )
       where
         leads_none : IsTop (rank_at m (next - 1)) → is_follower (rank_at m (next - 1)).kind ≡ false
         leads_none (true, p) = ap (λ (r : Rank). is_follower r.kind) p
         leads_none (false, p) = ap (λ (r : Rank). is_follower r.kind) p
-
--- The turns
-
-pub held_row : {m : List ℕ} {n next end : ℕ} {h : Held} {i : ℕ} → h ≡ Row i → HeldTurn m n next end h → HeldFrom m n i end × (i < next)
-unfolding HeldTurn
-held_row q t = rw q at t
-
-pub held_envelope : (end : ℕ) {m : List ℕ} {n next : ℕ} {h : Held} {i : ℕ} → h ≡ Envelope i → HeldTurn m n next end h → HeldFrom m n i i × (i < next)
-unfolding HeldTurn
-held_envelope end q t = rw q at t

@@ -35,20 +35,19 @@ module _ (m : List ℕ) (n i : ℕ) (l : i < n) where
 
 -- The run
 
-pub record RunBack (m : List ℕ) (n : ℕ) (rows : List ℕ) (last kind next i : ℕ) : Type 0 where
-  pub next_is : next ≡ suc i
+pub record RunBack (m : List ℕ) (n : ℕ) (rows : List ℕ) (last kind i : ℕ) : Type 0 where
   pub most : i ≤ last
   pub is : rows ≡ skips_laid m n (n - suc i)
   pub run : (j : ℕ) → i < j → j ≤ last → ((rank_at m j).kind ≡ kind) × ((rank_at m j).level ≡ (rank_at m last).level)
 
 module _ {m : List ℕ} {n : ℕ} {rows₀ : List ℕ} {last kind : ℕ} (b : RunBefore m n rows₀ last kind) where
-  pub run_begins : RunBack m n rows₀ last kind (last + 1) last
-  run_begins = record { next_is = omega arith; most = omega arith; is = b.is; run = λ j x y. absurd (omega arith) }
+  pub run_begins : RunBack m n rows₀ last kind last
+  run_begins = record { most = omega arith; is = b.is; run = λ j x y. absurd (omega arith) }
 
   pub before_long : length rows₀ ≡ length m
   before_long = stays_long m rows₀ n (n - suc last) b.is
 
-  module _ {rows : List ℕ} {next i : ℕ} (r : RunBack m n rows last kind next i) where
+  module _ {rows : List ℕ} {i : ℕ} (r : RunBack m n rows last kind i) where
     here : i < n
     here = omega (arith, r.most, b.inside)
 
@@ -58,8 +57,8 @@ module _ {m : List ℕ} {n : ℕ} {rows₀ : List ℕ} {last kind : ℕ} (b : Ru
     pub run_long : length rows ≡ length m
     run_long = stays_long m rows n (n - suc i) r.is
 
-    pub next_small : next ≤ u32_most
-    next_small = omega (arith, r.next_is, here, b.stands.most)
+    pub next_small : i + 1 ≤ u32_most
+    next_small = omega (arith, here, b.stands.most)
 
     -- the row behind is of the run, where this is not its last
     behind_follows : i < last → is_follower (rank_at m (suc i)).kind ≡ true
@@ -93,13 +92,13 @@ module _ {m : List ℕ} {n : ℕ} {rows₀ : List ℕ} {last kind : ℕ} (b : Ru
                 let top-kind : (rank_at m 0).kind ≡ kind = ap (λ (x : ℕ). (rank_at m x).kind) (sym (eqb-true i 0 z)) ∙ own_kind in
                 top_alone c (ap is_follower (sym (ap (λ (x : Rank). x.kind) q) ∙ top-kind) ∙ b.follower)
 
-        pub run_again : {after : List ℕ} → after ≡ set rows (i * row_width + 4) next → RunBack m n after last kind i (i - 1)
+        pub run_again : {after : List ℕ} → after ≡ set rows (i * row_width + 4) (i + 1) → RunBack m n after last kind (i - 1)
         run_again s =
             let one = not_first in
             let before : suc (i - 1) ≡ i = omega arith in
-            let skip : next ≡ skip_at m n i = r.next_is ∙ sym (alone m n i here (λ _. follower_alone (rank_at m i) (rank_at m (suc i)) (ap is_follower own_kind ∙ b.follower))) in
+            let one_on : i + 1 ≡ suc i = omega arith in
+            let skip : i + 1 ≡ skip_at m n i = one_on ∙ sym (alone m n i here (λ _. follower_alone (rank_at m i) (rank_at m (suc i)) (ap is_follower own_kind ∙ b.follower))) in
             record {
-              next_is = omega arith;
               most = omega (arith, r.most);
               is = lays m n i here r.is skip s ∙ ap (λ (x : ℕ). skips_laid m n (n - x)) (sym before);
               run = λ j x y. at j x y (eqb j i) refl;

@@ -22,14 +22,13 @@ use Rattle.table.specs.Rows.{u32_most}
 use Rattle.skips.specs.Owners.{Hoppable, Owned, deeper_test, above_test}
 use Rattle.skips.specs.Classes.{class_of}
 use Rattle.lay_skips.specs.Laying.{LaidFrom, LaidBack, InsideLaid, Turned, RunBefore, RunLaid}
-use Rattle.lay_skips.specs.declared.Turn.{Turn}
-use Rattle.lay_skips.specs.declared.Turn.TheVariants.{Envelope, Row}
+use Rattle.std.specs.Prelude.{Some, None}
 use Rattle.skips.specs.Owning.{of_agent}
 use Rattle.skips.specs.Belonging.{Light, light_belongs}
 use Rattle.skips.specs.Passes.{laid_hoppable}
 use Rattle.skips.specs.Ends.{IsTop, alone, top_alone}
 use Rattle.lay_skips.proofs.Running.{ranks_stay, stays_long, lays}
-use Rattle.skips.specs.Classing.{is_plain, is_deeper, is_agent, is_follower_lem, is_envelope_lem, deeper_owns, one_seen, follower_unseen, envelope_unseen}
+use Rattle.skips.specs.Classing.{is_plain, is_deeper, is_agent, is_follower_lem, is_envelope_lem, deeper_owns, one_seen, follower_unseen}
 
 top_opens : (c : Bool) → is_envelope (top c).kind ≡ true
 top_opens true = refl
@@ -99,7 +98,7 @@ module _ {m : List ℕ} {n end : ℕ} {rows : List ℕ} {next word : ℕ} (b : L
 
       -- one row more
       turned : {skip : ℕ} {after : List ℕ} → is_envelope kind ≡ false → is_follower kind ≡ false → skip ≡ skip_at m n (next - 1) → after ≡ set rows ((next - 1) * row_width + 4) skip
-          → Turned m n end next after (Row (next - 1) (bit_or word class))
+          → Turned m n end next word after (Some (record { row = next - 1; word = bit_or word class }))
       unfolding Turned
       turned e f v s =
           let no : is_envelope (rank_at m (next - 1)).kind ≡ false = ap is_envelope kind_here ∙ e in (
@@ -120,7 +119,7 @@ module _ {m : List ℕ} {n end : ℕ} {rows : List ℕ} {next word : ℕ} (b : L
           at j x y true z = subst (λ (i : ℕ). 3 ≤ (rank_at m i).kind) (sym (eqb-true j (next - 1) z)) (inner_at (next - 1) here (ap is_envelope kind_here ∙ e))
           at j x y false z = let d = eqb-false j (next - 1) z in b.inner j (omega (arith, b.some)) y
 
-      pub plain_turn : {after : List ℕ} → class < 0x1000 → after ≡ set rows ((next - 1) * row_width + 4) next → Turned m n end next after (Row (next - 1) (bit_or word class))
+      pub plain_turn : {after : List ℕ} → class < 0x1000 → after ≡ set rows ((next - 1) * row_width + 4) next → Turned m n end next word after (Some (record { row = next - 1; word = bit_or word class }))
       plain_turn h s = let (l, f) = is_plain kind class c h in turned l.no_envelope f (sym (skip l ∙ next_is)) s
         where
           ends : Light (rank_at m (next - 1)).kind → (z : Bool) → belongs (rank_at m (next - 1)) (rank_at m (suc (next - 1))) ≡ z → suc (next - 1) < n → belongs (rank_at m (next - 1)) (rank_at m (suc (next - 1))) ≡ false
@@ -138,14 +137,14 @@ module _ {m : List ℕ} {n end : ℕ} {rows : List ℕ} {next word : ℕ} (b : L
             let level = (rank_at rows (next - 1)).level in
             ap (λ (x : ℕ). belongs (rank x level) s) (sym k) ∙ deeper_owns kind level s p r d
 
-        pub deeper_turn : {skip : ℕ} {after : List ℕ} → skip ≡ skip_at rows n (next - 1) → after ≡ set rows ((next - 1) * row_width + 4) skip → Turned m n end next after (Row (next - 1) (bit_or word class))
+        pub deeper_turn : {skip : ℕ} {after : List ℕ} → skip ≡ skip_at rows n (next - 1) → after ≡ set rows ((next - 1) * row_width + 4) skip → Turned m n end next word after (Some (record { row = next - 1; word = bit_or word class }))
         deeper_turn e s = let (p, q, r, d) = is_deeper kind class c g h in turned p q (right_here e) s
 
       module _ (g : 0x2000 ≤ class) (h : class < 0x3000) where
         pub agent_owned : Owned rows (next - 1) (above_test 15)
         agent_owned s = of_agent (rank_at rows (next - 1)).level s (sym k ∙ is_agent kind class c g h)
 
-        pub agent_turn : {skip : ℕ} {after : List ℕ} → skip ≡ skip_at rows n (next - 1) → after ≡ set rows ((next - 1) * row_width + 4) skip → Turned m n end next after (Row (next - 1) (bit_or word class))
+        pub agent_turn : {skip : ℕ} {after : List ℕ} → skip ≡ skip_at rows n (next - 1) → after ≡ set rows ((next - 1) * row_width + 4) skip → Turned m n end next word after (Some (record { row = next - 1; word = bit_or word class }))
         agent_turn e s = let q = is_agent kind class c g h in turned (ap is_envelope q) (ap is_follower q) (right_here e) s
 
       module _ (g : 0x3000 ≤ class) (h : class < 0x4000) where
@@ -184,7 +183,7 @@ module _ {m : List ℕ} {n end : ℕ} {rows : List ℕ} {next word : ℕ} (b : L
             pub opener_known : opener ≤ kind_most
             opener_known = omega (arith, opener_here, (b.stands.beside.flat first first_here).known)
 
-            pub run_turn : {class₂ : ℕ} → class₂ ≡ class_of opener → Turned m n end next after (Row first (bit_or (bit_or word class) class₂))
+            pub run_turn : {class₂ : ℕ} → class₂ ≡ class_of opener → Turned m n end next word after (Some (record { row = first; word = bit_or (bit_or word class) class₂ }))
             unfolding Turned
             run_turn {class₂} e =
                 let whole : next - 1 - (next - 1 - suc first) ≡ suc first = omega (arith, r.less) in
@@ -218,16 +217,15 @@ module _ {m : List ℕ} {n end : ℕ} {rows : List ℕ} {next word : ℕ} (b : L
                 at j x y true z = subst (λ (i : ℕ). 3 ≤ (rank_at m i).kind) (sym (eqb-true j first z)) (inner_at first first_here r.inside)
                 at j x y false z = let d = eqb-false j first z in later j (omega arith) y (eqb (next - j) 0) refl
 
-      pub envelope_turn : 0x4000 ≤ class → Turned m n end next rows (Envelope (next - 1) (bit_or word class % 4096))
+      pub envelope_turn : 0x4000 ≤ class → Turned m n end next word rows None
       unfolding Turned
       envelope_turn g =
-          let e = is_envelope_lem kind class c g in
           record {
             less = omega (arith, b.some, b.most);
             opened = at (b.stands.each (next - 1) here);
             inner = λ j x y. b.inner j (omega (arith, b.some)) y;
             is = is_here;
-            carries = envelope_unseen kind word e b.seen c ∙ ap (λ (x : ℕ). word_of (ranks_for m x (end - x))) (sym next_is);
+            carries = b.seen ∙ ap (λ (x : ℕ). word_of (ranks_for m x (end - x))) (sym next_is);
           }
         where
           low : (z : Bool) → is_envelope kind ≡ z → z ≡ true → 3 ≤ kind → ⊥
@@ -261,14 +259,6 @@ back_begins {m} {n} {rows} {end} f =
       free = λ u. let (c, q) = f.there u in ap (λ (r : Rank). is_follower r.kind) q ∙ top_leads c;
       seen = sym no_word ∙ ap (λ (k : ℕ). word_of (ranks_for m end k)) (sym none);
     }
-
-pub turned_on : {m : List ℕ} {n end next : ℕ} {rows : List ℕ} {t : Turn} {i word : ℕ} → t ≡ Row i word → Turned m n end next rows t → LaidBack m n end rows i word × (i < next)
-unfolding Turned
-turned_on q h = rw q at h
-
-pub turned_out : (next : ℕ) {m : List ℕ} {n end : ℕ} {rows : List ℕ} {t : Turn} {i word : ℕ} → t ≡ Envelope i word → Turned m n end next rows t → InsideLaid m n end rows i word
-unfolding Turned
-turned_out next q h = rw q at h
 
 -- memory stays as long as it was
 pub from_long : {m : List ℕ} {n : ℕ} {rows : List ℕ} {end : ℕ} → LaidFrom m n rows end → length rows ≡ length m

@@ -1,5 +1,5 @@
 -- What the pass over rows that were read is told, and what it makes of a row, of an envelope and of them all.
-use Rattle.std.specs.Prelude.{ℕ, suc, ◌-◌, ◌%◌, ◌≤◌, ◌<◌, List, true, false, ◌⊎◌, ◌≡◌, length}
+use Rattle.std.specs.Prelude.{ℕ, Option, Some, None, suc, ◌-◌, ◌%◌, ◌≤◌, ◌<◌, List, true, false, ◌⊎◌, ◌≡◌, length}
 use Rattle.meaning.specs.Skips.{is_envelope}
 use Rattle.meaning.specs.Words.{word_of, words_of}
 use Rattle.meaning.specs.Memory.{room_of, laid_over}
@@ -10,8 +10,7 @@ use Rattle.laws_tables.specs.Neighbours.{is_follower}
 use Rattle.laws_tables.specs.Adjoining.{AllNeighbours}
 use Rattle.table.specs.Rows.{u32_most}
 use Rattle.skips.specs.Ends.{IsTop}
-use Rattle.lay_skips.specs.declared.Turn.{Turn}
-use Rattle.lay_skips.specs.declared.Turn.TheVariants.{Envelope, Row}
+use Rattle.lay_skips.specs.declared.Laid.{Laid}
 
 -- n rows in memory as a header's stand: the first is an envelope's own, each is, or of a kind above theirs; and as neighbours stand
 pub record Stands (m : List ℕ) (n : ℕ) : Type 0 where
@@ -48,10 +47,10 @@ pub record InsideLaid (m : List ℕ) (n end : ℕ) (rows : List ℕ) (i word : �
   pub is : rows ≡ skips_laid m n (n - suc i)
   pub carries : word ≡ word_of (ranks_for m (suc i) (end - suc i))
 
--- what one turn answers: the rows from this one on are laid; or it is the envelope's own
-unfoldable pub Turned : List ℕ → ℕ → ℕ → ℕ → List ℕ → Turn → Type 0
-Turned m n end next rows (Row i word) = LaidBack m n end rows i word × (i < next)
-Turned m n end next rows (Envelope i word) = InsideLaid m n end rows i word
+-- what one turn answers: the rows from this one on are laid; or nothing is, the row before them being the envelope's own
+unfoldable pub Turned : List ℕ → ℕ → ℕ → ℕ → ℕ → List ℕ → Option Laid → Type 0
+Turned m n end next word rows (Some laid) = LaidBack m n end rows laid.row laid.word × (laid.row < next)
+Turned m n end next word rows None = InsideLaid m n end rows (next - 1) (word % 4096)
 
 -- row `last` follows another, and the row behind it, from which on all are laid, does not
 pub record RunBefore (m : List ℕ) (n : ℕ) (rows : List ℕ) (last kind : ℕ) : Type 0 where

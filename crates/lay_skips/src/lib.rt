@@ -3,24 +3,16 @@
 
 ghost use Rattle.std.specs.Prelude.{List, ◌∷◌, ◌≡◌, ℕ, ◌<◌, length};
 ghost use Rattle.meaning.specs.Memory.{laid_over};
-ghost use Rattle.skips.specs.Classes.{ClassesAre};
 ghost use Rattle.lay_skips.specs.Laying.{LaidFrom, LaidBack, InsideLaid, Turned, RunBefore, RunLaid, Finishable, Finished};
 
-use skips::class::{BITS, FOLLOWS, HOLDS_DEEPER, IS_AGENT, IS_ENVELOPE, all_classes, class_of};
+use skips::class::{BITS, Classes, Way, way_of};
 use skips::hop::{above_end, deeper_end};
-use table::kinds::AGENT_NAME;
+use table::kinds::Kind;
 use table::rows::{kind_at, put_skip};
 
-// What one turn of the pass came to: the first row laid, with what was seen of the envelope's word; or the envelope's own row, and its word.
-#[derive(Drop)]
-pub enum Turn {
-    Row { row: usize, word: u32 },
-    Envelope { row: usize, word: u32 },
-}
-
-// An envelope's own row, and its word.
-#[derive(Drop)]
-pub struct Inside {
+// The first of the rows that are laid, and what was seen of the word of the envelope that it is inside or opens.
+#[derive(Clone, Copy)]
+pub struct Laid {
     pub row: usize,
     pub word: u32,
 }
@@ -30,7 +22,7 @@ pub fn finish(rows: &mut [u32], n: usize, words: &mut [u32])
     requires { Finishable rows.old n words.old }
     ensures { Finished rows.old words.old n rows.new words.new }
 {
-    let classes = all_classes();
+    let classes = Classes::new();
     let mut next = n;
     let mut k: usize = 0;
     while 0 < next {
@@ -50,89 +42,75 @@ fn put_first(words: &mut [u32], k: usize, word: u32)
     ensures { (lent own : List ℕ) → words.old ≡ laid_over lent own → length own ≡ k → words.new ≡ laid_over lent (word ∷ own) }
 {
     let mut held = word;
-    let mut i: usize = 0;
-    while i < k {
+    for i in 0..k {
         let next = words[i];
         words[i] = held;
         held = next;
-        i += 1;
     }
     words[k] = held;
 }
 
 // Takes n rows that have their skip numbers from row `end` on, which is an envelope's or n. Lays those of the rows before it that are inside an
 // envelope, and answers that envelope's own row and its word.
-fn lay_inside(rows: &mut [u32], n: usize, end: usize, classes: &[u16; 30]) -> Inside
-    requires { ((m : List ℕ) × LaidFrom m n rows.old end) × ClassesAre classes.now }
+fn lay_inside(rows: &mut [u32], n: usize, end: usize, classes: &Classes) -> Laid
+    requires { (m : List ℕ) × LaidFrom m n rows.old end }
     ensures { (m : List ℕ) → LaidFrom m n rows.old end → InsideLaid m n end rows.new result.row result.word }
 {
     let mut next = end;
     let mut word: u32 = 0;
-    loop {
-        let t = lay_row(rows, n, next, classes, word);
-        match t {
-            Turn::Row { row, word: seen } => {
-                next = row;
-                word = seen;
-            }
-            Turn::Envelope { row, word: all } => return Inside {
-                row: row,
-                word: all,
-            },
-        }
+    while let Some(laid) = lay_row(rows, n, next, classes, word) {
+        next = laid.row;
+        word = laid.word;
+    }
+    Laid {
+        row: next - 1,
+        word: word % BITS,
     }
 }
 
 // Takes n rows that have their skip numbers from row `next` on, and what was seen of the word. Lays that of the row before it; where that row follows
-// another, those of all its run and of the row that opens the run.
-fn lay_row(rows: &mut [u32], n: usize, next: usize, classes: &[u16; 30], word: u32) -> Turn
-    requires { ((m : List ℕ) × (end : ℕ) × LaidBack m n end rows.old next word) × ClassesAre classes.now }
-    ensures { (m : List ℕ) (end : ℕ) → LaidBack m n end rows.old next word → Turned m n end next rows.new result }
+// another, those of all its run and of the row that opens the run. Answers the first row laid, or none where that row is an envelope's own.
+fn lay_row(rows: &mut [u32], n: usize, next: usize, classes: &Classes, word: u32) -> Option<Laid>
+    requires { (m : List ℕ) × (end : ℕ) × LaidBack m n end rows.old next word }
+    ensures { (m : List ℕ) (end : ℕ) → LaidBack m n end rows.old next word → Turned m n end next word rows.new result }
 {
     let i = next - 1;
     let kind = kind_at(rows, i);
-    let class = class_of(classes, kind);
+    let class = classes.of(kind);
     let seen = word | class;
-    if class < HOLDS_DEEPER {
-        put_skip(rows, i, next);
-        return Turn::Row { row: i, word: seen };
+    match way_of(class) {
+        Way::Alone => put_skip(rows, i, next),
+        Way::Deeper => {
+            let skip = deeper_end(rows, n, i);
+            put_skip(rows, i, skip);
+        }
+        Way::Agent => {
+            let skip = above_end(rows, n, i, Kind::AgentName.number());
+            put_skip(rows, i, skip);
+        }
+        Way::Follows => {
+            let first = lay_run(rows, i, kind);
+            let opener = classes.of(kind_at(rows, first));
+            return Some(Laid {
+                row: first,
+                word: seen | opener,
+            });
+        }
+        Way::Envelope => return None,
     }
-    if class < IS_AGENT {
-        let skip = deeper_end(rows, n, i);
-        put_skip(rows, i, skip);
-        return Turn::Row { row: i, word: seen };
-    }
-    if class < FOLLOWS {
-        let skip = above_end(rows, n, i, AGENT_NAME);
-        put_skip(rows, i, skip);
-        return Turn::Row { row: i, word: seen };
-    }
-    if class < IS_ENVELOPE {
-        let first = lay_run(rows, i, kind);
-        let opener = class_of(classes, kind_at(rows, first));
-        return Turn::Row {
-            row: first,
-            word: seen | opener,
-        };
-    }
-    Turn::Envelope {
-        row: i,
-        word: seen % BITS,
-    }
+    Some(Laid { row: i, word: seen })
 }
 
 // Takes row `last`, of a kind that follows another. Lays the skip numbers of it, of the rows of its kind right before it, and of the row that opens
-// them, which it answers.
+// them, which it answers. By hand: the opener is there, so that no place is held against an end, as a range's would be; this pass is counted.
 fn lay_run(rows: &mut [u32], last: usize, kind: u32) -> usize
     requires { (m : List ℕ) × (n : ℕ) × RunBefore m n rows.old last kind }
     ensures { (m : List ℕ) (n : ℕ) → RunBefore m n rows.old last kind → RunLaid m n rows.new result last kind }
 {
     let end = last + 1;
-    let mut next = end;
     let mut i = last;
     while kind_at(rows, i) == kind {
-        put_skip(rows, i, next);
-        next = i;
+        put_skip(rows, i, i + 1);
         i -= 1;
     }
     put_skip(rows, i, end);

@@ -8,7 +8,7 @@ ghost use Rattle.std.specs.Prelude.{◌≡◌, ◌≤◌, ltb, length, IfOk};
 ghost use Rattle.meaning.specs.Listing.{input_most};
 ghost use Rattle.lister.specs.Promise.{TablePromise, PrintPromise, LongPromise, Turned};
 
-use listing::Piece;
+use listing::{Cursor, Piece};
 use std::io;
 use std::io::{ErrorKind, Read, Write};
 use table::limits::WORDS_BORROWED;
@@ -24,7 +24,7 @@ const PIECE_LENT: usize = 4096;
 
 // The listing of what `from` gives, in this edition, to `to`. The one byte more tells an input that is too long.
 pub fn list<R: Read, W: Write>(edition: u32, from: &mut R, to: &mut W) -> io::Result<()> {
-    let mut input = [0u8; 65537];
+    let mut input = [0u8; INPUT_MOST + 1];
     let n = read_full(from, &mut input)?;
     if is_long(n) {
         let line = too_long();
@@ -65,7 +65,7 @@ fn is_long(n: usize) -> bool
 pub fn too_long() -> [u8; 9]
     ensures { LongPromise result }
 {
-    [b't', b'o', b'o', b' ', b'l', b'o', b'n', b'g', b'\n']
+    *b"too long\n"
 }
 
 // Lists this input. "lends 3,072 rows"; and the words that the reader borrows. Answers what the reader answered, or the writer's error, which
@@ -76,7 +76,7 @@ pub fn print<W: Write>(edition: u32, input: &[u8], to: &mut W) -> io::Result<Rep
     let mut rows = [0u32; ROWS_LENT * ROW_NUMBERS];
     let mut words = [0u32; WORDS_BORROWED];
     let table = read_table(edition, input, &mut rows, &mut words);
-    print_lines(table.answer, table.place, table.rows, &rows, input, to)?;
+    print_lines(&table, &rows, input, to)?;
     Ok(table)
 }
 
@@ -88,38 +88,27 @@ pub fn read_table(edition: u32, input: &[u8], rows: &mut [u32], words: &mut [u32
 }
 
 // Piece by piece until one is empty, which is the text's end.
-fn print_lines<W: Write>(
-    answer: u32,
-    place: usize,
-    count: usize,
-    rows: &[u32],
-    input: &[u8],
-    to: &mut W,
-) -> io::Result<()> {
-    let mut piece = print_piece(answer, place, count, rows, input, 0, 0, to)?;
+fn print_lines<W: Write>(table: &Reply, rows: &[u32], input: &[u8], to: &mut W) -> io::Result<()> {
+    let start = Cursor { line: 0, byte: 0 };
+    let mut piece = print_piece(table, rows, input, start, to)?;
     while 0 < piece.length {
-        let line = piece.line;
-        let byte = piece.byte;
-        piece = print_piece(answer, place, count, rows, input, line, byte, to)?;
+        piece = print_piece(table, rows, input, piece.cursor(), to)?;
     }
     Ok(())
 }
 
 // The next piece, and the cursor behind it.
 fn print_piece<W: Write>(
-    answer: u32,
-    place: usize,
-    count: usize,
+    table: &Reply,
     rows: &[u32],
     input: &[u8],
-    line: usize,
-    byte: usize,
+    cursor: Cursor,
     to: &mut W,
 ) -> io::Result<Piece>
-    ensures { IfOk result (λ next. Turned answer place count rows.now input.now line byte next) }
+    ensures { IfOk result (λ next. Turned table.now.answer table.now.place table.now.rows rows.now input.now cursor.line cursor.byte next) }
 {
     let mut out = [0u8; PIECE_LENT];
-    let piece = listing::next(answer, place, count, rows, input, line, byte, &mut out);
+    let piece = listing::next(table, rows, input, cursor, &mut out);
     let length = piece.length;
     to.write_all(&out[..length])?;
     Ok(piece)

@@ -4,7 +4,7 @@
 mod row;
 
 ghost use Rattle.std.specs.Prelude.{◌≡◌, ◌≤◌, length};
-ghost use Rattle.meaning.specs.Memory.{reply};
+ghost use Rattle.table.specs.Reply.{reply_of};
 ghost use Rattle.meaning.specs.Listing.{first_line};
 ghost use Rattle.listing.specs.Text.{lines_of};
 ghost use Rattle.listing.specs.Pieces.{NextPiece, piece_least};
@@ -12,13 +12,21 @@ ghost use Rattle.pen.specs.Wrote.{Wrote};
 
 use crate::row::row_piece;
 use pen::{NEWLINE, TAB, field};
+use table::reply::Reply;
 use table::rows::room;
 
 // Memory that holds a first line, or a row's numbers.
 const PIECE_LEAST: usize = 64;
 
-// How many bytes were written, and the cursor behind them. Line 0 is the first line, line i + 1 that of row i;
-// byte 0 is a line's beginning, byte 1 + k stands behind its numbers and k bytes of its view.
+// A place in the text. Line 0 is the first line, line i + 1 that of row i; byte 0 is a line's beginning, byte 1 + k stands behind its numbers and k
+// bytes of its view.
+#[derive(Clone, Copy)]
+pub struct Cursor {
+    pub line: usize,
+    pub byte: usize,
+}
+
+// How many bytes were written, and the line and the byte of the cursor behind them: plain numbers, as the theorems name them.
 #[derive(Drop)]
 pub struct Piece {
     pub length: usize,
@@ -26,66 +34,67 @@ pub struct Piece {
     pub byte: usize,
 }
 
-// The next piece of the text, over the front of `out`; nothing behind it changes. Any numbers and any cursor have an answer.
+impl Piece {
+    // The cursor behind the piece.
+    pub fn cursor(&self) -> Cursor
+        ensures { result ≡ record { line = self.now.line; byte = self.now.byte } }
+    {
+        Cursor {
+            line: self.line,
+            byte: self.byte,
+        }
+    }
+}
+
+// The next piece of the text of what a reader answered, over the front of `out`; nothing behind it changes. Any numbers and any cursor have an answer.
 // No bytes mean that the text is at its end, or that `out` has fewer than 64.
-pub fn next(
-    answer: u32,
-    place: usize,
-    count: usize,
-    rows: &[u32],
-    bytes: &[u8],
-    line: usize,
-    byte: usize,
-    out: &mut [u8],
-) -> Piece
-    ensures { NextPiece answer place count rows.now bytes.now line byte out.old out.new result }
+pub fn next(reply: &Reply, rows: &[u32], bytes: &[u8], cursor: Cursor, out: &mut [u8]) -> Piece
+    ensures { NextPiece reply.now.answer reply.now.place reply.now.rows rows.now bytes.now cursor.line cursor.byte out.old out.new result }
 {
     if out.len() < PIECE_LEAST {
-        return Piece {
-            length: 0,
-            line: line,
-            byte: byte,
-        };
+        return nothing(cursor);
     }
-    if line == 0 {
-        let end = first_line(answer, place, count, out);
+    if cursor.line == 0 {
+        let end = first_line(reply, out);
         return Piece {
             length: end,
             line: 1,
             byte: 0,
         };
     }
-    let many = lines(answer, count, rows);
-    if many < line {
-        return Piece {
-            length: 0,
-            line: line,
-            byte: byte,
-        };
+    if lines(reply, rows) < cursor.line {
+        return nothing(cursor);
     }
-    row_piece(rows, bytes, line, byte, out)
+    row_piece(rows, bytes, cursor, out)
+}
+
+// No piece: the cursor stays.
+fn nothing(cursor: Cursor) -> Piece
+    ensures { result ≡ record { length = 0; line = cursor.line; byte = cursor.byte } }
+{
+    Piece {
+        length: 0,
+        line: cursor.line,
+        byte: cursor.byte,
+    }
 }
 
 // "prints answer, place, rows"
-fn first_line(answer: u32, place: usize, count: usize, out: &mut [u8]) -> usize
+fn first_line(reply: &Reply, out: &mut [u8]) -> usize
     requires { piece_least ≤ length out.old }
-    ensures { Wrote out.old out.new 0 (first_line (reply answer place count)) result }
+    ensures { Wrote out.old out.new 0 (first_line (reply_of reply.now)) result }
 {
-    let answered = field(out, 0, answer as u64, TAB);
-    let placed = field(out, answered, place as u64, TAB);
-    field(out, placed, count as u64, NEWLINE)
+    let answered = field(out, 0, u64::from(reply.answer), TAB);
+    let placed = field(out, answered, reply.place as u64, TAB);
+    field(out, placed, reply.rows as u64, NEWLINE)
 }
 
 // "then, if accepted, per row": the rows that have a line.
-fn lines(answer: u32, count: usize, rows: &[u32]) -> usize
-    ensures { result ≡ lines_of answer count rows.now }
+fn lines(reply: &Reply, rows: &[u32]) -> usize
+    ensures { result ≡ lines_of reply.now.answer reply.now.rows rows.now }
 {
-    if answer != 0 {
+    if reply.answer != 0 {
         return 0;
     }
-    let most = room(rows.len());
-    if count <= most {
-        return count;
-    }
-    most
+    reply.rows.min(room(rows.len()))
 }

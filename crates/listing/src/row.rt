@@ -1,5 +1,5 @@
 // "per row kind, level, start, length", skip, "viewed bytes in lower-case hex, or `-` if none": a row's numbers are one piece, its view one or more.
-ghost use Rattle.std.specs.Prelude.{◌≡◌, [], ◌∷◌, ◌++◌, ◌+◌, ◌-◌, ◌*◌, ◌≤◌, ◌<◌, min, length};
+ghost use Rattle.std.specs.Prelude.{◌≡◌, [], ◌∷◌, ◌++◌, ◌+◌, ◌-◌, ◌*◌, ◌≤◌, ◌<◌, length};
 ghost use Rattle.meaning.specs.Memory.{row_width, room_of};
 ghost use Rattle.meaning.specs.Listing.{hex_of};
 ghost use Rattle.listing.specs.Text.{row_of, view_of};
@@ -8,7 +8,7 @@ ghost use Rattle.pen.specs.Wrote.{Wrote};
 ghost use Rattle.pen.specs.Fields.{fields_of};
 ghost use Rattle.listing.specs.Stages.{WroteEnd, WroteField, RowPiece, ViewPiece, ViewRoom};
 
-use crate::Piece;
+use crate::{Cursor, Piece};
 use pen::{NEWLINE, TAB, field, hex, put};
 use table::rows::ROW_NUMBERS;
 
@@ -16,21 +16,21 @@ use table::rows::ROW_NUMBERS;
 const NONE: u8 = 0x2d;
 
 // The next piece of a row's line; lines are counted from 1.
-pub fn row_piece(rows: &[u32], bytes: &[u8], line: usize, byte: usize, out: &mut [u8]) -> Piece
-    requires { (1 ≤ line) × (line ≤ room_of rows.now) × (piece_least ≤ length out.old) }
-    ensures { RowPiece (row_of rows.now (line - 1)) bytes.now line byte out.old out.new result }
+pub fn row_piece(rows: &[u32], bytes: &[u8], cursor: Cursor, out: &mut [u8]) -> Piece
+    requires { (1 ≤ cursor.line) × (cursor.line ≤ room_of rows.now) × (piece_least ≤ length out.old) }
+    ensures { RowPiece (row_of rows.now (cursor.line - 1)) bytes.now cursor.line cursor.byte out.old out.new result }
 {
-    let first = (line - 1) * ROW_NUMBERS;
+    let first = (cursor.line - 1) * ROW_NUMBERS;
     let row = &rows[first..first + ROW_NUMBERS];
-    if byte == 0 {
+    if cursor.byte == 0 {
         let end = numbers(row, out);
         return Piece {
             length: end,
-            line: line,
+            line: cursor.line,
             byte: 1,
         };
     }
-    view_line(row, bytes, byte - 1, line, out)
+    view_line(row, bytes, cursor.byte - 1, cursor.line, out)
 }
 
 // Writes a row's numbers, each with its tab.
@@ -39,10 +39,8 @@ fn numbers(row: &[u32], out: &mut [u8]) -> usize
     ensures { Wrote out.old out.new 0 (fields_of row.now) result }
 {
     let mut end: usize = 0;
-    let mut j: usize = 0;
-    while j < row.len() {
-        end = row_field(out, end, row[j]);
-        j += 1;
+    for number in row {
+        end = row_field(out, end, *number);
     }
     end
 }
@@ -61,20 +59,9 @@ fn view_line(row: &[u32], bytes: &[u8], gone: usize, line: usize, out: &mut [u8]
     ensures { ViewPiece (view_of row.now bytes.now) gone line out.old out.new result }
 {
     let there = bytes.len();
-    let start = least(row[2], there);
-    let end = start + least(row[3], there - start);
+    let start = there.min(row[2] as usize);
+    let end = start + (there - start).min(row[3] as usize);
     view_piece(&bytes[start..end], gone, line, out)
-}
-
-// The smaller of a row's number and a place.
-fn least(number: u32, most: usize) -> usize
-    ensures { result ≡ min number most }
-{
-    let n = number as usize;
-    if n <= most {
-        return n;
-    }
-    most
 }
 
 // A view from a byte of it on: the rest with its line's end, or as much as `out` holds.
@@ -85,20 +72,12 @@ fn view_piece(view: &[u8], gone: usize, line: usize, out: &mut [u8]) -> Piece
     let there = view.len();
     if there <= gone {
         let end = no_bytes(gone, out);
-        return Piece {
-            length: end,
-            line: line + 1,
-            byte: 0,
-        };
+        return line_end(end, line);
     }
     let room = (out.len() - 1) / 2;
     if there - gone <= room {
         let end = last_bytes(&view[gone..there], out);
-        return Piece {
-            length: end,
-            line: line + 1,
-            byte: 0,
-        };
+        return line_end(end, line);
     }
     let shown = gone + room;
     let end = hex(out, 0, &view[gone..shown]);
@@ -106,6 +85,18 @@ fn view_piece(view: &[u8], gone: usize, line: usize, out: &mut [u8]) -> Piece
         length: end,
         line: line,
         byte: shown + 1,
+    }
+}
+
+// A piece with which its line ends.
+fn line_end(length: usize, line: usize) -> Piece
+    requires { line + 1 < 18446744073709551616 }
+    ensures { result ≡ record { length = length; line = line + 1; byte = 0 } }
+{
+    Piece {
+        length: length,
+        line: line + 1,
+        byte: 0,
     }
 }
 

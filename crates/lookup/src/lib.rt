@@ -6,15 +6,15 @@ ghost use Rattle.meaning.specs.Basics.{pick};
 ghost use Rattle.meaning.specs.Codes.{can_ask};
 ghost use Rattle.meaning.specs.Skips.{is_envelope};
 ghost use Rattle.meaning.specs.Headers.{envelopes_most};
-ghost use Rattle.meaning.specs.Lookup.{lacks, left_out, looked_up, looked_reply};
+ghost use Rattle.meaning.specs.Lookup.{lacks, left_out, answers_at, looked_up, looked_reply};
 ghost use Rattle.table.specs.Reply.{reply_of};
 ghost use Rattle.lookup.specs.Promise.{LookupPromise};
 
-use table::kinds::{BASE_OPENS, EXTENSION_OPENS};
+use table::kinds::Kind;
 use table::limits::ENVELOPES_MOST;
 use table::parameters::{OWN_DATE, can_ask, code_of};
-use table::refusals::{PARAMETER_UNKNOWN, ROWS_SHORT, TABLE_WRONG};
-use table::reply::{Reply, refused};
+use table::refusals::Refusal;
+use table::reply::Reply;
 use table::rows::{kind_at, room, skip_at, whole};
 
 // Takes rows, a word for each of their first sixteen envelopes, and the code of a parameter, or 20 for the base's own date. Answers 0, the row that
@@ -23,16 +23,16 @@ use table::rows::{kind_at, room, skip_at, whole};
 pub fn lookup(rows: &[u32], words: &[u32], code: u32) -> Reply
     ensures { LookupPromise rows.now words.now code result }
 {
-    if can_ask(code) {
-        if words.len() < ENVELOPES_MOST as usize {
-            return refused(ROWS_SHORT, 0);
-        }
-        if whole(rows.len()) {
-            return look(rows, words, code);
-        }
-        return refused(TABLE_WRONG, room(rows.len()));
+    if !can_ask(code) {
+        return Refusal::ParameterUnknown.at(0).into();
     }
-    refused(PARAMETER_UNKNOWN, 0)
+    if words.len() < ENVELOPES_MOST as usize {
+        return Refusal::RowsShort.at(0).into();
+    }
+    if !whole(rows.len()) {
+        return Refusal::TableWrong.at(room(rows.len())).into();
+    }
+    look(rows, words, code)
 }
 
 // The hops, from row 0 on. What is asked for can be asked, and there are words enough.
@@ -47,19 +47,12 @@ fn look(rows: &[u32], words: &[u32], code: u32) -> Reply
     while i < n {
         let kind = kind_at(rows, i);
         let skip = skip_at(rows, i);
-        if skip <= i {
-            return refused(TABLE_WRONG, i);
-        }
-        if n < skip {
-            return refused(TABLE_WRONG, i);
+        if skip <= i || n < skip {
+            return Refusal::TableWrong.at(i).into();
         }
         looked += 1;
         if code_of(kind) == code {
-            return Reply {
-                answer: 0,
-                place: i,
-                rows: looked,
-            };
+            return found(i, looked);
         }
         if is_envelope(kind) {
             i = entry(words, code, envelopes, kind, i, skip);
@@ -68,9 +61,16 @@ fn look(rows: &[u32], words: &[u32], code: u32) -> Reply
             i = skip;
         }
     }
+    found(i, looked)
+}
+
+// The answer: a row, or the row count where hops find none, and how many rows were looked at.
+fn found(row: usize, looked: usize) -> Reply
+    ensures { reply_of result ≡ looked_reply (answers_at row looked) }
+{
     Reply {
         answer: 0,
-        place: i,
+        place: row,
         rows: looked,
     }
 }
@@ -79,10 +79,10 @@ fn look(rows: &[u32], words: &[u32], code: u32) -> Reply
 fn is_envelope(kind: u32) -> bool
     ensures { result ≡ is_envelope kind }
 {
-    if kind == EXTENSION_OPENS {
-        return true;
-    }
-    kind == BASE_OPENS
+    matches!(
+        Kind::try_from(kind),
+        Ok(Kind::ExtensionOpens | Kind::BaseOpens)
+    )
 }
 
 // Takes the number of an envelope from 0, its row's kind and number, and its skip number. Answers where to look on: at the row behind its own, or
@@ -104,7 +104,7 @@ fn is_left_out(words: &[u32], code: u32, envelope: usize, kind: u32) -> bool
     ensures { result ≡ left_out words.now code envelope kind }
 {
     if code == OWN_DATE {
-        return kind == EXTENSION_OPENS;
+        return kind == Kind::ExtensionOpens.number();
     }
     if envelope < ENVELOPES_MOST as usize {
         return lacks_bit(words[envelope], code);

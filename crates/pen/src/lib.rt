@@ -54,10 +54,8 @@ pub fn hex(out: &mut [u8], at: usize, bytes: &[u8]) -> usize
     ensures { Wrote out.old out.new at (hex_of bytes.now) result }
 {
     let mut end = at;
-    let mut k: usize = 0;
-    while k < bytes.len() {
-        end = pair(out, end, bytes[k]);
-        k += 1;
+    for b in bytes {
+        end = pair(out, end, *b);
     }
     end
 }

@@ -13,36 +13,38 @@ use Rattle.meaning.specs.Headers.{opening, start}
 use Rattle.laws_steps.specs.Rows.{put}
 use Rattle.laws_steps.specs.Pouring.{Filling, filled, stopped, Source, source, run_at}
 use Rattle.laws_steps.specs.Finishing.{onward_from, closes, closed_at, opened_closes}
+use Rattle.table.specs.declared.answers.Reached.{Reached}
 use Rattle.table.specs.declared.answers.Stage.{Stage}
 use Rattle.table.specs.declared.answers.Stage.TheVariants.{Go, Refused}
 use Rattle.read_rows.specs.Stages.{after, Moved, Ran}
+use Rattle.table.specs.declared.refusals.Refusal.TheVariants.{ClosedEarly}
 use Rattle.read_envelopes.specs.declared.envelope.Envelope.{Envelope}
 use Rattle.read_envelopes.specs.declared.envelope.Envelope.TheVariants as envelope
 use Rattle.read_envelopes.specs.Envelopes.{ended_by, behind_envelope, EnvelopeEnds, EnvelopeOpened}
 
-closes_by : (base : Bool) (end : ℕ) (more : ℕ → ℕ → List ℕ → Filling) (p n : ℕ) (m : List ℕ) (z : Bool) → eqb p end ≡ z
-    → pick z (pick base (filled end n m) (more end n m)) (stopped 13 p) ≡ behind_envelope more m (pick z (pick base (envelope.Base p n) (envelope.Extension p n)) (envelope.Refused 13 p))
+closes_by : (base : Bool) (end : ℕ) (more : ℕ → ℕ → List ℕ → Filling) (to : Reached) (m : List ℕ) (z : Bool) → eqb to.at end ≡ z
+    → pick z (pick base (filled end to.rows m) (more end to.rows m)) (stopped 13 to.at) ≡ behind_envelope more m (pick z (pick base (envelope.Base to) (envelope.Extension to)) (envelope.Refused (record { refusal = ClosedEarly; at = to.at })))
 unfolding behind_envelope
-closes_by true end more p n m true q = rw (eqb-true p end q) refl
-closes_by false end more p n m true q = rw (eqb-true p end q) refl
-closes_by base end more p n m false q = refl
+closes_by true end more to m true q = rw (eqb-true to.at end q) refl
+closes_by false end more to m true q = rw (eqb-true to.at end q) refl
+closes_by base end more to m false q = refl
 
 stage_closes : (i : Source) (base : Bool) (least : ℕ) (more : ℕ → ℕ → List ℕ → Filling) (m : List ℕ) (r : Stage) → i.end ≤ length i.bytes → Moved least i.end r
     → closes base i.end more (after i (state closed 0 false) m r) ≡ behind_envelope more m (ended_by base i.end r)
 unfolding after Moved behind_envelope
-stage_closes i base least more m (Go p n) h v = ap (closes base i.end more) (closed_at i p n m v.1 h) ∙ closes_by base i.end more p n m (eqb p i.end) refl
-stage_closes i base least more m (Refused p refusal) h v = refl
+stage_closes i base least more m (Go to) h v = ap (closes base i.end more) (closed_at i to.at to.rows m v.1 h) ∙ closes_by base i.end more to m (eqb to.at i.end) refl
+stage_closes i base least more m (Refused fault) h v = refl
 
-ends_fits : (base : Bool) (end p n : ℕ) → n ≤ p → (z : Bool) → eqb p end ≡ z → EnvelopeEnds end (pick z (pick base (envelope.Base p n) (envelope.Extension p n)) (envelope.Refused 13 p))
+ends_fits : (base : Bool) (end : ℕ) (to : Reached) → to.rows ≤ to.at → (z : Bool) → eqb to.at end ≡ z → EnvelopeEnds end (pick z (pick base (envelope.Base to) (envelope.Extension to)) (envelope.Refused (record { refusal = ClosedEarly; at = to.at })))
 unfolding EnvelopeEnds
-ends_fits true end p n h true q = (eqb-true p end q, h)
-ends_fits false end p n h true q = (eqb-true p end q, h)
-ends_fits base end p n h false q = tt
+ends_fits true end to h true q = (eqb-true to.at end q, h)
+ends_fits false end to h true q = (eqb-true to.at end q, h)
+ends_fits base end to h false q = tt
 
 stage_fits : (base : Bool) (least end : ℕ) (r : Stage) → Moved least end r → EnvelopeEnds end (ended_by base end r)
 unfolding Moved EnvelopeEnds
-stage_fits base least end (Go p n) v = ends_fits base end p n v.2 (eqb p end) refl
-stage_fits base least end (Refused p refusal) v = tt
+stage_fits base least end (Go to) v = ends_fits base end to v.2 (eqb to.at end) refl
+stage_fits base least end (Refused fault) v = tt
 
 -- THE LAW OF AN ENVELOPE: its own row, its inside, and what comes behind it
 pub enveloped : (t : Told) (s : List ℕ) (at first end : ℕ) (base : Bool) (n : ℕ) (m : List ℕ) {k left : List ℕ} {r : Stage} {answer : Envelope} → 0 < end → end ≤ length s

@@ -8,6 +8,7 @@ use lib.ListN.{length}
 use Rattle.meaning.specs.Told.{Told}
 use Rattle.meaning.specs.Headers.{Answer, envelope_most, header}
 use Rattle.laws_steps.specs.Finishing.{finish}
+use Rattle.table.specs.declared.answers.Fault.{Fault}
 use Rattle.frames.specs.declared.frame.Frame.{Frame}
 use Rattle.frames.specs.declared.frame.Frame.TheVariants.{Opens, Refused}
 use Rattle.read_envelopes.specs.declared.envelope.Envelope.{Envelope}
@@ -17,15 +18,15 @@ use Rattle.read_envelopes.specs.Envelopes.{behind_envelope, EnvelopeEnds, Envelo
 
 ended_fits : (s : List ℕ) (at end : ℕ) (r : Envelope) → at + 3 ≤ end → end ≤ length s → end ≤ at + envelope_most → EnvelopeEnds end r → EnvelopeFits s at r
 unfolding EnvelopeEnds EnvelopeFits
-ended_fits s at end (answer.Base p n) h l k a = (omega arith, a.1, omega arith)
-ended_fits s at end (answer.Extension p n) h l k a = (omega arith, omega arith, a.1, omega arith)
-ended_fits s at end (answer.Refused refusal p) h l k a = tt
+ended_fits s at end (answer.Base to) h l k a = (omega arith, a.1, omega arith)
+ended_fits s at end (answer.Extension to) h l k a = (omega arith, omega arith, a.1, omega arith)
+ended_fits s at end (answer.Refused fault) h l k a = tt
 
 others_come : (left : ℕ) (r : Envelope) → 1 ≤ left → OthersCome left r
 unfolding OthersCome
-others_come left (answer.Base p n) h = tt
-others_come left (answer.Extension p n) h = h
-others_come left (answer.Refused refusal p) h = tt
+others_come left (answer.Base to) h = tt
+others_come left (answer.Extension to) h = h
+others_come left (answer.Refused fault) h = tt
 
 module _ {s : List ℕ} {at left : ℕ} {f : Frame} where
   pub opens_fit : {base : Bool} {first end : ℕ} → f ≡ Opens base first end → HeaderFramed s at left f → (at + 3 ≤ first) × (first ≤ end) × (end ≤ length s) × (end ≤ at + envelope_most) × (1 ≤ left)
@@ -35,7 +36,7 @@ module _ {s : List ℕ} {at left : ℕ} {f : Frame} where
       let more = rw h at a.more in
       (fits.0, fits.1, fits.2, fits.3, more)
 
-  pub envelope_refused : (t : Told) (n : ℕ) (m : List ℕ) {kept : List ℕ} {refusal p : ℕ} → f ≡ Refused refusal p → HeaderFramed s at left f → EnvelopeRead t s left at n m (answer.Refused refusal p) kept
+  pub envelope_refused : (t : Told) (n : ℕ) (m : List ℕ) {kept : List ℕ} {fault : Fault} → f ≡ Refused fault → HeaderFramed s at left f → EnvelopeRead t s left at n m (answer.Refused fault) kept
   unfolding framed behind_envelope EnvelopeFits OthersCome
   envelope_refused t n m h a =
       let is = rw h at (a.is t) in

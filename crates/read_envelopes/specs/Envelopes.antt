@@ -5,40 +5,43 @@ use Rattle.meaning.specs.Told.{Told}
 use Rattle.meaning.specs.Headers.{envelope_most, Onward}
 use Rattle.laws_steps.specs.Pouring.{Filling, filled, stopped}
 use Rattle.laws_steps.specs.Finishing.{finish, onward_from, header_at, opened}
+use Rattle.table.specs.declared.answers.Reached.{Reached}
 use Rattle.table.specs.declared.answers.Stage.{Stage}
 use Rattle.table.specs.declared.answers.Stage.TheVariants.{Go, Refused}
+use Rattle.table.specs.declared.refusals.Refusal.TheVariants.{ClosedEarly}
+use Rattle.table.specs.Refusals.{answer_of}
 use Rattle.read_envelopes.specs.declared.envelope.Envelope.{Envelope}
 use Rattle.read_envelopes.specs.declared.envelope.Envelope.TheVariants as envelope
 
--- what an envelope's end answers, where its inside ended at p with n rows
-abbrev pub closed_by : Bool → ℕ → ℕ → ℕ → Envelope
-closed_by base end p n = pick (eqb p end) (pick base (envelope.Base p n) (envelope.Extension p n)) (envelope.Refused 13 p)
+-- what an envelope's end answers, by where its inside ended
+abbrev pub closed_by : Bool → ℕ → Reached → Envelope
+closed_by base end to = pick (eqb to.at end) (pick base (envelope.Base to) (envelope.Extension to)) (envelope.Refused (record { refusal = ClosedEarly; at = to.at }))
 
 abbrev pub ended_by : Bool → ℕ → Stage → Envelope
-ended_by base end (Go p n) = closed_by base end p n
-ended_by base end (Refused p refusal) = envelope.Refused refusal p
+ended_by base end (Go to) = closed_by base end to
+ended_by base end (Refused fault) = envelope.Refused fault
 
 -- what each case of an envelope says
 unfoldable pub behind_envelope : (ℕ → ℕ → List ℕ → Filling) → List ℕ → Envelope → Filling
-behind_envelope more m (envelope.Base p n) = filled p n m
-behind_envelope more m (envelope.Extension p n) = more p n m
-behind_envelope more m (envelope.Refused refusal p) = stopped refusal p
+behind_envelope more m (envelope.Base to) = filled to.at to.rows m
+behind_envelope more m (envelope.Extension to) = more to.at to.rows m
+behind_envelope more m (envelope.Refused fault) = stopped (answer_of fault.refusal) fault.at
 
 unfoldable pub EnvelopeEnds : ℕ → Envelope → Type 0
-EnvelopeEnds end (envelope.Base p n) = (p ≡ end) × (n ≤ p)
-EnvelopeEnds end (envelope.Extension p n) = (p ≡ end) × (n ≤ p)
-EnvelopeEnds end (envelope.Refused refusal p) = Unit {0}
+EnvelopeEnds end (envelope.Base to) = (to.at ≡ end) × (to.rows ≤ to.at)
+EnvelopeEnds end (envelope.Extension to) = (to.at ≡ end) × (to.rows ≤ to.at)
+EnvelopeEnds end (envelope.Refused fault) = Unit {0}
 
 unfoldable pub EnvelopeFits : List ℕ → ℕ → Envelope → Type 0
-EnvelopeFits s at (envelope.Base p n) = (p ≤ length s) × (n ≤ p) × (p ≤ at + envelope_most)
-EnvelopeFits s at (envelope.Extension p n) = (at + 3 ≤ p) × (p ≤ length s) × (n ≤ p) × (p ≤ at + envelope_most)
-EnvelopeFits s at (envelope.Refused refusal p) = Unit {0}
+EnvelopeFits s at (envelope.Base to) = (to.at ≤ length s) × (to.rows ≤ to.at) × (to.at ≤ at + envelope_most)
+EnvelopeFits s at (envelope.Extension to) = (at + 3 ≤ to.at) × (to.at ≤ length s) × (to.rows ≤ to.at) × (to.at ≤ at + envelope_most)
+EnvelopeFits s at (envelope.Refused fault) = Unit {0}
 
 -- .. and only an extension has others behind it
 unfoldable pub OthersCome : ℕ → Envelope → Type 0
-OthersCome left (envelope.Base p n) = Unit {0}
-OthersCome left (envelope.Extension p n) = 1 ≤ left
-OthersCome left (envelope.Refused refusal p) = Unit {0}
+OthersCome left (envelope.Base to) = Unit {0}
+OthersCome left (envelope.Extension to) = 1 ≤ left
+OthersCome left (envelope.Refused fault) = Unit {0}
 
 -- what an envelope whose frame is read answers, for any way to go on
 pub record EnvelopeOpened (t : Told) (s : List ℕ) (at first end : ℕ) (base : Bool) (n : ℕ) (m : List ℕ) (r : Envelope) (left : List ℕ) : Type 0 where

@@ -2,72 +2,69 @@
 ghost use Rattle.std.specs.Prelude.{◌≡◌, ◌+◌, ◌*◌, ◌≤◌, ◌<◌, length};
 ghost use Rattle.meaning.specs.Headers.{opening, envelope_most};
 ghost use Rattle.laws_steps.specs.Pouring.{header_most, Ready};
+ghost use Rattle.table.specs.Kinds.{number_of};
 ghost use Rattle.table.specs.Told.{told_of};
 ghost use Rattle.read_envelopes.specs.Envelopes.{EnvelopeRead, EnvelopeOpened, ended_by, closed_by};
 
 use frames::frame::{Frame, frame_at};
 use read_inside::inside::read_inside;
-use table::answers::Stage;
-use table::kinds::{BASE_OPENS, EXTENSION_OPENS};
-use table::refusals::CLOSED_EARLY;
-use table::rows::put_row;
+use read_rows::rows;
+use table::answers::{Fault, Reached, Stage};
+use table::kinds::Kind;
+use table::refusals::Refusal;
 use table::told::Told;
 
 // The place behind an envelope and the rows then, or a refusal. The base ends the header; behind an extension stands the next envelope.
 #[derive(Drop)]
 pub enum Envelope {
-    Base { at: usize, rows: usize },
-    Extension { at: usize, rows: usize },
-    Refused { refusal: u32, at: usize },
+    Base(Reached),
+    Extension(Reached),
+    Refused(Fault),
 }
 
-// Takes the envelope at a place, of which `left` may still come, with n rows so far. Answers which it was, or the first refusal.
-pub fn read_envelope(
-    s: &[u8],
-    at: usize,
-    left: u32,
-    rows: &mut [u32],
-    n: usize,
-    told: Told,
-) -> Envelope
-    requires { (at ≤ length s.now) × (n ≤ at) × (at + left * envelope_most ≤ header_most) }
-    ensures { EnvelopeRead (told_of told) s.now left at n rows.old result rows.new }
+// Takes the envelope at a place, of which `left` may still come, and the rows so far. Answers which it was, or the first refusal.
+pub fn read_envelope(s: &[u8], from: Reached, left: u32, rows: &mut [u32], told: Told) -> Envelope
+    requires { (from.at ≤ length s.now) × (from.rows ≤ from.at) × (from.at + left * envelope_most ≤ header_most) }
+    ensures { EnvelopeRead (told_of told) s.now left from.at from.rows rows.old result rows.new }
 {
-    let f = frame_at(s, at, left);
+    let f = frame_at(s, from.at, left);
     match f {
-        Frame::Refused { refusal, at: place } => Envelope::Refused {
-            refusal: refusal,
-            at: place,
-        },
-        Frame::Opens { base, first, end } => read_opened(s, at, first, end, rows, n, base, told),
+        Frame::Refused(fault) => Envelope::Refused(fault),
+        Frame::Opens { base, first, end } => read_opened(s, from, first, end, rows, base, told),
     }
 }
 
-// Takes an envelope at `at` whose inside lies from `first` up to `end`. Puts its own row, and reads its inside.
+// Takes an envelope whose inside lies from `first` up to `end`. Puts its own row, and reads its inside.
 fn read_opened(
     s: &[u8],
-    at: usize,
+    from: Reached,
     first: usize,
     end: usize,
     rows: &mut [u32],
-    n: usize,
     base: bool,
     told: Told,
 ) -> Envelope
-    requires { (at < first) × (Ready s.now end first n) × (n ≤ at) }
-    ensures { EnvelopeOpened (told_of told) s.now at first end base n rows.old result rows.new }
+    requires { (from.at < first) × (Ready s.now end first from.rows) × (from.rows ≤ from.at) }
+    ensures { EnvelopeOpened (told_of told) s.now from.at first end base from.rows rows.old result rows.new }
 {
-    put_row(rows, n, opening_kind(base), 0, at, 0);
-    let opened = n + 1;
-    let r = read_inside(s, end, first, rows, opened, base, told);
+    let opened = rows::open(rows, from, opening_kind(base), 0);
+    let inside = Reached {
+        at: first,
+        rows: opened.rows,
+    };
+    let r = read_inside(s, end, inside, rows, base, told);
     ended(r, end, base)
 }
 
 // The kind of an envelope's own row.
-pub fn opening_kind(base: bool) -> u32
-    ensures { result ≡ opening base }
+pub fn opening_kind(base: bool) -> Kind
+    ensures { number_of result ≡ opening base }
 {
-    if base { BASE_OPENS } else { EXTENSION_OPENS }
+    if base {
+        Kind::BaseOpens
+    } else {
+        Kind::ExtensionOpens
+    }
 }
 
 // Takes what the inside answered. Answers the envelope behind it, or hands the refusal up.
@@ -75,26 +72,20 @@ pub fn ended(r: Stage, end: usize, base: bool) -> Envelope
     ensures { result ≡ ended_by base end r }
 {
     match r {
-        Stage::Refused { refusal, at } => Envelope::Refused {
-            refusal: refusal,
-            at: at,
-        },
-        Stage::Go(at, rows) => closed(at, rows, end, base),
+        Stage::Refused(fault) => Envelope::Refused(fault),
+        Stage::Go(to) => closed(to, end, base),
     }
 }
 
-// Takes the place behind an envelope's 01. "13: closing 01 before the declared end, byte after it."
-fn closed(at: usize, rows: usize, end: usize, base: bool) -> Envelope
-    ensures { result ≡ closed_by base end at rows }
+// Takes where an envelope's inside ended, behind its 01. "13: closing 01 before the declared end, byte after it."
+fn closed(to: Reached, end: usize, base: bool) -> Envelope
+    ensures { result ≡ closed_by base end to }
 {
-    if at != end {
-        return Envelope::Refused {
-            refusal: CLOSED_EARLY,
-            at: at,
-        };
+    if to.at != end {
+        return Envelope::Refused(Refusal::ClosedEarly.at(to.at));
     }
     if base {
-        return Envelope::Base { at: at, rows: rows };
+        return Envelope::Base(to);
     }
-    Envelope::Extension { at: at, rows: rows }
+    Envelope::Extension(to)
 }

@@ -3,7 +3,7 @@ ghost use Rattle.table.specs.Told.{told_of};
 ghost use Rattle.read_envelopes.specs.Headers.{HeaderRead};
 
 use crate::envelope::{Envelope, read_envelope};
-use table::answers::Stage;
+use table::answers::{Reached, Stage};
 use table::limits::ENVELOPES_MOST;
 use table::told::Told;
 
@@ -12,26 +12,16 @@ use table::told::Told;
 pub fn read_header(s: &[u8], rows: &mut [u32], told: Told) -> Stage
     ensures { HeaderRead (told_of told) s.now rows.old result rows.new }
 {
-    let mut at: usize = 0;
-    let mut n: usize = 0;
-    let mut left: u32 = ENVELOPES_MOST;
+    let mut here = Reached { at: 0, rows: 0 };
+    let mut left = ENVELOPES_MOST;
+    // No `for` over `left`: behind the sixteenth the next identifier is looked at before it is refused, so only an envelope's answer ends the loop.
     loop {
-        let r = read_envelope(s, at, left, rows, n, told);
+        let r = read_envelope(s, here, left, rows, told);
         match r {
-            Envelope::Refused { refusal, at: place } => return Stage::Refused {
-                refusal: refusal,
-                at: place,
-            },
-            Envelope::Base {
-                at: behind,
-                rows: count,
-            } => return Stage::Go(behind, count),
-            Envelope::Extension {
-                at: behind,
-                rows: count,
-            } => {
-                at = behind;
-                n = count;
+            Envelope::Refused(fault) => return Stage::Refused(fault),
+            Envelope::Base(to) => return Stage::Go(to),
+            Envelope::Extension(to) => {
+                here = to;
                 left -= 1;
             }
         }

@@ -10,64 +10,54 @@ ghost use Rattle.read_rows.specs.Stages.{StateRead};
 use crate::parameters::read_parameters;
 use read_objects::received::read_received;
 use read_rows::rows;
-use table::answers::Stage;
+use table::answers::{Reached, Stage};
 use table::told::Told;
 
 // The inside of a base or of an extension, from behind its length up to its 01; nothing is read from `end` on.
 pub fn read_inside(
     s: &[u8],
     end: usize,
-    at: usize,
+    from: Reached,
     rows: &mut [u32],
-    n: usize,
     base: bool,
     told: Told,
 ) -> Stage
-    requires { Ready s.now end at n }
-    ensures { StateRead (told_of told) s.now end (start base) at n rows.old result (state closed 0 false) rows.new }
+    requires { Ready s.now end from.at from.rows }
+    ensures { StateRead (told_of told) s.now end (start base) from.at from.rows rows.old result (state closed 0 false) rows.new }
 {
-    let front = read_front(s, end, at, rows, n, base, told);
-    let Stage::Go(after_front, with_front) = front else {
+    let front = read_front(s, end, from, rows, base, told);
+    let Stage::Go(behind_front) = front else {
         return front;
     };
-    read_parameters(s, end, after_front, rows, with_front, told)
+    read_parameters(s, end, behind_front, rows, told)
 }
 
 // What stands before an envelope's parameters: a base's head, an extension's received object.
 fn read_front(
     s: &[u8],
     end: usize,
-    at: usize,
+    from: Reached,
     rows: &mut [u32],
-    n: usize,
     base: bool,
     told: Told,
 ) -> Stage
-    requires { Ready s.now end at n }
-    ensures { StateRead (told_of told) s.now end (start base) at n rows.old result (state parameters 0 false) rows.new }
+    requires { Ready s.now end from.at from.rows }
+    ensures { StateRead (told_of told) s.now end (start base) from.at from.rows rows.old result (state parameters 0 false) rows.new }
 {
     if base {
-        return read_head(s, end, at, rows, n, told);
+        return read_head(s, end, from, rows, told);
     }
-    read_received(s, end, at, rows, n, told)
+    read_received(s, end, from, rows, told)
 }
 
 // "Base: .. representation, date".
-fn read_head(s: &[u8], end: usize, at: usize, rows: &mut [u32], n: usize, told: Told) -> Stage
-    requires { Ready s.now end at n }
-    ensures { StateRead (told_of told) s.now end (start true) at n rows.old result (state parameters 0 false) rows.new }
+fn read_head(s: &[u8], end: usize, from: Reached, rows: &mut [u32], told: Told) -> Stage
+    requires { Ready s.now end from.at from.rows }
+    ensures { StateRead (told_of told) s.now end (start true) from.at from.rows rows.old result (state parameters 0 false) rows.new }
 {
-    let representation = rows::representation(s, end, at, rows, n);
-    let Stage::Go(after_representation, with_representation) = representation else {
+    let representation = rows::representation(s, end, from, rows);
+    let Stage::Go(behind_representation) = representation else {
         return representation;
     };
-    rows::date(
-        s,
-        end,
-        after_representation,
-        rows,
-        with_representation,
-        0,
-        told,
-    )
+    rows::date(s, end, behind_representation, rows, 0, told)
 }

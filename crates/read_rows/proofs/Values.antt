@@ -1,7 +1,7 @@
 -- A value's stage, with its row kept: what it promises is what reading comes to.
 use Prim.Native.Nat.{ℕ, ◌+◌, ◌-◌, ◌≤◌}
 use mathlib.Core.List.{List}
-use mathlib.Core.Path.{◌≡◌, refl, ap, ◌∙◌}
+use mathlib.Core.Path.{◌≡◌, refl, ap, sym, ◌∙◌}
 use native.Mathlib.Omega.{arith}
 use lib.ListN.{length, get_or}
 use Rattle.meaning.specs.Bytes.{Taken, took, failed}
@@ -13,6 +13,8 @@ use Rattle.laws_steps.specs.Rows.{put}
 use Rattle.laws_steps.specs.Pouring.{stopped, pour, Source, run_at, landed, Ready, not_deep}
 use Rattle.laws_steps.specs.Shapes.{Shaped}
 use Rattle.laws_steps.specs.ReadAt.{coded, strange_code, at_end}
+use Rattle.table.specs.Kinds.{number_of}
+use Rattle.table.specs.Refusals.{answer_of}
 use Rattle.values.specs.declared.Value.{Value}
 use Rattle.values.specs.declared.Value.TheVariants.{Is, Refused}
 use Rattle.values.specs.Stages.{spans, misses, span, span_of, Stands, Valued, Coded, ended, unknown, valued}
@@ -25,12 +27,12 @@ value_fits s end at n kind back taken (Is k start len p) h a =
     let small = h.small in
     let stands = a.stands in
     (omega arith, omega arith)
-value_fits s end at n kind back taken (Refused refusal p) h a = tt
+value_fits s end at n kind back taken (Refused fault) h a = tt
 
 pub coded_fits : (t : Told) (s : List ℕ) (end at n strange : ℕ) (shape : Next → List Move) (v : Value) → Ready s end at n → Coded t shape strange s end at v → Fits v
 unfolding Fits
 coded_fits t s end at n strange shape v h (ended q) = tt
-coded_fits t s end at n strange shape v h (unknown l q) = tt
+coded_fits t s end at n strange shape v h (unknown z l q) = tt
 coded_fits t s end at n strange shape v h (valued kind form l b q a) = value_fits s end at n kind (reach_back form) (take_value t form (end - at) (get_or s at 0) (from s (at + 1) end)) v h a
 
 module _ (i : Source) (at n level : ℕ) (m : List ℕ) (ready : Ready i.bytes i.end at n) where
@@ -59,18 +61,18 @@ module _ (i : Source) (at n level : ℕ) (m : List ℕ) (ready : Ready i.bytes i
       let few = ready.few in
       let u : i.end - (length (from i.bytes p i.end) + len + back) ≡ start = omega (arith, from_length i.bytes p i.end before ready.whole) in
       record { goes = landed_spans back kind q len (from i.bytes p i.end) taken a.is ∙ rw (u, kinds) refl; moved = (omega arith, before, omega arith) }
-  value_kept kind back q taken (Refused refusal p) a =
-      let h : p ≤ i.end = a.stands in
-      let u : i.end - (i.end - p) ≡ p = omega arith in
-      record { goes = landed_misses back kind q refusal (i.end - p) taken a.is ∙ rw u refl; moved = tt }
+  value_kept kind back q taken (Refused fault) a =
+      let h : fault.at ≤ i.end = a.stands in
+      let u : i.end - (i.end - fault.at) ≡ fault.at = omega arith in
+      record { goes = landed_misses back kind q (answer_of fault.refusal) (i.end - fault.at) taken a.is ∙ rw u refl; moved = tt }
 
   -- the value behind a code, in a room of that shape
   pub coded_kept : (refusal : ℕ) (shape : Next → List Move) (q d : State) (v : Value) → Shaped i.told q d level refusal shape → Coded i.told shape refusal i.bytes i.end at v
       → Ran i at (run_at i q at n m) (goes_on v n) d (keeps v n level m)
   coded_kept refusal shape q d v h (ended e) =
       refusing (at_end i at n m q (from_end i.bytes at i.end (omega arith)) e h.ajar)
-  coded_kept refusal shape q d v h (unknown l y) =
-      refusing (strange_code i at n m (get_or i.bytes at 0) l ready.whole (from_cons i.bytes at i.end l ready.whole) q refusal (ap (look (get_or i.bytes at 0)) h.has ∙ y h.out) h.ajar h.odd)
+  coded_kept refusal shape q d v h (unknown z l y) =
+      refusing (strange_code i at n m (get_or i.bytes at 0) l ready.whole (from_cons i.bytes at i.end l ready.whole) q refusal (ap (look (get_or i.bytes at 0)) h.has ∙ y h.out) h.ajar h.odd ∙ ap (λ (x : ℕ). stopped x at) (sym z))
   coded_kept refusal shape q d v h (valued kind form l b y a) =
       let code = get_or i.bytes at 0 in
       let hits : look code (moves i.told.edition q.room) ≡ hit (on code ▸ kind ▸ form ▸ h.out) = ap (look code) h.has ∙ y h.out in

@@ -1,6 +1,6 @@
 -- What the stages of the reader promise of the inside of an envelope: one equation, over the definitions of `meaning`.
 -- Reading from where a stage began, with its rows stored in lent memory, is reading on from what the stage answered.
-use Rattle.std.specs.Prelude.{ℕ, ◌+◌, ◌≤◌, List, ◌≡◌, ltb}
+use Rattle.std.specs.Prelude.{ℕ, ◌+◌, ◌≤◌, List, Option, None, Some, ◌≡◌, ltb}
 use Rattle.meaning.specs.Basics.{pick}
 use Rattle.meaning.specs.Bytes.{Rule}
 use Rattle.meaning.specs.Kinds.{payload_length}
@@ -12,16 +12,19 @@ use Rattle.values.specs.declared.Value.{Value}
 use Rattle.values.specs.declared.Value.TheVariants as value
 use Rattle.table.specs.declared.answers.Stage.{Stage}
 use Rattle.table.specs.declared.answers.Stage.TheVariants.{Go, Refused}
+use Rattle.table.specs.declared.refusals.Refusal.TheVariants.{CodeWrong, EnvelopeEnds}
+use Rattle.table.specs.Kinds.{number_of}
+use Rattle.table.specs.Refusals.{answer_of}
 
 -- "either a value with the place after it, or a refusal": what each case of the enum says, in the state q with the memory m
 unfoldable pub after : Source → State → List ℕ → Stage → Filling
-after i q m (Go p n) = run_at i q p n m
-after i q m (Refused p refusal) = stopped refusal p
+after i q m (Go to) = run_at i q to.at to.rows m
+after i q m (Refused fault) = stopped (answer_of fault.refusal) fault.at
 
 -- a stage goes forward, not past the declared end, and has no more rows than bytes
 unfoldable pub Moved : ℕ → ℕ → Stage → Type 0
-Moved least end (Go p n) = (least ≤ p) × (p ≤ end) × (n ≤ p)
-Moved least end (Refused p refusal) = Unit {0}
+Moved least end (Go to) = (least ≤ to.at) × (to.at ≤ end) × (to.rows ≤ to.at)
+Moved least end (Refused fault) = Unit {0}
 
 -- what a stage answers: from the filling o of its beginning, reading goes on as from r, in the state q with the memory m
 pub record Ran (i : Source) (least : ℕ) (o : Filling) (r : Stage) (q : State) (m : List ℕ) : Type 0 where
@@ -40,21 +43,26 @@ TextRead t s end kind rule level q at n m r d left = Ran (source t s end) (at + 
 abbrev pub NumberRead : Told → List ℕ → ℕ → State → ℕ → ℕ → List ℕ → Stage → State → List ℕ → Type 0
 NumberRead t s end q at n m r d left = Ran (source t s end) (at + 1) (number_at (source t s end) payload_length 0 q at n m) r d left
 
+-- what a look finds, as the laws have it: 256 at the declared end
+abbrev pub found : Option ℕ → ℕ
+found None = 256
+found (Some b) = b
+
 -- "6: a byte is needed at the declared end"; "7: code not allowed here"
 abbrev pub fault_of : ℕ → ℕ → Stage
-fault_of b at = pick (ltb b 256) (Refused at 7) (Refused at 6)
+fault_of b at = pick (ltb b 256) (Refused (record { refusal = CodeWrong; at = at })) (Refused (record { refusal = EnvelopeEnds; at = at }))
 
 -- A value, kept as a row
 
 abbrev pub goes_on : Value → ℕ → Stage
-goes_on (value.Is kind start len after) n = Go after (n + 1)
-goes_on (value.Refused refusal at) n = Refused at refusal
+goes_on (value.Is kind start len after) n = Go (record { at = after; rows = n + 1 })
+goes_on (value.Refused fault) n = Refused fault
 
 abbrev pub keeps : Value → ℕ → ℕ → List ℕ → List ℕ
-keeps (value.Is kind start len after) n level m = put m n kind level start len
-keeps (value.Refused refusal at) n level m = m
+keeps (value.Is kind start len after) n level m = put m n (number_of kind) level start len
+keeps (value.Refused fault) n level m = m
 
 -- numbers of a row that fit u32
 unfoldable pub Fits : Value → Type 0
 Fits (value.Is kind start len after) = (start ≤ header_most) × (len ≤ header_most)
-Fits (value.Refused refusal at) = Unit {0}
+Fits (value.Refused fault) = Unit {0}

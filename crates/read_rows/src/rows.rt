@@ -1,16 +1,20 @@
-// One value and its row. Each function takes the value off the input from its first byte on, and the count n of rows so far.
-// It answers the place behind the value and n + 1, with the row put as row n where `rows` has room for it; or the value's refusal, with no row changed.
-ghost use Rattle.std.specs.Prelude.{◌≡◌, ◌≤◌};
+// One value and its row. Each function takes the value off the input, from its first byte on.
+// It answers the place behind the value and one row more, with the row put where `rows` has room for it; or the value's refusal, with no row changed.
+ghost use Rattle.std.specs.Prelude.{◌≡◌, ◌≤◌, ◌+◌};
 ghost use Rattle.meaning.specs.Told as meaning;
 ghost use Rattle.meaning.specs.Editions.{State, any_values, representations};
+ghost use Rattle.laws_steps.specs.Rows.{put};
 ghost use Rattle.laws_steps.specs.Pouring.{header_most, Ready};
 ghost use Rattle.laws_steps.specs.Shapes.{Shaped};
+ghost use Rattle.table.specs.Kinds.{number_of};
+ghost use Rattle.table.specs.Rows.{u32_most};
 ghost use Rattle.table.specs.Told.{edition_of, told_of};
 ghost use Rattle.date.specs.Dates.{dates_of};
 ghost use Rattle.values.specs.Stages.{rule_of};
 ghost use Rattle.read_rows.specs.Stages.{goes_on, keeps, Fits, TextRead, NumberRead, StateRead};
 
-use table::answers::Stage;
+use table::answers::{Reached, Stage};
+use table::kinds::Kind;
 use table::rows::put_row;
 use table::told::Told;
 use values::Value;
@@ -20,81 +24,63 @@ use values::text::Rule;
 pub fn text(
     s: &[u8],
     end: usize,
-    at: usize,
+    from: Reached,
     rows: &mut [u32],
-    n: usize,
-    kind: u32,
+    kind: Kind,
     rule: Rule,
     level: u32,
 ) -> Stage
-    requires { Ready s.now end at n }
-    ensures { (t : meaning.Told) (q : State) → TextRead t s.now end kind (rule_of rule) level q at n rows.old result q rows.new }
+    requires { Ready s.now end from.at from.rows }
+    ensures { (t : meaning.Told) (q : State) → TextRead t s.now end (number_of kind) (rule_of rule) level q from.at from.rows rows.old result q rows.new }
 {
-    let v = values::text::take(s, end, at, kind, rule);
-    keep(v, rows, n, level)
+    let v = values::text::take(s, end, from.at, kind, rule);
+    keep(v, rows, from.rows, level)
 }
 
 // A payload length.
-pub fn number(s: &[u8], end: usize, at: usize, rows: &mut [u32], n: usize) -> Stage
-    requires { Ready s.now end at n }
-    ensures { (t : meaning.Told) (q : State) → NumberRead t s.now end q at n rows.old result q rows.new }
+pub fn number(s: &[u8], end: usize, from: Reached, rows: &mut [u32]) -> Stage
+    requires { Ready s.now end from.at from.rows }
+    ensures { (t : meaning.Told) (q : State) → NumberRead t s.now end q from.at from.rows rows.old result q rows.new }
 {
-    let v = values::number::take(s, end, at);
-    keep(v, rows, n, 0)
+    let v = values::number::take(s, end, from.at);
+    keep(v, rows, from.rows, 0)
 }
 
 // An any-value, whose row has this level.
-pub fn any(
-    s: &[u8],
-    end: usize,
-    at: usize,
-    rows: &mut [u32],
-    n: usize,
-    level: u32,
-    told: Told,
-) -> Stage
-    requires { Ready s.now end at n }
-    ensures { (q d : State) → Shaped (told_of told) q d level 7 any_values → StateRead (told_of told) s.now end q at n rows.old result d rows.new }
+pub fn any(s: &[u8], end: usize, from: Reached, rows: &mut [u32], level: u32, told: Told) -> Stage
+    requires { Ready s.now end from.at from.rows }
+    ensures { (q d : State) → Shaped (told_of told) q d level 7 any_values → StateRead (told_of told) s.now end q from.at from.rows rows.old result d rows.new }
 {
-    let v = values::any::take(s, end, at, told);
-    keep(v, rows, n, level)
+    let v = values::any::take(s, end, from.at, told);
+    keep(v, rows, from.rows, level)
 }
 
 // The same of a transport behaviour, whose row has level 0.
-pub fn behaviour(s: &[u8], end: usize, at: usize, rows: &mut [u32], n: usize, told: Told) -> Stage
-    requires { Ready s.now end at n }
-    ensures { (q d : State) → Shaped (told_of told) q d 0 7 any_values → StateRead (told_of told) s.now end q at n rows.old result d rows.new }
+pub fn behaviour(s: &[u8], end: usize, from: Reached, rows: &mut [u32], told: Told) -> Stage
+    requires { Ready s.now end from.at from.rows }
+    ensures { (q d : State) → Shaped (told_of told) q d 0 7 any_values → StateRead (told_of told) s.now end q from.at from.rows rows.old result d rows.new }
 {
-    let v = values::any::take_in_place(s, end, at, told);
-    keep(v, rows, n, 0)
+    let v = values::any::take_in_place(s, end, from.at, told);
+    keep(v, rows, from.rows, 0)
 }
 
 // A representation.
-pub fn representation(s: &[u8], end: usize, at: usize, rows: &mut [u32], n: usize) -> Stage
-    requires { Ready s.now end at n }
-    ensures { (t : meaning.Told) (q d : State) → Shaped t q d 0 7 representations → StateRead t s.now end q at n rows.old result d rows.new }
+pub fn representation(s: &[u8], end: usize, from: Reached, rows: &mut [u32]) -> Stage
+    requires { Ready s.now end from.at from.rows }
+    ensures { (t : meaning.Told) (q d : State) → Shaped t q d 0 7 representations → StateRead t s.now end q from.at from.rows rows.old result d rows.new }
 {
-    let v = values::representation::take(s, end, at);
-    keep(v, rows, n, 0)
+    let v = values::representation::take(s, end, from.at);
+    keep(v, rows, from.rows, 0)
 }
 
 // A date, whose row has this level.
-pub fn date(
-    s: &[u8],
-    end: usize,
-    at: usize,
-    rows: &mut [u32],
-    n: usize,
-    level: u32,
-    told: Told,
-) -> Stage
-    requires { Ready s.now end at n }
+pub fn date(s: &[u8], end: usize, from: Reached, rows: &mut [u32], level: u32, told: Told) -> Stage
+    requires { Ready s.now end from.at from.rows }
     ensures { (q d : State) → Shaped (told_of told) q d level 9 (dates_of (edition_of told.edition)) →
-        StateRead (told_of told) s.now end q at n rows.old result d rows.new }
+        StateRead (told_of told) s.now end q from.at from.rows rows.old result d rows.new }
 {
-    let edition = told.edition;
-    let v = date::take(s, end, at, edition);
-    keep(v, rows, n, level)
+    let v = date::take(s, end, from.at, told.edition);
+    keep(v, rows, from.rows, level)
 }
 
 // Takes a value's answer. Puts its row as row n and goes on behind it, or hands its refusal up.
@@ -103,10 +89,7 @@ fn keep(value: Value, rows: &mut [u32], n: usize, level: u32) -> Stage
     ensures { (result ≡ goes_on value n) × (rows.new ≡ keeps value n level rows.old) }
 {
     match value {
-        Value::Refused { refusal, at } => Stage::Refused {
-            refusal: refusal,
-            at: at,
-        },
+        Value::Refused(fault) => Stage::Refused(fault),
         Value::Is {
             kind,
             start,
@@ -114,8 +97,24 @@ fn keep(value: Value, rows: &mut [u32], n: usize, level: u32) -> Stage
             after,
         } => {
             put_row(rows, n, kind, level, start, length);
-            let next = n + 1;
-            Stage::Go(after, next)
+            Stage::Go(Reached {
+                at: after,
+                rows: n + 1,
+            })
         }
+    }
+}
+
+// Puts the row, of this kind and level, that the code at a place opens. Answers the place behind the code and one row more.
+pub fn open(rows: &mut [u32], from: Reached, kind: Kind, level: u32) -> Reached
+    requires { (from.at ≤ u32_most) × (from.rows ≤ u32_most) }
+    ensures at { result.at ≡ from.at + 1 }
+    ensures rows { result.rows ≡ from.rows + 1 }
+    ensures put { rows.new ≡ put rows.old from.rows (number_of kind) level from.at 0 }
+{
+    put_row(rows, from.rows, kind, level, from.at, 0);
+    Reached {
+        at: from.at + 1,
+        rows: from.rows + 1,
     }
 }

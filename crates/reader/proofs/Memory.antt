@@ -9,7 +9,7 @@ use lib.ListN.{length, take, drop, length-drop}
 use lib.Seq.{take_all}
 use borrow.Author.Tests.{le-leb, lt-leb, leb-true}
 use Rattle.meaning.specs.Basics.{pick}
-use Rattle.meaning.specs.Told.{label_of, Strictness, strict}
+use Rattle.meaning.specs.Told.{Edition, B, D, known, unknown, label_of, Strictness, strict, told_by}
 use Rattle.meaning.specs.Headers.{Answer, refused, accepted, envelope_most, envelopes_most, labelled, read_by, read}
 use Rattle.meaning.specs.Skips.{Rank}
 use Rattle.meaning.specs.Words.{words_of}
@@ -28,42 +28,48 @@ use Rattle.laws_steps.specs.Finishing.{finish}
 use Rattle.skips.specs.Ends.{IsTop}
 use Rattle.lay_skips.specs.Laying.{Finishable, Finished}
 use Rattle.table.specs.declared.reply.Reply.{Reply}
-use Rattle.table.specs.Reply.{reply_of}
-use Rattle.table.specs.declared.told.Edition.{Edition}
-use Rattle.table.specs.declared.told.Label.{Label}
-use Rattle.table.specs.declared.told.Label.TheVariants.{Known, Unknown}
-use Rattle.table.specs.declared.told.Strictness as declared
-use Rattle.table.specs.Told.{label_is, strictness_of, told_of}
+use Rattle.table.specs.Reply.{reply_of, fault_reply}
+use Rattle.table.specs.Refusals.{answer_of}
+use Rattle.table.specs.declared.answers.Fault.{Fault}
+use Rattle.table.specs.declared.answers.Reached.{Reached}
 use Rattle.table.specs.declared.answers.Stage.{Stage}
 use Rattle.table.specs.declared.answers.Stage.TheVariants.{Go, Refused}
+use Rattle.table.specs.declared.refusals.Refusal.TheVariants.{EditionUnknown, RowsShort}
 use Rattle.read_envelopes.specs.Headers.{filling_of, PlaceFits, HeaderRead}
-use Rattle.reader.specs.Promises.{ReadsBy, PartPromise, PayloadPromise, AcceptedHeader, Surveyed, Counted}
+use Rattle.reader.specs.Promises.{ReadsBy, PartPromise, PayloadPromise, AcceptedHeader, Counted}
 
--- One pass
+-- the number that an edition has
+abbrev pub number_of : Edition → ℕ
+number_of B = 1
+number_of D = 2
 
-read_labelled : (w : Strictness) (edition : ℕ) (input : List ℕ) (label : Label) → label_is label ≡ label_of edition → read_by w edition input ≡ labelled w input (label_is label)
-unfolding read_by
-read_labelled w edition input label h = ap (labelled w input) (sym h)
+pub numbered : (e : Edition) → label_of (number_of e) ≡ known e
+numbered B = refl
+numbered D = refl
 
-module _ (strictness : declared.Strictness) (edition : ℕ) (input m : List ℕ) (label : Label) (is : label_is label ≡ label_of edition) where
-  abbrev w : Strictness
-  w = strictness_of strictness
+-- One pass: what it comes to, with the rows in lent memory
 
-  pub unknown_edition : {left : List ℕ} → label ≡ Unknown → Surveyed w edition input m (Refused 0 1) left
-  unfolding filling_of PlaceFits
-  unknown_edition h = record { is = ap (λ (x : Answer). finish x 0 m) (read_labelled w edition input label is ∙ ap (λ (x : Label). labelled w input (label_is x)) h); fits = tt }
+pub record Surveyed (strictness : Strictness) (edition : ℕ) (input before : List ℕ) (r : Stage) (after : List ℕ) : Type 0 where
+  pub is : finish (read_by strictness edition input) 0 before ≡ filling_of after r
+  pub fits : PlaceFits input r
 
-  pub known_edition : {e : Edition} {left : List ℕ} {r : Stage} → label ≡ Known e → HeaderRead (told_of (record { edition = e; strictness = strictness })) input m r left → Surveyed w edition input m r left
-  known_edition h a = record { is = ap (λ (x : Answer). finish x 0 m) (read_labelled w edition input label is ∙ ap (λ (x : Label). labelled w input (label_is x)) h) ∙ a.is; fits = a.fits }
+module _ (w : Strictness) (edition : ℕ) (input m : List ℕ) where
+  pub unknown_edition : {left : List ℕ} → label_of edition ≡ unknown → Surveyed w edition input m (Refused (record { refusal = EditionUnknown; at = 0 })) left
+  unfolding read_by filling_of PlaceFits
+  unknown_edition h = record { is = ap (λ (x : Answer). finish x 0 m) (ap (labelled w input) h); fits = tt }
+
+  pub known_edition : {e : Edition} {left : List ℕ} {r : Stage} → label_of edition ≡ known e → HeaderRead (told_by w e) input m r left → Surveyed w edition input m r left
+  unfolding read_by
+  known_edition h a = record { is = ap (λ (x : Answer). finish x 0 m) (ap (labelled w input) h) ∙ a.is; fits = a.fits }
 
 -- What the first pass found
 
 module _ (w : Strictness) (edition : ℕ) (input m left : List ℕ) where
-  accepted_by : (p n : ℕ) (a : Answer) → read_by w edition input ≡ a → finish a 0 m ≡ filled p n left → p ≤ length input → n ≤ header_most + envelope_most → AcceptedHeader w edition input p n
-  accepted_by p n (refused refusal place) h q u f = absurd (let z : ◌≡◌ {A = ℕ} 0 1 = cc in omega arith)
-  accepted_by p n (accepted place rs) h q d f =
-      let u : place ≡ p = cc in
-      let v : 0 + length rs ≡ n = cc in
+  accepted_by : (to : Reached) (a : Answer) → read_by w edition input ≡ a → finish a 0 m ≡ filled to.at to.rows left → to.at ≤ length input → to.rows ≤ header_most + envelope_most → AcceptedHeader w edition input to
+  accepted_by to (refused refusal place) h q u f = absurd (let z : ◌≡◌ {A = ℕ} 0 1 = cc in omega arith)
+  accepted_by to (accepted place rs) h q d f =
+      let u : place ≡ to.at = cc in
+      let v : 0 + length rs ≡ to.rows = cc in
       record { rows = rs; is = h ∙ ap (λ (x : ℕ). accepted x rs) u; count = omega arith; within = d; few = f }
 
   refused_by : (refusal p : ℕ) (a : Answer) → finish a 0 m ≡ stopped refusal p → a ≡ refused refusal p
@@ -73,35 +79,35 @@ module _ (w : Strictness) (edition : ℕ) (input m left : List ℕ) where
       rw (u, v) refl
   refused_by refusal p (accepted place rs) q = absurd (let z : ◌≡◌ {A = ℕ} 0 1 = cc in omega arith)
 
-  pub header_counted : {r : Stage} {p n : ℕ} → r ≡ Go p n → Surveyed w edition input m r left → AcceptedHeader w edition input p n
+  pub header_counted : {r : Stage} {to : Reached} → r ≡ Go to → Surveyed w edition input m r left → AcceptedHeader w edition input to
   unfolding filling_of PlaceFits
-  header_counted {p = p} {n = n} h a =
+  header_counted {to = to} h a =
       let is = rw h at a.is in
       let fits = rw h at a.fits in
-      accepted_by p n (read_by w edition input) refl is fits.0 fits.1
+      accepted_by to (read_by w edition input) refl is fits.0 fits.1
 
-  header_refused : {r : Stage} {refusal p : ℕ} → r ≡ Refused p refusal → Surveyed w edition input m r left → read_by w edition input ≡ refused refusal p
+  header_refused : {r : Stage} {fault : Fault} → r ≡ Refused fault → Surveyed w edition input m r left → read_by w edition input ≡ refused (answer_of fault.refusal) fault.at
   unfolding filling_of
-  header_refused {refusal = refusal} {p = p} h a = let is = rw h at a.is in refused_by refusal p (read_by w edition input) is
+  header_refused {fault = fault} h a = let is = rw h at a.is in refused_by (answer_of fault.refusal) fault.at (read_by w edition input) is
 
-  pub refusal_answered : T (are_bytes input) → (before words : List ℕ) {r : Stage} {refusal p : ℕ} {answer : Reply} → r ≡ Refused p refusal → Surveyed w edition input m r left → reply_of answer ≡ reply refusal p 0 → ReadsBy w edition input before words answer before words
+  pub refusal_answered : T (are_bytes input) → (before words : List ℕ) {r : Stage} {fault : Fault} {answer : Reply} → r ≡ Refused fault → Surveyed w edition input m r left → reply_of answer ≡ fault_reply fault → ReadsBy w edition input before words answer before words
   unfolding answer_by rows_by words_by
   refusal_answered t before words h a s = let q = header_refused h a in record { bytes = t; answers = s ∙ rw q refl; rows = rw q refl; carries = rw q refl }
 
 -- .. of a strict reading, whatever was lent
 pub counted : (edition : ℕ) (input m left : List ℕ) {r : Stage} → Surveyed strict edition input m r left → Counted edition input r
-counted edition input m left a = record { refuses = λ place refusal h. header_refused strict edition input m left h a; accepts = λ place n h. header_counted strict edition input m left h a }
+counted edition input m left a = record { refuses = λ fault h. header_refused strict edition input m left h a; accepts = λ to h. header_counted strict edition input m left h a }
 
 -- where the payload lies, by the strict reading
 module _ (edition : ℕ) (input : List ℕ) where
-  pub no_part : {r : Stage} {refusal p : ℕ} → r ≡ Refused p refusal → Counted edition input r → PartPromise edition input (record { start = 0; end = 0 })
+  pub no_part : {r : Stage} {fault : Fault} → r ≡ Refused fault → Counted edition input r → PartPromise edition input (record { start = 0; end = 0 })
   unfolding payload_start payload_end
-  no_part h a = let q = a.refuses _ _ h in record { starts = rw q refl; ends = rw q refl; forward = omega arith; inside = omega arith }
+  no_part h a = let q = a.refuses _ h in record { starts = rw q refl; ends = rw q refl; forward = omega arith; inside = omega arith }
 
-  pub the_part : {r : Stage} {p n : ℕ} → r ≡ Go p n → Counted edition input r → PartPromise edition input (record { start = p; end = length input })
+  pub the_part : {r : Stage} {to : Reached} → r ≡ Go to → Counted edition input r → PartPromise edition input (record { start = to.at; end = length input })
   unfolding payload_start payload_end
   the_part h a =
-      let c = a.accepts _ _ h in
+      let c = a.accepts _ h in
       let q = c.is in
       record { starts = rw q refl; ends = rw q refl; forward = c.within; inside = omega arith }
 
@@ -111,9 +117,9 @@ begins_with : {k : ℕ} {ranks rest : List Rank} {r : Rank} → Split k ranks �
 begins_with nothing q = absurd (let z : ◌≡◌ {A = ℕ} 0 1 = cc q in omega arith)
 begins_with (first b inner rest n t z e more) q = (b, cc q)
 
-module _ (w : Strictness) (edition : ℕ) (input m words : List ℕ) (place n : ℕ) (a : AcceptedHeader w edition input place n) where
+module _ (w : Strictness) (edition : ℕ) (input m words : List ℕ) (to : Reached) (a : AcceptedHeader w edition input to) where
   -- "14: all well, but rows exceed the room"
-  pub too_many : T (are_bytes input) → room_with m words < n → ReadsBy w edition input m words (record { answer = 14; place = place; rows = n }) m words
+  pub too_many : T (are_bytes input) → room_with m words < to.rows → ReadsBy w edition input m words (record { answer = 14; place = to.at; rows = to.rows }) m words
   unfolding answer_by rows_by words_by
   too_many t h =
       let c = a.count in
@@ -121,40 +127,40 @@ module _ (w : Strictness) (edition : ℕ) (input m words : List ℕ) (place n : 
       record { bytes = t; answers = rw (a.is, q, c) refl; rows = rw (a.is, q) refl; carries = rw (a.is, q) refl }
 
   tabled : AtMost envelopes_most (ranks_read a.rows)
-  tabled = accepted_tabled w edition input place a.rows a.is
+  tabled = accepted_tabled w edition input to.at a.rows a.is
 
   -- there is a row, so what has room has its sixteen words
-  pub enough : n ≤ room_with m words → (n ≤ room_of m) × (16 ≤ length words)
+  pub enough : to.rows ≤ room_with m words → (to.rows ≤ room_of m) × (16 ≤ length words)
   enough h = at (leb 16 (length words)) refl h
     where
-      at : (z : Bool) → leb 16 (length words) ≡ z → n ≤ pick z (room_of m) 0 → (n ≤ room_of m) × (16 ≤ length words)
+      at : (z : Bool) → leb 16 (length words) ≡ z → to.rows ≤ pick z (room_of m) 0 → (to.rows ≤ room_of m) × (16 ≤ length words)
       at true q k = (k, leb-true 16 (length words) q)
       at false q k = absurd (omega (arith, a.count, some_row envelopes_most a.rows tabled))
 
-  filled_by : (left : List ℕ) (r : Stage) → finish (accepted place a.rows) 0 m ≡ filling_of left r → put_all a.rows 0 m ≡ left
+  filled_by : (left : List ℕ) (r : Stage) → finish (accepted to.at a.rows) 0 m ≡ filling_of left r → put_all a.rows 0 m ≡ left
   unfolding filling_of
-  filled_by left (Go p k) q = cc
-  filled_by left (Refused p refusal) q = absurd (let z : ◌≡◌ {A = ℕ} 0 1 = cc in omega arith)
+  filled_by left (Go reached) q = cc
+  filled_by left (Refused fault) q = absurd (let z : ◌≡◌ {A = ℕ} 0 1 = cc in omega arith)
 
-  module _ (mid : List ℕ) (r : Stage) (h : n ≤ room_with m words) (f : Surveyed w edition input m r mid) where
+  module _ (mid : List ℕ) (r : Stage) (h : to.rows ≤ room_with m words) (f : Surveyed w edition input m r mid) where
     kept : put_all a.rows 0 m ≡ mid
     kept = filled_by mid r (ap (λ (x : Answer). finish x 0 m) (sym a.is) ∙ f.is)
 
-    ranks : ranks_for mid 0 n ≡ ranks_read a.rows
-    ranks = put_ranks a.rows m mid n kept a.count (enough h).0
+    ranks : ranks_for mid 0 to.rows ≡ ranks_read a.rows
+    ranks = put_ranks a.rows m mid to.rows kept a.count (enough h).0
 
-    ranks_from : ranks_at mid n 0 ≡ ranks_read a.rows
-    ranks_from = let q : n - 0 ≡ n = omega arith in ap (ranks_for mid 0) q ∙ ranks
+    ranks_from : ranks_at mid to.rows 0 ≡ ranks_read a.rows
+    ranks_from = let q : to.rows - 0 ≡ to.rows = omega arith in ap (ranks_for mid 0) q ∙ ranks
 
     -- what the third pass is told
-    pub finishable : T (are_bytes input) → length mid ≡ length m → Finishable mid n words
+    pub finishable : T (are_bytes input) → length mid ≡ length m → Finishable mid to.rows words
     finishable t same = record {
       stands = record {
         room = omega (arith, same, (enough h).0);
         most = omega (arith, a.few);
-        opens = λ some. begins_with (tabled_split tabled.2) (sym (ranks_next mid n 0 some) ∙ ranks_from);
-        each = put_stands a.rows m mid n kept a.count (enough h).0 (tabled_split tabled.2);
-        beside = neighbours_at mid n (top true) (ranks_read a.rows) ranks (read_neighbours w edition input place a.rows t a.is (top true));
+        opens = λ some. begins_with (tabled_split tabled.2) (sym (ranks_next mid to.rows 0 some) ∙ ranks_from);
+        each = put_stands a.rows m mid to.rows kept a.count (enough h).0 (tabled_split tabled.2);
+        beside = neighbours_at mid to.rows (top true) (ranks_read a.rows) ranks (read_neighbours w edition input to.at a.rows t a.is (top true));
       };
       count = tabled.0;
       split = subst (Split tabled.0) (sym ranks_from) (tabled_split tabled.2);
@@ -162,13 +168,13 @@ module _ (w : Strictness) (edition : ℕ) (input m words : List ℕ) (place n : 
     }
 
     -- the rows, then their skip numbers and the words
-    pub all_filled : T (are_bytes input) → (left words' : List ℕ) → Finished mid words n left words' → ReadsBy w edition input m words (record { answer = 0; place = place; rows = n }) left words'
+    pub all_filled : T (are_bytes input) → (left words' : List ℕ) → Finished mid words to.rows left words' → ReadsBy w edition input m words (record { answer = 0; place = to.at; rows = to.rows }) left words'
     unfolding answer_by rows_by words_by
     all_filled t left words' d =
         let c = a.count in
         let q : leb (length a.rows) (room_with m words) ≡ true = le-leb (length a.rows) (room_with m words) (omega arith) in
         let laid : left ≡ laid_over m (table_of a.rows)
-        = d.rows_are ∙ ap (λ (x : List ℕ). skips_laid x n n) (sym kept) ∙ ap (λ (x : ℕ). skips_laid (put_all a.rows 0 m) x x) (sym c) ∙ all_laid_over a.rows m (omega (arith, (enough h).0)) in
+        = d.rows_are ∙ ap (λ (x : List ℕ). skips_laid x to.rows to.rows) (sym kept) ∙ ap (λ (x : ℕ). skips_laid (put_all a.rows 0 m) x x) (sym c) ∙ all_laid_over a.rows m (omega (arith, (enough h).0)) in
         record { bytes = t; answers = rw (a.is, q, c) refl; rows = rw (a.is, q) laid; carries = rw (a.is, q) (d.words_are ∙ ap (λ (x : List Rank). laid_over words (words_of x)) ranks_from) }
 
 -- lent no rows, the first pass leaves them as they are

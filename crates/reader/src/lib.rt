@@ -1,20 +1,21 @@
 // The reader: a header as rows and words in lent memory, and the payload behind it.
 #![tactic(auto)]
 
-ghost use Rattle.std.specs.Prelude.{◌≡◌, ◌/◌, leb};
+ghost use Rattle.std.specs.Prelude.{◌≡◌, ℕ, ◌/◌, leb};
 ghost use Rattle.meaning.specs.Basics.{pick};
 ghost use Rattle.meaning.specs.Memory.{row_width, words_borrowed};
-ghost use Rattle.table.specs.Told.{strictness_of};
-ghost use Rattle.reader.specs.Promises.{ReadsBy, ReadPromise, TolerantPromise, PartPromise, PayloadPromise, AcceptedHeader, Surveyed, Counted};
+ghost use Rattle.meaning.specs.Told.{label_of, known};
+ghost use Rattle.table.specs.Told.{edition_of, strictness_of, told_of};
+ghost use Rattle.reader.specs.Promises.{ReadsBy, ReadPromise, TolerantPromise, PartPromise, PayloadPromise, Accepted, Counted};
 
 use lay_skips::finish;
 use read_envelopes::header::read_header;
-use table::answers::Stage;
+use table::answers::{Reached, Stage};
 use table::limits::WORDS_BORROWED;
-use table::refusals::{EDITION_UNKNOWN, ROWS_SHORT};
-use table::reply::{Reply, refused};
+use table::refusals::Refusal;
+use table::reply::Reply;
 use table::rows::room;
-use table::told::{Label, Strictness, Told, label_of};
+use table::told::{Edition, Strictness, Told};
 
 // A part of the input: its first place, and the place behind its last byte.
 #[repr(C)]
@@ -41,7 +42,7 @@ pub fn read_tolerant(edition: u32, input: &[u8], rows: &mut [u32], words: &mut [
 }
 
 // Either of the two. Two passes of the same functions: the first, over no rows, validates and counts; the second fills. A third, over the
-// rows, lays their skip numbers and the words.
+// rows, lays their skip numbers and the words. "1: edition not 1 or 2; before all else, 0."
 fn read_by(
     edition: u32,
     strictness: Strictness,
@@ -51,10 +52,17 @@ fn read_by(
 ) -> Reply
     ensures { ReadsBy (strictness_of strictness) edition input.now rows.old words.old result rows.new words.new }
 {
-    let counted = survey(edition, strictness, input, &mut rows[..0]);
+    let Ok(edition) = Edition::try_from(edition) else {
+        return Reply::from(Refusal::EditionUnknown.at(0));
+    };
+    let told = Told {
+        edition,
+        strictness,
+    };
+    let counted = read_header(input, &mut rows[..0], told);
     match counted {
-        Stage::Refused { refusal, at } => refused(refusal, at),
-        Stage::Go(at, n) => fill(edition, strictness, input, rows, words, at, n),
+        Stage::Refused(fault) => Reply::from(fault),
+        Stage::Go(to) => fill(told, input, rows, words, to),
     }
 }
 
@@ -63,56 +71,45 @@ fn read_by(
 pub fn count(edition: u32, input: &[u8]) -> Stage
     ensures { Counted edition input.now result }
 {
-    let mut none = [0u32; 1];
-    survey(edition, Strictness::Strict, input, &mut none[..0])
+    let Ok(known) = Edition::try_from(edition) else {
+        return Stage::Refused(Refusal::EditionUnknown.at(0));
+    };
+    count_in(known, input)
 }
 
-// One pass over the header. Answers the place behind it and how many rows it has, or the refusal: "1: edition not 1 or 2; before all else, 0."
-// The rows are put where `rows` has room for them: over no rows they are counted, over enough they are filled.
-fn survey(edition: u32, strictness: Strictness, input: &[u8], rows: &mut [u32]) -> Stage
-    ensures { Surveyed (strictness_of strictness) edition input.now rows.old result rows.new }
+// The same in a known edition.
+pub fn count_in(edition: Edition, input: &[u8]) -> Stage
+    ensures { (number : ℕ) → label_of number ≡ known (edition_of edition) → Counted number input.now result }
 {
-    let label = label_of(edition);
-    let Label::Known(known) = label else {
-        return Stage::Refused {
-            refusal: EDITION_UNKNOWN,
-            at: 0,
-        };
-    };
     let told = Told {
-        edition: known,
-        strictness: strictness,
+        edition,
+        strictness: Strictness::Strict,
     };
-    read_header(input, rows, told)
+    let mut none = [0u32; 1];
+    read_header(input, &mut none[..0], told)
 }
 
-// The second pass, over a header that is accepted and has n rows, and then their skip numbers and words. "14: all well, but rows exceed the room":
-// then no row and no word changes.
-pub fn fill(
-    edition: u32,
-    strictness: Strictness,
-    input: &[u8],
-    rows: &mut [u32],
-    words: &mut [u32],
-    place: usize,
-    n: usize,
-) -> Reply
-    requires { AcceptedHeader (strictness_of strictness) edition input.now place n }
-    ensures { ReadsBy (strictness_of strictness) edition input.now rows.old words.old result rows.new words.new }
+// The second pass, over a header that is accepted up to a place with so many rows, and then their skip numbers and words. "14: all well, but rows exceed
+// the room": then no row and no word changes.
+// The header is taken by place and count, and not as a value that only a first pass makes: the relay fills a header that it joined, and no pass accepted.
+pub fn fill(told: Told, input: &[u8], rows: &mut [u32], words: &mut [u32], to: Reached) -> Reply
+    requires { Accepted (told_of told) input.now to }
+    ensures { (edition : ℕ) → label_of edition ≡ known (edition_of told.edition) →
+        ReadsBy (strictness_of told.strictness) edition input.now rows.old words.old result rows.new words.new }
 {
-    if room_with(rows.len(), words.len()) < n {
+    if room_with(rows.len(), words.len()) < to.rows {
         return Reply {
-            answer: ROWS_SHORT,
-            place: place,
-            rows: n,
+            answer: Refusal::RowsShort.answer(),
+            place: to.at,
+            rows: to.rows,
         };
     }
-    survey(edition, strictness, input, rows);
-    finish(rows, n, words);
+    read_header(input, rows, told);
+    finish(rows, to.rows, words);
     Reply {
         answer: 0,
-        place: place,
-        rows: n,
+        place: to.at,
+        rows: to.rows,
     }
 }
 
@@ -133,11 +130,11 @@ pub fn payload_part(edition: u32, input: &[u8]) -> Part
     ensures { PartPromise edition input.now result }
 {
     let r = count(edition, input);
-    let Stage::Go(first, _) = r else {
+    let Stage::Go(header) = r else {
         return Part { start: 0, end: 0 };
     };
     Part {
-        start: first,
+        start: header.at,
         end: input.len(),
     }
 }
@@ -147,7 +144,5 @@ pub fn payload<'a>(edition: u32, input: &'a [u8]) -> &'a [u8]
     ensures { PayloadPromise edition input.now result.now }
 {
     let part = payload_part(edition, input);
-    let start = part.start;
-    let end = part.end;
-    &input[start..end]
+    &input[part.start..part.end]
 }

@@ -161,9 +161,7 @@ fn lay(bytes: &[u8], output: &mut [u8])
     requires { length bytes.now ≤ length output.old }
     ensures { output.new ≡ laid_over output.old bytes.now }
 {
-    let mut i: usize = 0;
-    while i < bytes.len() {
-        output[i] = bytes[i];
-        i += 1;
+    for (i, b) in bytes.iter().enumerate() {
+        output[i] = *b;
     }
 }

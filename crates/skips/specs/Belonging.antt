@@ -21,7 +21,8 @@ by_follower P p₁₇ p₂₀ p₂₁ p₂₆ p₂₈ k h = at (eqb k 17) (eqb k
 pub follower_inner : (k : ℕ) → is_follower k ≡ true → 3 ≤ k
 follower_inner = by_follower (λ k. 3 ≤ k) (omega arith) (omega arith) (omega arith) (omega arith) (omega arith)
 
-alone : (level : ℕ) (s : Rank) (k : ℕ) → holds_deeper k ≡ false → beside k s.kind ≡ false → belongs (rank k level) s ≡ false
+-- a kind that holds nothing has nothing among its rows
+pub alone : (level : ℕ) (s : Rank) (k : ℕ) → holds_deeper k ≡ false → beside k s.kind ≡ false → belongs (rank k level) s ≡ false
 unfolding belongs
 alone level s k h b = rw (h, b) (or_none false (eqb s.level level))
 

@@ -7,21 +7,19 @@ use Rattle.laws_steps.specs.Hopping.{rank_at, given_at, skip_at, skip_forward, H
 use Rattle.skips.specs.Owners.{Hoppable, Owned, owns}
 use Rattle.skips.specs.declared.owner.Owner.{Owner}
 
-module _ (m : List ℕ) (n i : ℕ) (test : ℕ → Rank → Bool) (o : Owned m i test) where
-  -- what the code tested is whether row j belongs to row i
-  tested : (at kind level j : ℕ) {r b : Bool} → at ≡ (rank_at m i).level → kind ≡ get_or m (j * row_width) 0 → level ≡ get_or m (j * row_width + 1) 0 → r ≡ test at (rank kind level) → r ≡ b → belongs (rank_at m i) (rank_at m j) ≡ b
-  tested at kind level j p q x y z =
-      o (rank_at m j) ∙ ap (λ (a : ℕ). test a (rank_at m j)) (sym p) ∙ ap (λ (k : ℕ). test at (rank k (get_or m (j * row_width + 1) 0))) (sym q) ∙ ap (λ (l : ℕ). test at (rank kind l)) (sym x) ∙ sym y ∙ z
+-- what a test told of row j is whether it belongs to row i
+module _ (m : List ℕ) (n i : ℕ) {kind level j : ℕ} {told : Bool} (q : kind ≡ get_or m (j * row_width) 0) (x : level ≡ get_or m (j * row_width + 1) 0) (y : told ≡ belongs (rank_at m i) (rank kind level)) (h : HopsTo m n i j) (l : j < n) where
+  told_of : {b : Bool} → told ≡ b → belongs (rank_at m i) (rank_at m j) ≡ b
+  told_of z = ap (λ (k : ℕ). belongs (rank_at m i) (rank k (get_or m (j * row_width + 1) 0))) (sym q) ∙ ap (λ (v : ℕ). belongs (rank_at m i) (rank kind v)) (sym x) ∙ sym y ∙ z
 
-  module _ (at kind level j : ℕ) {r : Bool} (p : at ≡ (rank_at m i).level) (q : kind ≡ get_or m (j * row_width) 0) (x : level ≡ get_or m (j * row_width + 1) 0) (y : r ≡ test at (rank kind level)) (h : HopsTo m n i j) (l : j < n) where
-    pub hops : {next : ℕ} → Hoppable m n i → r ≡ true → next ≡ given_at m j → HopsTo m n i next
-    hops g t e = subst (HopsTo m n i) (sym (e ∙ g.behind j (omega (arith, h.behind)) l)) (hop_on m n i h l (tested at kind level j p q x y t))
+  pub hops : {next : ℕ} → Hoppable m n i → told ≡ true → next ≡ given_at m j → HopsTo m n i next
+  hops g t e = subst (HopsTo m n i) (sym (e ∙ g.behind j (omega (arith, h.behind)) l)) (hop_on m n i h l (told_of t))
 
-    pub steps : r ≡ true → HopsTo m n i (j + 1)
-    steps t = step_on m n i h l (tested at kind level j p q x y t)
+  pub steps : told ≡ true → HopsTo m n i (j + 1)
+  steps t = step_on m n i h l (told_of t)
 
-    pub stops : r ≡ false → (j ≡ skip_at m n i) × (j ≤ n)
-    stops t = (sym (hop_stops m n i h l (tested at kind level j p q x y t)), h.most)
+  pub stops : told ≡ false → (j ≡ skip_at m n i) × (j ≤ n)
+  stops t = (sym (hop_stops m n i h l (told_of t)), h.most)
 
 -- what row i has among its rows, as the code was told
 pub owned_as : (m : List ℕ) (i : ℕ) {kind : ℕ} {o o' : Owner} → kind ≡ get_or m (i * row_width) 0 → ((level : ℕ) (s : Rank) → belongs (rank kind level) s ≡ owns o level s) → o ≡ o' → Owned m i (owns o')

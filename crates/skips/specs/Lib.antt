@@ -6,3 +6,4 @@ pub mod Hops
 pub mod Passes
 pub mod Ends
 pub mod Classing
+pub mod Ways

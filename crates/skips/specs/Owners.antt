@@ -1,6 +1,5 @@
 -- What an owner has among its rows, and when its rows can be found by hops.
-use Rattle.std.specs.Prelude.{ℕ, ◌+◌, ◌≤◌, ◌<◌, List, Bool, false, ◌&&◌, ◌||◌, ◌≡◌, eqb, ltb}
-use Rattle.meaning.specs.Basics.{pick}
+use Rattle.std.specs.Prelude.{ℕ, Option, Some, None, ◌+◌, ◌≤◌, ◌<◌, List, Bool, false, ◌&&◌, ◌||◌, ◌≡◌, eqb, ltb}
 use Rattle.meaning.specs.Skips.{Rank, belongs, Skips, right, wrong_at}
 use Rattle.meaning.specs.Memory.{room_of}
 use Rattle.laws_steps.specs.Hopping.{rank_at, AllRight}
@@ -38,6 +37,7 @@ pub record Hoppable (m : List ℕ) (n i : ℕ) : Type 0 where
   pub room : n ≤ room_of m
   pub behind : AllRight m n (i + 1)
 
--- what a row's number says among n: it is the lowest with a wrong skip number, or all are right
-abbrev pub held_as : ℕ → ℕ → Skips
-held_as n i = pick (ltb i n) (wrong_at i) right
+-- what is said of skip numbers: this row is the lowest whose number is wrong, or all are right
+abbrev pub held_as : Option ℕ → Skips
+held_as None = right
+held_as (Some i) = wrong_at i

@@ -1,8 +1,6 @@
 -- What a pass over the rows stands on: the rows behind are right, from the last row to the first, and from the first row on.
-use Rattle.std.specs.Prelude.{ℕ, ◌+◌, ◌-◌, ◌≤◌, ◌<◌, List, Bool, ◌≡◌}
-use Rattle.std.proofs.Common.{ap, sym, ◌∙◌, subst, arith, lt-ltb, le-ltb}
-use Rattle.meaning.specs.Basics.{pick}
-use Rattle.meaning.specs.Skips.{right, wrong_at}
+use Rattle.std.specs.Prelude.{ℕ, Option, Some, None, ◌+◌, ◌-◌, ◌≤◌, ◌<◌, List, ◌≡◌}
+use Rattle.std.proofs.Common.{ap, sym, ◌∙◌, subst, arith}
 use Rattle.meaning.specs.Memory.{room_of, skips_held}
 use Rattle.laws_steps.specs.Hopping.{given_at, skip_at, held_at, held_end, held_next, held_wrong, AllRight, all_held, held_are}
 use Rattle.laws_tables.specs.Skipping.{skips_laid, laid_length, laid_skip, laid_same}
@@ -32,17 +30,16 @@ module _ (m : List ℕ) (n i : ℕ) (h : 0 < i) (l : i ≤ n) where
 pub held_on : (m : List ℕ) (n i : ℕ) {given own : ℕ} → held_at m n 0 ≡ held_at m n i → i < n → given ≡ given_at m i → own ≡ skip_at m n i → given ≡ own → held_at m n 0 ≡ held_at m n (i + 1)
 held_on m n i q l g o e = q ∙ held_next m n i l (sym g ∙ e ∙ o)
 
-pub held_stops : (m : List ℕ) (n i : ℕ) {given own : ℕ} → held_at m n 0 ≡ held_at m n i → i < n → given ≡ given_at m i → own ≡ skip_at m n i → (given ≡ own → ⊥) → held_at m n 0 ≡ held_as n i
-held_stops m n i q l g o e = q ∙ held_wrong m n i l (λ z. e (g ∙ z ∙ sym o)) ∙ ap (λ (b : Bool). pick b (wrong_at i) right) (sym (lt-ltb i n l))
+pub held_stops : (m : List ℕ) (n i : ℕ) {given own : ℕ} → held_at m n 0 ≡ held_at m n i → i < n → given ≡ given_at m i → own ≡ skip_at m n i → (given ≡ own → ⊥) → held_at m n 0 ≡ held_as (Some i)
+held_stops m n i q l g o e = q ∙ held_wrong m n i l (λ z. e (g ∙ z ∙ sym o))
 
-pub held_ends : (m : List ℕ) (n i : ℕ) → held_at m n 0 ≡ held_at m n i → n ≤ i → held_at m n 0 ≡ held_as n n
-held_ends m n i q l = q ∙ held_end m n i l ∙ ap (λ (b : Bool). pick b (wrong_at n) right) (sym (le-ltb n n (omega arith)))
+pub held_ends : (m : List ℕ) (n i : ℕ) → held_at m n 0 ≡ held_at m n i → n ≤ i → held_at m n 0 ≡ held_as None
+held_ends m n i q l = q ∙ held_end m n i l
 
 -- Both
 
-pub all_right_held : (m : List ℕ) (n : ℕ) → n ≡ room_of m → AllRight m n 0 → skips_held m ≡ held_as (room_of m) n
-all_right_held m n q a =
-    held_are m ∙ ap (λ (x : ℕ). held_at m x 0) (sym q) ∙ all_held m n a ∙ ap (λ (b : Bool). pick b (wrong_at n) right) (sym (le-ltb n (room_of m) (omega arith)))
+pub all_right_held : (m : List ℕ) (n : ℕ) → n ≡ room_of m → AllRight m n 0 → skips_held m ≡ held_as None
+all_right_held m n q a = held_are m ∙ ap (λ (x : ℕ). held_at m x 0) (sym q) ∙ all_held m n a
 
-pub lowest_held : (m : List ℕ) (n i : ℕ) → n ≡ room_of m → held_at m n 0 ≡ held_as n i → skips_held m ≡ held_as (room_of m) i
-lowest_held m n i q h = held_are m ∙ ap (λ (x : ℕ). held_at m x 0) (sym q) ∙ h ∙ ap (λ (x : ℕ). held_as x i) q
+pub lowest_held : (m : List ℕ) (n : ℕ) (lowest : Option ℕ) → n ≡ room_of m → held_at m n 0 ≡ held_as lowest → skips_held m ≡ held_as lowest
+lowest_held m n lowest q h = held_are m ∙ ap (λ (x : ℕ). held_at m x 0) (sym q) ∙ h

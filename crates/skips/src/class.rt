@@ -3,16 +3,18 @@
 ghost use Rattle.std.specs.Prelude.{◌≡◌, ◌≤◌};
 ghost use Rattle.laws_tables.specs.Neighbours.{kind_most};
 ghost use Rattle.skips.specs.Classes.{class_of, ClassesAre};
+ghost use Rattle.skips.specs.Ways.{WayIs};
 
-// All classes below this one have no rows when the pass comes to them.
-pub const HOLDS_DEEPER: u32 = 0x1000;
-
-pub const IS_AGENT: u32 = 0x2000;
-
-// An address, an item of an encrypted list, a value behind its key.
-pub const FOLLOWS: u32 = 0x3000;
-
-pub const IS_ENVELOPE: u32 = 0x4000;
+// How a row's own rows are found, where a pass comes to it from behind: it has none then; all deeper rows are its own; it is an agent's; it follows
+// another itself, as an address, an item of an encrypted list or a value behind its key does; or it is an envelope's own.
+#[derive(Clone, Copy)]
+pub enum Way {
+    Alone,
+    Deeper,
+    Agent,
+    Follows,
+    Envelope,
+}
 
 // The bits of a word are below this one.
 pub const BITS: u32 = 0x1000;
@@ -51,24 +53,44 @@ const CLASSES: [u16; 30] = [
     0x0800, // transport behaviour
 ];
 
-// All classes, for a pass to lay down once.
-pub fn all_classes() -> [u16; 30]
-    ensures { ClassesAre result }
-{
-    CLASSES
+// The classes of all kinds, for a pass to lay down once.
+#[derive(Drop)]
+pub struct Classes {
+    numbers: [u16; 30],
+    pub ghost are: { ClassesAre numbers },
 }
 
-// Takes the classes, lent so that they are laid down once, and a kind. Answers its class.
-pub fn class_of(classes: &[u16; 30], kind: u32) -> u32
-    requires { (kind ≤ kind_most) × ClassesAre classes.now }
-    ensures { result ≡ class_of kind }
-{
-    let k = kind as usize;
-    wide(classes[k])
+impl Classes {
+    // Answers all classes.
+    pub fn new() -> Self {
+        Classes { numbers: CLASSES }
+    }
+
+    // Takes a kind's number. Answers its class.
+    pub fn of(&self, kind: u32) -> u32
+        requires { kind ≤ kind_most }
+        ensures { result ≡ class_of kind }
+    {
+        let k = kind as usize;
+        u32::from(self.numbers[k])
+    }
 }
 
-fn wide(class: u16) -> u32
-    ensures { result ≡ class }
+// Takes a class. Answers how the rows of its kinds are found. By tests in this order: most rows need one.
+pub fn way_of(class: u32) -> Way
+    ensures { WayIs class result }
 {
-    class as u32
+    if class < 0x1000 {
+        return Way::Alone;
+    }
+    if class < 0x2000 {
+        return Way::Deeper;
+    }
+    if class < 0x3000 {
+        return Way::Agent;
+    }
+    if class < 0x4000 {
+        return Way::Follows;
+    }
+    Way::Envelope
 }

@@ -4,11 +4,7 @@ ghost use Rattle.std.specs.Prelude.{◌≡◌, ◌&&◌, ◌||◌, ℕ, ◌+◌,
 ghost use Rattle.meaning.specs.Skips.{Rank, rank, belongs};
 ghost use Rattle.skips.specs.Owners.{owns};
 
-use table::kinds::{
-    ADDRESS, ADDRESSES_OPEN, AGENT_NAME, ANY_BYTES, ANY_TEXT, BASE_OPENS, BEHAVIOUR_OPENS,
-    ENCRYPTED_ITEM, ENCRYPTED_OPENS, EXTENSION_OPENS, EXTRA_KEY, FROM_OPENS, OWN_KEY, OWN_VALUE,
-    RECEIVED_BY, RECEIVER_OPENS, RESOLVERS_OPEN, TO_OPENS,
-};
+use table::kinds::Kind;
 
 // What a row has among its rows: nothing; what is deeper; all of an envelope or of an agent; or one kind or two beside it.
 #[derive(Clone, Copy)]
@@ -27,20 +23,21 @@ pub enum Owner {
 pub fn owner_of(kind: u32) -> Owner
     ensures { (level : ℕ) (s : Rank) → belongs (rank kind level) s ≡ owns result level s }
 {
+    let Ok(kind) = Kind::try_from(kind) else {
+        return Owner::Nothing;
+    };
     match kind {
-        EXTENSION_OPENS => Owner::Envelope,
-        BASE_OPENS => Owner::Envelope,
-        RECEIVED_BY => Owner::Deeper,
-        TO_OPENS => Owner::Deeper,
-        FROM_OPENS => Owner::Deeper,
-        RECEIVER_OPENS => Owner::Deeper,
-        AGENT_NAME => Owner::Agent,
-        ADDRESSES_OPEN => Owner::Addresses,
-        RESOLVERS_OPEN => Owner::Deeper,
-        EXTRA_KEY => Owner::Valued,
-        ENCRYPTED_OPENS => Owner::Encrypted,
-        OWN_KEY => Owner::OwnKey,
-        BEHAVIOUR_OPENS => Owner::Valued,
+        Kind::ExtensionOpens | Kind::BaseOpens => Owner::Envelope,
+        Kind::ReceivedBy
+        | Kind::ToOpens
+        | Kind::FromOpens
+        | Kind::ReceiverOpens
+        | Kind::ResolversOpen => Owner::Deeper,
+        Kind::AgentName => Owner::Agent,
+        Kind::AddressesOpen => Owner::Addresses,
+        Kind::ExtraKey | Kind::BehaviourOpens => Owner::Valued,
+        Kind::EncryptedOpens => Owner::Encrypted,
+        Kind::OwnKey => Owner::OwnKey,
         _ => Owner::Nothing,
     }
 }
@@ -63,13 +60,7 @@ fn standing(kind: u32, level: u32) -> u64
 pub fn is_beside(one: u32, other: u32, at: u32, kind: u32, level: u32) -> bool
     ensures { result ≡ (eqb level at && (eqb kind one || eqb kind other)) }
 {
-    if kind == one {
-        return level == at;
-    }
-    if kind == other {
-        return level == at;
-    }
-    false
+    level == at && (kind == one || kind == other)
 }
 
 // Takes an owner with its level, and the kind and level of a row. Answers whether the row belongs to it.
@@ -79,11 +70,35 @@ pub fn is_owned(owner: Owner, at: u32, kind: u32, level: u32) -> bool
     match owner {
         Owner::Nothing => false,
         Owner::Deeper => at < level,
-        Owner::Envelope => is_above(BASE_OPENS, at, kind, level),
-        Owner::Agent => is_above(AGENT_NAME, at, kind, level),
-        Owner::Addresses => is_beside(ADDRESS, ADDRESS, at, kind, level),
-        Owner::Valued => is_beside(ANY_TEXT, ANY_BYTES, at, kind, level),
-        Owner::Encrypted => is_beside(ENCRYPTED_ITEM, ENCRYPTED_ITEM, at, kind, level),
-        Owner::OwnKey => is_beside(OWN_VALUE, OWN_VALUE, at, kind, level),
+        Owner::Envelope => is_above(Kind::BaseOpens.number(), at, kind, level),
+        Owner::Agent => is_above(Kind::AgentName.number(), at, kind, level),
+        Owner::Addresses => is_beside(
+            Kind::Address.number(),
+            Kind::Address.number(),
+            at,
+            kind,
+            level,
+        ),
+        Owner::Valued => is_beside(
+            Kind::AnyText.number(),
+            Kind::AnyBytes.number(),
+            at,
+            kind,
+            level,
+        ),
+        Owner::Encrypted => is_beside(
+            Kind::EncryptedItem.number(),
+            Kind::EncryptedItem.number(),
+            at,
+            kind,
+            level,
+        ),
+        Owner::OwnKey => is_beside(
+            Kind::OwnValue.number(),
+            Kind::OwnValue.number(),
+            at,
+            kind,
+            level,
+        ),
     }
 }

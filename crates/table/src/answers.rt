@@ -1,5 +1,6 @@
 // What the stages of reader and writer answer.
-ghost use Rattle.std.specs.Prelude.{◌≡◌};
+ghost use Rattle.std.specs.Prelude.{◌≡◌, ◌+◌, ◌≤◌};
+ghost use Rattle.table.specs.Rows.{u32_most};
 
 use crate::refusals::Refusal;
 
@@ -15,6 +16,20 @@ pub struct Fault {
 pub struct Reached {
     pub at: usize,
     pub rows: usize,
+}
+
+impl Reached {
+    // Behind the byte at this place, which has no row of its own.
+    pub fn passed(self) -> Reached
+        requires { self.at ≤ u32_most }
+        ensures at { result.at ≡ self.at + 1 }
+        ensures rows { result.rows ≡ self.rows }
+    {
+        Reached {
+            at: self.at + 1,
+            rows: self.rows,
+        }
+    }
 }
 
 // "either a value with the place after it, or a refusal": what a stage of the reader answers, which the stage above takes apart with let .. else.

@@ -4,8 +4,8 @@ use Rattle.hold_skips.specs.Holding.{RunToHold}
 use Rattle.hold_skips.proofs.Holdings.{RunHeld}
 use Rattle.hold_skips.proofs.hold_run.Given as goal
 
-abbrev pub invariant-loop-next : goal.invariant-loop-next
-invariant-loop-next l = (n end : ℕ) → RunToHold l.rows n l.last l.kind end → RunHeld l.rows n l.last l.kind l.level l.i
+abbrev pub invariant-loop-last : goal.invariant-loop-last
+invariant-loop-last l = (n : ℕ) → RunToHold l.rows n l.last l.kind l.end → RunHeld l.rows n l.last l.kind l.level l.i
 
-abbrev pub decreases-loop-next : goal.decreases-loop-next
-decreases-loop-next l = l.i
+abbrev pub decreases-loop-last : goal.decreases-loop-last
+decreases-loop-last l = l.i

@@ -4,8 +4,8 @@ use mathlib.Core.List.{List}
 use Rattle.lay_skips.specs.Laying.{LaidFrom, LaidBack}
 use Rattle.lay_skips.proofs.lay_inside.Given as goal
 
-abbrev pub invariant-loop-row : goal.invariant-loop-row
-invariant-loop-row l = (m : List ℕ) → LaidFrom m l.n l.initial.rows l.end → LaidBack m l.n l.end l.rows l.next l.word
+abbrev pub invariant-loop-laid : goal.invariant-loop-laid
+invariant-loop-laid l = (m : List ℕ) → LaidFrom m l.n l.initial.rows l.end → LaidBack m l.n l.end l.rows l.next l.word
 
-abbrev pub decreases-loop-row : goal.decreases-loop-row
-decreases-loop-row l = l.next
+abbrev pub decreases-loop-laid : goal.decreases-loop-laid
+decreases-loop-laid l = l.next

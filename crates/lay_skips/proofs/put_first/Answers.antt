@@ -4,17 +4,11 @@ use mathlib.Core.List.{List}
 use mathlib.Core.Path.{◌≡◌, refl, ap, ◌∙◌}
 use native.Mathlib.Omega.{arith}
 use lib.ListN.{length, get_or, set}
-use Rattle.lay_skips.proofs.Pushing.{pushed, in_hand, begins_pushed, pushed_length, pushes, takes_up, first_laid}
+use Rattle.lay_skips.proofs.Pushing.{pushed, in_hand, begins_pushed, pushes, takes_up, first_laid}
 use Rattle.lay_skips.proofs.put_first.Goals as goal
 
 pub loop-i-init : goal.loop-i-init
-loop-i-init c = (begins_pushed c.args.word c.args.words.now, refl, omega arith)
-
-inside : (c : goal.After-slice_known-1) → c.loop-i.i < length c.loop-i.words
-inside c =
-    let a = c.args in
-    let l = c.loop-i in
-    omega (arith, ap length l.invariant.0, pushed_length a.word a.words.now l.i, c.loop-i-test.true, c.requires)
+loop-i-init c = (begins_pushed c.args.word c.args.words.now, refl)
 
 pub loop-i-preserved : goal.loop-i-preserved
 loop-i-preserved c =
@@ -24,14 +18,13 @@ loop-i-preserved c =
     let short : l.i < length a.words.now = omega (arith, c.loop-i-test.true, c.requires) in (
       ap (λ (x : List ℕ). set x l.i l.held) l.invariant.0 ∙ ap (set (pushed a.word a.words.now l.i) l.i) l.invariant.1 ∙ pushes a.word a.words.now l.i short ∙ ap (pushed a.word a.words.now) next,
       ap (λ (x : List ℕ). get_or x l.i 0) l.invariant.0 ∙ takes_up a.word a.words.now l.i short ∙ ap (in_hand a.word a.words.now) next,
-      omega (arith, c.loop-i-test.true),
     )
 
 pub returns : goal.returns
 returns c lent own q h =
     let a = c.args in
     let l = c.loop-i in
-    let last : l.i ≡ a.k = omega (arith, c.loop-i-test.false, l.invariant.2) in
+    let last : l.i ≡ a.k = omega (arith, c.loop-i-test.false, l.auto.i-end) in
     ap (λ (x : List ℕ). set x a.k l.held) l.invariant.0 ∙ ap (set (pushed a.word a.words.now l.i) a.k) l.invariant.1
     ∙ ap (λ (x : ℕ). set (pushed a.word a.words.now x) a.k (in_hand a.word a.words.now x)) last
     ∙ pushes a.word a.words.now a.k c.requires

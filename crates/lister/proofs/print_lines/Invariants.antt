@@ -5,4 +5,4 @@ use Rattle.listing.specs.Text.{text_at}
 use Rattle.lister.proofs.print_lines.Given as goal
 
 abbrev pub decreases-loop-piece : goal.decreases-loop-piece
-decreases-loop-piece g l = l.piece.length + length (text_at l.answer l.place l.count l.rows l.input l.piece.line l.piece.byte)
+decreases-loop-piece g l = l.piece.length + length (text_at l.table.answer l.table.place l.table.rows l.rows l.input l.piece.line l.piece.byte)

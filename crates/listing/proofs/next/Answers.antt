@@ -6,22 +6,30 @@ use Rattle.listing.proofs.next.Goals as goal
 
 pub returns-then-out-lt-PIECE_LEAST : goal.returns-then-out-lt-PIECE_LEAST
 returns-then-out-lt-PIECE_LEAST c =
-    let a = c.args in next_short a.answer a.place a.count a.rows.now a.bytes.now a.line a.byte c.if-out-lt-PIECE_LEAST.true
+    let a = c.args in
+    let r = a.reply.now in
+    rw c.nothing.ensures (next_short r.answer r.place r.rows a.rows.now a.bytes.now a.cursor.line a.cursor.byte c.if-out-lt-PIECE_LEAST.true)
 
-pub returns-then-line-eq0 : goal.returns-then-line-eq0
-returns-then-line-eq0 c =
-    let a = c.args in next_first a.answer a.place a.count a.rows.now a.bytes.now a.line a.byte c.if-out-lt-PIECE_LEAST.false c.if-line-eq0.true c.first_line-end.ensures
+pub returns-then-cursor-eq0 : goal.returns-then-cursor-eq0
+returns-then-cursor-eq0 c =
+    let a = c.args in
+    let r = a.reply.now in
+    next_first r.answer r.place r.rows a.rows.now a.bytes.now a.cursor.line a.cursor.byte c.if-out-lt-PIECE_LEAST.false c.if-cursor-eq0.true c.first_line-end.ensures
 
-pub returns-then-many-line : goal.returns-then-many-line
-returns-then-many-line c =
-    let a = c.args in next_over a.answer a.place a.count a.rows.now a.bytes.now a.line a.byte c.if-out-lt-PIECE_LEAST.false (omega (arith, c.lines-many.ensures))
+pub returns-then-lines-cursor : goal.returns-then-lines-cursor
+returns-then-lines-cursor c =
+    let a = c.args in
+    let r = a.reply.now in
+    rw c.nothing-then-lines-cursor.ensures (next_over r.answer r.place r.rows a.rows.now a.bytes.now a.cursor.line a.cursor.byte c.if-out-lt-PIECE_LEAST.false (omega (arith, c.lines.ensures, c.if-lines-cursor.true)))
 
 pub row_piece-requires : goal.row_piece-requires
 row_piece-requires c =
     let a = c.args in
-    (omega (arith, c.if-line-eq0.false), omega (arith, c.lines-many.ensures, lines_within a.answer a.count a.rows.now), omega arith)
+    let r = a.reply.now in
+    (omega (arith, c.if-cursor-eq0.false), omega (arith, c.lines.ensures, c.if-lines-cursor.false, lines_within r.answer r.rows a.rows.now), omega arith)
 
 pub returns : goal.returns
 returns c =
     let a = c.args in
-    next_row a.answer a.place a.count a.rows.now a.bytes.now a.line a.byte c.if-out-lt-PIECE_LEAST.false (omega (arith, c.if-line-eq0.false)) (omega (arith, c.lines-many.ensures, c.if-many-line.false)) c.row_piece.ensures
+    let r = a.reply.now in
+    next_row r.answer r.place r.rows a.rows.now a.bytes.now a.cursor.line a.cursor.byte c.if-out-lt-PIECE_LEAST.false (omega (arith, c.if-cursor-eq0.false)) (omega (arith, c.lines.ensures, c.if-lines-cursor.false)) c.row_piece.ensures

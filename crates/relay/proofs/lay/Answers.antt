@@ -18,11 +18,11 @@ loop-i-preserved c =
     let l = c.loop-i in
     let a = c.args in
     let k : 0 + l.i ≡ l.i = omega arith in
-    (omega arith, ap (λ (n : ℕ). set l.output n (get_or a.bytes.now l.i 0)) (sym k) ∙ lay_on a.bytes.now l.i a.output.now 0 (omega arith) l.invariant.1, length-set l.output _ _ ∙ l.invariant.2)
+    (ap (λ (n : ℕ). set l.output n (get_or a.bytes.now l.i 0)) (sym k) ∙ lay_on a.bytes.now l.i a.output.now 0 (omega arith) l.invariant.0, length-set l.output _ _ ∙ l.invariant.1)
 
 pub returns : goal.returns
 returns c =
     let l = c.loop-i in
     let a = c.args in
     let k : l.i ≡ length a.bytes.now = omega arith in
-    l.invariant.1 ∙ ap (λ (n : ℕ). sets a.output.now 0 (take n a.bytes.now)) k ∙ ap (sets a.output.now 0) (take-length a.bytes.now) ∙ whole_over a.bytes.now a.output.now c.requires
+    l.invariant.0 ∙ ap (λ (n : ℕ). sets a.output.now 0 (take n a.bytes.now)) k ∙ ap (sets a.output.now 0) (take-length a.bytes.now) ∙ whole_over a.bytes.now a.output.now c.requires

@@ -1,5 +1,4 @@
 -- `sum_all`: the invariant says that the first i numbers are sums.
-use Prim.Native.Nat.{◌-◌, ◌≤◌}
 use mathlib.Core.Path.{◌≡◌}
 use lib.ListN.{length}
 use Rattle.meaning.specs.Figures.{figures_borrowed}
@@ -7,7 +6,4 @@ use Rattle.figures.proofs.Raising.{first_sums}
 use Rattle.figures.proofs.join.sum_all.Given as goal
 
 abbrev pub invariant-loop-i : goal.invariant-loop-i
-invariant-loop-i l = (l.i ≤ figures_borrowed) × (length l.figures ≡ figures_borrowed) × (l.figures ≡ first_sums l.i l.initial.figures l.others)
-
-abbrev pub decreases-loop-i : goal.decreases-loop-i
-decreases-loop-i l = figures_borrowed - l.i
+invariant-loop-i l = (length l.figures ≡ figures_borrowed) × (l.figures ≡ first_sums l.i l.initial.figures l.others)

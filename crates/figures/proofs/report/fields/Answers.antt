@@ -1,4 +1,4 @@
--- `fields`: the invariant says that the first j numbers are printed.
+-- `fields`: the invariant says that the numbers before this one are printed.
 use mathlib.Core.List.{[], ◌∷◌, ◌++◌}
 use mathlib.Core.Path.{◌∙◌}
 use native.Mathlib.Omega.{arith}
@@ -7,14 +7,13 @@ use Rattle.pen.specs.Written.{printing_goes, printing_ends}
 use Rattle.pen.specs.Fields.{fields_next, fields_none}
 use Rattle.figures.proofs.report.fields.Goals as goal
 
-pub loop-j-preserved : goal.loop-j-preserved
-loop-j-preserved c =
-    let l = c.loop-j in
-    let test = c.loop-j-test in
+pub loop-number-preserved : goal.loop-number-preserved
+loop-number-preserved c =
+    let l = c.loop-number in
     let w = c.print_field-end.ensures in
-    (omega arith, omega (arith, w.few, l.invariant.1), c.print_field-end.auto.out ∙ l.invariant.2, printing_goes (λ n. decimal n ++ (0x09 ∷ [])) fields_next l.invariant.3 test.true w.wrote)
+    (omega (arith, w.few, l.invariant.0), c.print_field-end.auto.out ∙ l.invariant.1, printing_goes (λ n. decimal n ++ (0x09 ∷ [])) fields_next l.invariant.2 (omega arith) w.wrote)
 
 pub returns : goal.returns
 returns c =
-    let l = c.loop-j in
-    record { wrote = printing_ends fields_none l.invariant.3 c.loop-j-test.false; few = omega (arith, l.invariant.1) }
+    let l = c.loop-number in
+    record { wrote = printing_ends fields_none l.invariant.2 (omega arith); few = omega (arith, l.invariant.0) }

@@ -10,12 +10,12 @@ pub returns-then-there-gone : goal.returns-then-there-gone
 returns-then-there-gone c =
     let a = c.args in
     let e = c.no_bytes-end.ensures in
-    view_ends a.view.now a.gone a.line (omega arith) (e.is a.view.now c.if-there-gone.true) e.some
+    rw c.line_end.ensures (view_ends a.view.now a.gone a.line (omega arith) (e.is a.view.now c.if-there-gone.true) e.some)
 
 pub returns-then-there-gone-2 : goal.returns-then-there-gone-2
 returns-then-there-gone-2 c =
     let a = c.args in
-    view_last a.view.now a.gone a.line c.if-there-gone.false c.if-there-gone-2.true c.last_bytes-end.ensures
+    rw c.line_end-then-there-gone-2.ensures (view_last a.view.now a.gone a.line c.if-there-gone.false c.if-there-gone-2.true c.last_bytes-end.ensures)
 
 pub returns : goal.returns
 returns c =

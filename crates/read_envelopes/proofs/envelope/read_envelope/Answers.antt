@@ -12,7 +12,7 @@ read_opened-requires c =
     (omega (arith, u), record { whole = u.2; small = omega (arith, u, h); before = u.1; few = omega (arith, u, h) }, h.1)
 
 pub returns-in-Refused : goal.returns-in-Refused
-returns-in-Refused c = envelope_refused (told_of c.args.told) c.args.n c.args.rows.now c.in-Refused.is c.frame_at-f.ensures
+returns-in-Refused c = envelope_refused (told_of c.args.told) c.args.from.rows c.args.rows.now c.in-Refused.is c.frame_at-f.ensures
 
 pub returns-in-Opens : goal.returns-in-Opens
-returns-in-Opens c = envelope_read (told_of c.args.told) c.args.n c.args.rows.now c.in-Opens.is c.frame_at-f.ensures c.read_opened.ensures
+returns-in-Opens c = envelope_read (told_of c.args.told) c.args.from.rows c.args.rows.now c.in-Opens.is c.frame_at-f.ensures c.read_opened.ensures

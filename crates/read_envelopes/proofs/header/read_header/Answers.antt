@@ -10,29 +10,29 @@ use Rattle.table.specs.Told.{told_of}
 use Rattle.read_envelopes.proofs.Turns.{extension_fits, header_based, header_onward, header_refused}
 use Rattle.read_envelopes.proofs.header.read_header.Goals as goal
 
-pub loop-refusal-init : goal.loop-refusal-init
-loop-refusal-init c =
+pub loop-fault-init : goal.loop-fault-init
+loop-fault-init c =
     let a = c.args in
     (omega arith, omega arith, omega arith, refl, ap (λ (x : List ℕ). finish (header envelopes_most (told_of a.told) 0 x) 0 a.rows.now) (sym (from_all a.s.now)))
 
 pub returns-in-Refused : goal.returns-in-Refused
-returns-in-Refused c = header_refused c.in-Refused.is c.loop-refusal.invariant.4 c.read_envelope-r.ensures
+returns-in-Refused c = header_refused c.in-Refused.is c.loop-fault.invariant.4 c.read_envelope-r.ensures
 
 pub returns-in-Base : goal.returns-in-Base
-returns-in-Base c = header_based (omega (arith, c.loop-refusal.invariant.2)) c.in-Base.is c.loop-refusal.invariant.4 c.read_envelope-r.ensures
+returns-in-Base c = header_based (omega (arith, c.loop-fault.invariant.2)) c.in-Base.is c.loop-fault.invariant.4 c.read_envelope-r.ensures
 
 pub overflow_sub-left : goal.overflow_sub-left
 overflow_sub-left c =
     let u = extension_fits c.in-Extension.is c.read_envelope-r.ensures in
     omega (arith, u)
 
-pub loop-refusal-smaller : goal.loop-refusal-smaller
-loop-refusal-smaller c =
+pub loop-fault-smaller : goal.loop-fault-smaller
+loop-fault-smaller c =
     let u = extension_fits c.in-Extension.is c.read_envelope-r.ensures in
     omega (arith, u)
 
-pub loop-refusal-preserved : goal.loop-refusal-preserved
-loop-refusal-preserved c =
-    let i = c.loop-refusal.invariant in
+pub loop-fault-preserved : goal.loop-fault-preserved
+loop-fault-preserved c =
+    let i = c.loop-fault.invariant in
     let u = extension_fits c.in-Extension.is c.read_envelope-r.ensures in
     (u.1, u.2, omega (arith, u, i), c.read_envelope-r.auto.rows ∙ i.3, header_onward c.in-Extension.is i.4 c.read_envelope-r.ensures)

@@ -8,10 +8,10 @@ use Rattle.laws_steps.specs.Pouring.{header_most}
 use Rattle.table.specs.Told.{told_of}
 use Rattle.read_envelopes.proofs.header.read_header.Given as goal
 
-abbrev pub invariant-loop-refusal : goal.invariant-loop-refusal
-invariant-loop-refusal l =
-    (l.at ≤ length l.s) × (l.n ≤ l.at) × (l.at + l.left * envelope_most ≤ header_most) × (length l.rows ≡ length l.initial.rows)
-    × (finish (header envelopes_most (told_of l.told) 0 l.s) 0 l.initial.rows ≡ header_at (told_of l.told) l.s l.left l.at l.n l.rows)
+abbrev pub invariant-loop-fault : goal.invariant-loop-fault
+invariant-loop-fault l =
+    (l.here.at ≤ length l.s) × (l.here.rows ≤ l.here.at) × (l.here.at + l.left * envelope_most ≤ header_most) × (length l.rows ≡ length l.initial.rows)
+    × (finish (header envelopes_most (told_of l.told) 0 l.s) 0 l.initial.rows ≡ header_at (told_of l.told) l.s l.left l.here.at l.here.rows l.rows)
 
-abbrev pub decreases-loop-refusal : goal.decreases-loop-refusal
-decreases-loop-refusal l = l.left
+abbrev pub decreases-loop-fault : goal.decreases-loop-fault
+decreases-loop-fault l = l.left

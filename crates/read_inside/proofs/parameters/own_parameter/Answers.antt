@@ -1,6 +1,6 @@
 -- `parameters::own_parameter`: the key's stage, then the value's.
-use mathlib.Core.Bool.{false}
-use mathlib.Core.Path.{◌∙◌, refl}
+use Rattle.std.specs.Prelude.{false, refl}
+use Rattle.std.proofs.Common.{◌∙◌}
 use native.Mathlib.Omega.{arith}
 use Rattle.meaning.specs.Bytes.{note}
 use Rattle.meaning.specs.Editions.{outer, own_text, parameters, state}
@@ -9,17 +9,14 @@ use Rattle.meaning.specs.Told.{B, told}
 use Rattle.laws_steps.specs.Pouring.{source}
 use Rattle.laws_steps.specs.ReadAt.{only_text}
 use Rattle.laws_steps.specs.Rooms.{value_look}
-use Rattle.read_rows.specs.Joining.{begun, handed, moved_to, went}
+use Rattle.read_rows.specs.Joining.{begun, handed, moved_to, ready_on, went}
 use Rattle.read_inside.proofs.parameters.own_parameter.Goals as goal
 
 pub returns-in_default : goal.returns-in_default
 returns-in_default c t = handed c.in_default.is (c.text-key.ensures t (state own_text 0 false))
 
 pub text-requires : goal.text-requires
-text-requires c =
-    let f = c.requires in
-    let u = moved_to c.in-Go.is (c.text-key.ensures (told B) (state own_text 0 false)) in
-    record { whole = f.whole; small = f.small; before = u.1; few = u.2 }
+text-requires c = ready_on c.requires c.in-Go.is (c.text-key.ensures (told B) (state own_text 0 false))
 
 pub returns : goal.returns
 returns c t =

@@ -8,10 +8,10 @@ use Rattle.laws_steps.specs.Pouring.{run_at, source}
 use Rattle.table.specs.Told.{told_of}
 use Rattle.read_inside.proofs.parameters.read_parameters.Given as goal
 
-abbrev pub invariant-loop-told : goal.invariant-loop-told
-invariant-loop-told l =
-    (l.at ≤ l.here) × (l.here ≤ l.end) × (l.count ≤ l.here) × (length l.rows ≡ length l.initial.rows)
-    × (run_at (source (told_of l.told) l.s l.end) (state parameters 0 false) l.at l.n l.initial.rows ≡ run_at (source (told_of l.told) l.s l.end) (state parameters 0 false) l.here l.count l.rows)
+abbrev pub invariant-loop-code : goal.invariant-loop-code
+invariant-loop-code l =
+    (l.fn.from.at ≤ l.here.at) × (l.here.at ≤ l.end) × (l.here.rows ≤ l.here.at) × (length l.rows ≡ length l.initial.rows)
+    × (run_at (source (told_of l.told) l.s l.end) (state parameters 0 false) l.fn.from.at l.fn.from.rows l.initial.rows ≡ run_at (source (told_of l.told) l.s l.end) (state parameters 0 false) l.here.at l.here.rows l.rows)
 
-abbrev pub decreases-loop-told : goal.decreases-loop-told
-decreases-loop-told l = l.end - l.here
+abbrev pub decreases-loop-code : goal.decreases-loop-code
+decreases-loop-code l = l.end - l.here.at

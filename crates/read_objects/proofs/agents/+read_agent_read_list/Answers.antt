@@ -9,145 +9,150 @@ use Rattle.meaning.specs.Kinds.{agent_name, resolvers_open}
 use Rattle.meaning.specs.Reading.{level_most}
 use Rattle.meaning.specs.Told.{B, Told, told}
 use Rattle.laws_steps.specs.AgentRooms.{addresses_else, addresses_resolvers, list_down, list_name, list_none, list_stop, list_up, stays_in_list}
-use Rattle.laws_steps.specs.Pouring.{Peeked, ready_opened, ready_to, run_at, source, text_at}
-use Rattle.laws_steps.specs.ReadAt.{alike_at, opened_at, passed_at, text_at_lem, too_deep_at}
+use Rattle.laws_steps.specs.Pouring.{Filling, Peeked, ready_opened, run_at, source}
+use Rattle.laws_steps.specs.ReadAt.{alike_at, opened_at, text_at_lem, too_deep_at}
 use Rattle.laws_steps.specs.Rooms.{end_alike, step_alike}
 use Rattle.laws_steps.specs.Rows.{put}
 use Rattle.laws_steps.specs.Shapes.{InList}
 use Rattle.table.specs.Told.{told_of}
+use Rattle.table.specs.declared.answers.Reached.{Reached}
 use Rattle.table.specs.declared.answers.Stage.{Stage}
-use Rattle.read_rows.specs.Joining.{arrives, begun, foreign_byte, going, handed, moved_to, ready_inside, refusing, row_fits, went}
-use Rattle.read_rows.specs.Stages.{Ran, StateRead, TextRead}
+use Rattle.read_rows.specs.Joining.{arrives, begun, closes, foreign_byte, found_is, handed, moved_to, not_found, onward, other_found, ready_inside, ready_on, refusing, row_fits, same_found, went}
+use Rattle.read_rows.specs.Stages.{Ran, StateRead, TextRead, found}
 use Rattle.read_objects.proofs.agents.+read_agent_read_list.Goals as goal
 
--- behind the name and the addresses, which end at `place` with `count` rows, the list of resolvers, a level down
-resolved : (t : Told) (s : List ℕ) (end at n : ℕ) (before : List ℕ) (place count : ℕ) (named : List ℕ) (b level : ℕ) (single : Bool) (opened : List ℕ) (r : Stage) (left : List ℕ) → 1 ≤ level
-    → text_at (source t s end) agent_name line level (state after_name level single) at n before ≡ run_at (source t s end) (state after_addresses level single) place count named
-    → Peeked s end place b → b ≡ 3 → opened ≡ put named count resolvers_open level place 0
-    → StateRead t s end (state agent_list (level + 1) single) (place + 1) (count + 1) opened r (go list_ends (state agent_list (level + 1) single)) left
-    → Ran (source t s end) (place + 1) (text_at (source t s end) agent_name line level (state after_name level single) at n before) r (state after_resolvers level single) left
-resolved t s end at n before place count named b level single opened r left low same p three w list =
+-- behind the name and the addresses, which end at `place`, the list of resolvers, a level down
+resolved : {t : Told} {s : List ℕ} {end b : ℕ} {o : Filling} {r : Stage} {left : List ℕ} (place first : Reached) (named opened : List ℕ) (level : ℕ) (single : Bool) → 1 ≤ level
+    → o ≡ run_at (source t s end) (state after_addresses level single) place.at place.rows named → Peeked s end place.at b → b ≡ 3
+    → first.at ≡ place.at + 1 → first.rows ≡ place.rows + 1 → opened ≡ put named place.rows resolvers_open level place.at 0
+    → StateRead t s end (state agent_list (level + 1) single) first.at first.rows opened r (go list_ends (state agent_list (level + 1) single)) left
+    → Ran (source t s end) (place.at + 1) o r (state after_resolvers level single) left
+resolved {t} {s} {end} {b} place first named opened level single low same p three x y w list =
     let i = source t s end in
     arrives (list_up level single low)
     (begun (le_refl _)
     (same
-    ∙ opened_at i place count named b p 0x03 three (omega arith) (state after_addresses level single) resolvers_open (deeper agent_list) (addresses_resolvers _) refl w
-    ∙ ap (λ (q : State). run_at i q (place + 1) (count + 1) opened) (list_down level single))
-    list)
+    ∙ opened_at i place.at place.rows named b p 0x03 three (omega arith) (state after_addresses level single) resolvers_open (deeper agent_list) (addresses_resolvers _) refl w
+    ∙ ap (λ (q : State). run_at i q (place.at + 1) (place.rows + 1) opened) (list_down level single))
+    (rw (x, y) at list))
 
 pub read_agent-returns-in_default : goal.read_agent-returns-in_default
 read_agent-returns-in_default t c single = handed c.in_default.is (c.name_and_addresses-named.ensures (told_of c.args.told) single)
 
 pub read_agent-peek-requires : goal.read_agent-peek-requires
-read_agent-peek-requires t c = ready_inside (ready_to c.requires.0 (moved_to c.in-Go.is (c.name_and_addresses-named.ensures (told B) true)))
+read_agent-peek-requires t c = ready_inside (ready_on c.requires.0 c.in-Go.is (c.name_and_addresses-named.ensures (told B) true))
 
 pub read_agent-behind_resolvers-requires : goal.read_agent-behind_resolvers-requires
-read_agent-behind_resolvers-requires t c = ready_to c.requires.0 (moved_to c.in-Go.is (c.name_and_addresses-named.ensures (told B) true))
+read_agent-behind_resolvers-requires t c = ready_on c.requires.0 c.in-Go.is (c.name_and_addresses-named.ensures (told B) true)
 
-pub read_agent-returns-then-peek-ne3 : goal.read_agent-returns-then-peek-ne3
-read_agent-returns-then-peek-ne3 t c single =
+pub read_agent-returns-then-ne : goal.read_agent-returns-then-ne
+read_agent-returns-then-ne t c single =
     let p = c.peek in
     let a = c.args in
-    let l = c.name_and_addresses-named.ensures (told_of a.told) single in
-    begun (moved_to c.in-Go.is l).0
-    (went c.in-Go.is l
-    ∙ alike_at (source (told_of a.told) a.s.now a.end) c.in-Go.after_addresses c.in-Go.with_addresses c.name_and_addresses-named.new.rows p.result p.ensures (state after_addresses a.level single) (state after_resolvers a.level single)
-    (λ s. step_alike _ after_addresses after_resolvers a.level single p.result s (addresses_else _ p.result c.if-peek-ne3.true) refl refl) (end_alike _ after_addresses after_resolvers a.level single refl))
+    let to = c.in-Go.behind_addresses in
+    let named = c.name_and_addresses-named.ensures (told_of a.told) single in
+    let other = other_found p.result 0x03 (omega arith) c.ne.ensures c.if-ne.true in
+    begun (moved_to c.in-Go.is named).0
+    (went c.in-Go.is named
+    ∙ alike_at (source (told_of a.told) a.s.now a.end) to.at to.rows c.name_and_addresses-named.new.rows (found p.result) p.ensures (state after_addresses a.level single) (state after_resolvers a.level single)
+    (λ s. step_alike _ after_addresses after_resolvers a.level single (found p.result) s (addresses_else _ (found p.result) other) refl refl) (end_alike _ after_addresses after_resolvers a.level single refl))
     (c.behind_resolvers.ensures single)
 
-pub read_agent-put_row-requires : goal.read_agent-put_row-requires
-read_agent-put_row-requires t c = row_fits (ready_to c.requires.0 (moved_to c.in-Go.is (c.name_and_addresses-named.ensures (told B) true)))
-
-pub read_agent-overflow_add-opened : goal.read_agent-overflow_add-opened
-read_agent-overflow_add-opened t c = let h = row_fits (ready_to c.requires.0 (moved_to c.in-Go.is (c.name_and_addresses-named.ensures (told B) true))) in omega arith
+pub read_agent-open-opened-requires : goal.read_agent-open-opened-requires
+read_agent-open-opened-requires t c = let fits = row_fits (ready_on c.requires.0 c.in-Go.is (c.name_and_addresses-named.ensures (told B) true)) in (fits.1, fits.0)
 
 pub read_agent-read_list-resolvers-requires : goal.read_agent-read_list-resolvers-requires
 read_agent-read_list-resolvers-requires t c =
-    let k = c.peek.ensures.inside (omega arith) in
-    (omega (arith, c.decreases, c.requires.2), (ready_opened (ready_to c.requires.0 (moved_to c.in-Go.is (c.name_and_addresses-named.ensures (told B) true))) k, omega arith, omega (arith, c.requires.2)))
+    let ready = ready_on c.requires.0 c.in-Go.is (c.name_and_addresses-named.ensures (told B) true) in
+    let resolvers = same_found c.peek.result 0x03 c.ne.ensures c.if-ne.false in
+    let first = c.open-opened.ensures in
+    (omega (arith, c.decreases, c.requires.2), (rw (first.at, first.rows) (ready_opened ready (c.peek.ensures.inside (omega arith))), omega arith, omega (arith, c.requires.2)))
 
 pub read_agent-returns-in_default-resolvers : goal.read_agent-returns-in_default-resolvers
 read_agent-returns-in_default-resolvers t c single =
     let a = c.args in
+    let first = c.open-opened.ensures in
     handed c.in_default-resolvers.is
-    (resolved (told_of a.told) a.s.now a.end a.at a.n a.rows.now c.in-Go.after_addresses c.in-Go.with_addresses c.name_and_addresses-named.new.rows c.peek.result a.level single c.put_row.new.rows c.read_list-resolvers.result c.read_list-resolvers.new.rows c.requires.1
-    (went c.in-Go.is (c.name_and_addresses-named.ensures (told_of a.told) single)) c.peek.ensures c.if-peek-ne3.false c.put_row.ensures (c.read_list-resolvers.ensures single (λ _ h. omega (arith, c.requires.1))))
+    (resolved c.in-Go.behind_addresses c.open-opened.result c.name_and_addresses-named.new.rows c.open-opened.new.rows a.level single c.requires.1
+    (went c.in-Go.is (c.name_and_addresses-named.ensures (told_of a.told) single)) c.peek.ensures (same_found c.peek.result 0x03 c.ne.ensures c.if-ne.false) first.at first.rows first.put (c.read_list-resolvers.ensures single (λ _ h. omega (arith, c.requires.1))))
 
 pub read_agent-behind_resolvers-requires-2 : goal.read_agent-behind_resolvers-requires-2
-read_agent-behind_resolvers-requires-2 t c =
-    let a = c.args in
-    ready_to c.requires.0
-    (moved_to c.in-Go-resolvers.is
-    (resolved (told_of a.told) a.s.now a.end a.at a.n a.rows.now c.in-Go.after_addresses c.in-Go.with_addresses c.name_and_addresses-named.new.rows c.peek.result a.level true c.put_row.new.rows c.read_list-resolvers.result c.read_list-resolvers.new.rows c.requires.1
-    (went c.in-Go.is (c.name_and_addresses-named.ensures (told_of a.told) true)) c.peek.ensures c.if-peek-ne3.false c.put_row.ensures (c.read_list-resolvers.ensures true (λ _ h. omega (arith, c.requires.1)))))
+read_agent-behind_resolvers-requires-2 t c = ready_on c.requires.0 c.in-Go-resolvers.is (c.read_list-resolvers.ensures true (λ _ h. omega (arith, c.requires.1)))
 
 pub read_agent-returns : goal.read_agent-returns
 read_agent-returns t c single =
     let a = c.args in
-    let l = resolved (told_of a.told) a.s.now a.end a.at a.n a.rows.now c.in-Go.after_addresses c.in-Go.with_addresses c.name_and_addresses-named.new.rows c.peek.result a.level single c.put_row.new.rows c.read_list-resolvers.result c.read_list-resolvers.new.rows c.requires.1
-    (went c.in-Go.is (c.name_and_addresses-named.ensures (told_of a.told) single)) c.peek.ensures c.if-peek-ne3.false c.put_row.ensures (c.read_list-resolvers.ensures single (λ _ h. omega (arith, c.requires.1))) in
-    let u = moved_to c.in-Go-resolvers.is l in
-    let h = moved_to c.in-Go.is (c.name_and_addresses-named.ensures (told B) true) in
-    begun (omega arith) (went c.in-Go-resolvers.is l) (c.behind_resolvers-2.ensures single)
+    let first = c.open-opened.ensures in
+    let named = c.name_and_addresses-named.ensures (told_of a.told) single in
+    let u = moved_to c.in-Go.is named in
+    begun (omega arith) refl
+    (onward c.in-Go-resolvers.is
+    (resolved c.in-Go.behind_addresses c.open-opened.result c.name_and_addresses-named.new.rows c.open-opened.new.rows a.level single c.requires.1
+    (went c.in-Go.is named) c.peek.ensures (same_found c.peek.result 0x03 c.ne.ensures c.if-ne.false) first.at first.rows first.put (c.read_list-resolvers.ensures single (λ _ h. omega (arith, c.requires.1))))
+    (c.behind_resolvers-2.ensures single))
 
 -- one more agent
-once_more : (t : Told) (s : List ℕ) (end at n : ℕ) (before : List ℕ) (here count : ℕ) (rows : List ℕ) (b level : ℕ) (single : Bool) (r : Stage) (left : List ℕ) → InList level single → level ≤ level_most
-    → run_at (source t s end) (state agent_list level single) at n before ≡ run_at (source t s end) (state agent_list level single) here count rows
-    → Peeked s end here b → b ≡ 2
-    → TextRead t s end agent_name line level (state after_name level single) (here + 1) count rows r (go agent_ends (state after_resolvers level single)) left
-    → Ran (source t s end) (here + 1) (run_at (source t s end) (state agent_list level single) at n before) r (state agent_list level single) left
-once_more t s end at n before here count rows b level single r left h few same p two agent =
+once_more : {t : Told} {s : List ℕ} {end b : ℕ} {o : Filling} {r : Stage} {left : List ℕ} (here name : Reached) (rows : List ℕ) (level : ℕ) (single : Bool) → InList level single → level ≤ level_most
+    → o ≡ run_at (source t s end) (state agent_list level single) here.at here.rows rows → Peeked s end here.at b → b ≡ 2 → name.at ≡ here.at + 1 → name.rows ≡ here.rows
+    → TextRead t s end agent_name line level (state after_name level single) name.at name.rows rows r (go agent_ends (state after_resolvers level single)) left
+    → Ran (source t s end) (here.at + 1) o r (state agent_list level single) left
+once_more {t} {s} {end} {b} here name rows level single h few same p two x y agent =
     let deep : ltb level_most level ≡ false = le-ltb level_most level few in
     arrives (stays_in_list level single h)
     (begun (omega arith)
-    (same ∙ text_at_lem (source t s end) here count rows b p 0x02 two (omega arith) (state agent_list level single) agent_name line (stay after_name) (list_name _) deep)
-    agent)
+    (same ∙ text_at_lem (source t s end) here.at here.rows rows b p 0x02 two (omega arith) (state agent_list level single) agent_name line (stay after_name) (list_name _) deep)
+    (rw (x, y) at agent))
 
-pub read_list-returns-then-b-eq-CLOSING : goal.read_list-returns-then-b-eq-CLOSING
-read_list-returns-then-b-eq-CLOSING t c single h =
+pub read_list-returns-then-eq : goal.read_list-returns-then-eq
+read_list-returns-then-eq t c single h =
     let p = c.peek-b in
     let l = c.loop-told in
     let a = c.args in
-    let k : l.here < a.end = p.ensures.inside (omega arith) in
-    going (l.invariant.4 single h ∙ passed_at (source (told_of a.told) a.s.now a.end) l.here l.count l.rows p.result p.ensures 1 c.if-b-eq-CLOSING.true (omega arith) (state agent_list a.level single) list_ends (list_stop _)) (omega arith) (omega arith) (omega arith)
+    closes (source (told_of a.told) a.s.now a.end) (state agent_list a.level single) l.here l.rows (found p.result) p.ensures (found_is p.result 1 c.eq.ensures c.if-eq.true) (list_stop _) refl c.passed.ensures.at c.passed.ensures.rows (l.invariant.4 single h) l.invariant.0 l.invariant.2
 
-pub read_list-returns-then-b-ne2 : goal.read_list-returns-then-b-ne2
-read_list-returns-then-b-ne2 t c single h =
+pub read_list-returns-then-ne : goal.read_list-returns-then-ne
+read_list-returns-then-ne t c single h =
     let p = c.peek-b in
     let l = c.loop-told in
     let a = c.args in
-    begun (le_refl _) (l.invariant.4 single h)
-    (foreign_byte (source (told_of a.told) a.s.now a.end) l.here l.count l.rows p.result p.ensures (state agent_list a.level single) c.fault.ensures (list_none _ p.result c.if-b-eq-CLOSING.false c.if-b-ne2.true) refl refl)
+    let not_closing = not_found p.result 1 (omega arith) c.eq.ensures c.if-eq.false in
+    let not_agent = other_found p.result 0x02 (omega arith) c.ne.ensures c.if-ne.true in
+    begun l.invariant.0 (l.invariant.4 single h)
+    (foreign_byte (source (told_of a.told) a.s.now a.end) l.here.at l.here.rows l.rows (found p.result) p.ensures (state agent_list a.level single) c.fault.ensures (list_none _ (found p.result) not_closing not_agent) refl refl)
 
 pub read_list-returns-then-level-gt-LEVEL_MOST : goal.read_list-returns-then-level-gt-LEVEL_MOST
 read_list-returns-then-level-gt-LEVEL_MOST t c single h =
     let p = c.peek-b in
     let l = c.loop-told in
     let a = c.args in
+    let agent = same_found p.result 0x02 c.ne.ensures c.if-ne.false in
     let deep : ltb level_most a.level ≡ true = lt-ltb level_most a.level (omega arith) in
-    refusing (l.invariant.4 single h ∙ too_deep_at (source (told_of a.told) a.s.now a.end) l.here l.count l.rows p.result p.ensures 0x02 c.if-b-ne2.false (omega arith) (state agent_list a.level single) (on 0x02 ▸ agent_name ▸ text line ▸ stay after_name) (list_name _) deep)
+    rw c.at.ensures
+    (refusing (l.invariant.4 single h ∙ too_deep_at (source (told_of a.told) a.s.now a.end) l.here.at l.here.rows l.rows (found p.result) p.ensures 0x02 agent (omega arith) (state agent_list a.level single) (on 0x02 ▸ agent_name ▸ text line ▸ stay after_name) (list_name _) deep))
 
 pub read_list-returns-in_default : goal.read_list-returns-in_default
 read_list-returns-in_default t c single h =
     let l = c.loop-told in
-    let a = c.args in
+    let name = c.passed-in-loop-told in
     handed c.in_default.is
-    (once_more (told_of a.told) a.s.now a.end a.at a.n a.rows.now l.here l.count l.rows c.peek-b.result a.level single c.read_agent-r.result c.read_agent-r.new.rows h (omega arith) (l.invariant.4 single h) c.peek-b.ensures c.if-b-ne2.false (c.read_agent-r.ensures single))
+    (once_more l.here name.result l.rows c.args.level single h (omega arith) (l.invariant.4 single h) c.peek-b.ensures (same_found c.peek-b.result 0x02 c.ne.ensures c.if-ne.false) name.ensures.at name.ensures.rows (c.read_agent-r.ensures single))
 
 pub read_list-loop-told-smaller : goal.read_list-loop-told-smaller
 read_list-loop-told-smaller t c =
+    let agent = same_found c.peek-b.result 0x02 c.ne.ensures c.if-ne.false in
     let u = moved_to c.in-Go.is (c.read_agent-r.ensures true) in
     omega arith
 
 pub read_list-loop-told-preserved : goal.read_list-loop-told-preserved
 read_list-loop-told-preserved t c =
     let l = c.loop-told in
-    let a = c.args in
+    let name = c.passed-in-loop-told in
+    let agent = same_found c.peek-b.result 0x02 c.ne.ensures c.if-ne.false in
     let u = moved_to c.in-Go.is (c.read_agent-r.ensures true) in (
       omega arith,
       omega arith,
       omega arith,
       c.read_agent-r.auto.rows ∙ l.invariant.3,
       λ single h. went c.in-Go.is
-          (once_more (told_of a.told) a.s.now a.end a.at a.n a.rows.now l.here l.count l.rows c.peek-b.result a.level single c.read_agent-r.result c.read_agent-r.new.rows h (omega arith) (l.invariant.4 single h) c.peek-b.ensures c.if-b-ne2.false (c.read_agent-r.ensures single)),
+          (once_more l.here name.result l.rows c.args.level single h (omega arith) (l.invariant.4 single h) c.peek-b.ensures agent name.ensures.at name.ensures.rows (c.read_agent-r.ensures single)),
     )

@@ -14,8 +14,8 @@ decreases-read_list l = 2 * (9 - l.level) + 1
 
 abbrev pub invariant-read_list-loop-told : goal.invariant-read_list-loop-told
 invariant-read_list-loop-told l =
-    (l.at ≤ l.here) × (l.here ≤ l.end) × (l.count ≤ l.here) × (length l.rows ≡ length l.initial.rows)
-    × ((single : Bool) → InList l.level single → run_at (source (told_of l.told) l.s l.end) (state agent_list l.level single) l.at l.n l.initial.rows ≡ run_at (source (told_of l.told) l.s l.end) (state agent_list l.level single) l.here l.count l.rows)
+    (l.fn.from.at ≤ l.here.at) × (l.here.at ≤ l.end) × (l.here.rows ≤ l.here.at) × (length l.rows ≡ length l.initial.rows)
+    × ((single : Bool) → InList l.level single → run_at (source (told_of l.told) l.s l.end) (state agent_list l.level single) l.fn.from.at l.fn.from.rows l.initial.rows ≡ run_at (source (told_of l.told) l.s l.end) (state agent_list l.level single) l.here.at l.here.rows l.rows)
 
 abbrev pub decreases-read_list-loop-told : goal.decreases-read_list-loop-told
-decreases-read_list-loop-told l = l.end - l.here
+decreases-read_list-loop-told l = l.end - l.here.at

@@ -1,17 +1,18 @@
 -- `agents::behind_resolvers`: an agent's extras are a run of extras with the edition's code.
-use mathlib.Core.Path.{refl}
-use Rattle.meaning.specs.Editions.{after_resolvers, agent_ends, agent_extra, go, state}
+use Rattle.std.specs.Prelude.{refl}
+use Rattle.meaning.specs.Editions.{after_resolvers, agent_extra, agent_ends, go, state}
 use Rattle.laws_steps.specs.AgentRooms.{agent_extras_lem}
 use Rattle.laws_steps.specs.Pouring.{source}
 use Rattle.table.specs.Told.{told_of}
-use Rattle.read_rows.specs.Joining.{no_extras}
+use Rattle.read_rows.specs.Joining.{found_is, no_extras}
+use Rattle.read_rows.specs.Stages.{found}
 use Rattle.read_objects.proofs.agents.behind_resolvers.Goals as goal
 
-pub returns-then-peek-eq-CLOSING : goal.returns-then-peek-eq-CLOSING
-returns-then-peek-eq-CLOSING c single =
+pub returns-then-eq : goal.returns-then-eq
+returns-then-eq c single =
     let p = c.peek in
     let a = c.args in
-    no_extras (source (told_of a.told) a.s.now a.end) a.at a.n a.rows.now p.result p.ensures c.if-peek-eq-CLOSING.true c.requires.few (agent_extras_lem (told_of a.told) a.level single refl)
+    no_extras (source (told_of a.told) a.s.now a.end) a.from a.rows.now (found p.result) p.ensures (found_is p.result 1 c.eq.ensures c.if-eq.true) c.requires.few (state after_resolvers a.level single) (agent_extras_lem (told_of a.told) a.level single refl) c.passed.ensures.at c.passed.ensures.rows
 
 pub returns : goal.returns
 returns c single =

@@ -1,18 +1,31 @@
--- `received::behind_via`: a received object's extras are a run of extras with the edition's code.
-use mathlib.Core.Bool.{false}
-use mathlib.Core.Path.{refl}
-use Rattle.meaning.specs.Editions.{after_via, parameters, received_extra, state}
+-- `received::behind_via`: a received object's extras are a run of extras with the edition's code, or none.
+use Rattle.std.specs.Prelude.{None, Some, false, ◌≡◌, refl}
+use native.Mathlib.Omega.{arith}
+use Rattle.meaning.specs.Editions.{after_via, state}
 use Rattle.laws_steps.specs.Pouring.{source}
-use Rattle.table.specs.Told.{told_of}
-use Rattle.read_rows.specs.Joining.{no_extras}
-use Rattle.read_objects.proofs.ReceivedRooms.{received_extras_lem}
+use Rattle.table.specs.Codes.{received_extra_code}
+use Rattle.table.specs.Told.{edition_of, told_of}
+use Rattle.read_rows.specs.Joining.{closes, foreign_byte, found_is, not_found}
+use Rattle.read_rows.specs.Stages.{found}
+use Rattle.read_objects.proofs.ReceivedRooms.{closing_ends, only_closes, received_extras_lem}
 use Rattle.read_objects.proofs.received.behind_via.Goals as goal
 
-pub returns-then-peek-eq-CLOSING : goal.returns-then-peek-eq-CLOSING
-returns-then-peek-eq-CLOSING c =
-    let p = c.peek in
+pub returns-then-eq : goal.returns-then-eq
+returns-then-eq c =
     let a = c.args in
-    no_extras (source (told_of a.told) a.s.now a.end) a.at a.n a.rows.now p.result p.ensures c.if-peek-eq-CLOSING.true c.requires.few (received_extras_lem (told_of a.told) refl)
+    let p = c.peek-b in
+    closes (source (told_of a.told) a.s.now a.end) (state after_via 1 false) a.from a.rows.now (found p.result) p.ensures (found_is p.result 1 c.eq.ensures c.if-eq.true) (closing_ends _) refl c.passed.ensures.at c.passed.ensures.rows refl (omega arith) c.requires.few
+
+pub returns-in_default : goal.returns-in_default
+returns-in_default c =
+    let a = c.args in
+    let p = c.peek-b in
+    let none : received_extra_code (edition_of a.told.edition) ≡ None = cc in
+    foreign_byte (source (told_of a.told) a.s.now a.end) a.from.at a.from.rows a.rows.now (found p.result) p.ensures (state after_via 1 false) c.fault.ensures
+    (only_closes _ none (found p.result) (not_found p.result 1 (omega arith) c.eq.ensures c.if-eq.false)) refl refl
 
 pub returns : goal.returns
-returns c = c.extras.ensures (state after_via 1 false) (state received_extra 1 false) (state parameters 0 false) (received_extras_lem _ c.received_extra-code.ensures)
+returns c =
+    let a = c.args in
+    let some : received_extra_code (edition_of a.told.edition) ≡ Some c.in-Some.code = cc in
+    c.extras.ensures _ _ _ (received_extras_lem (told_of a.told) some)

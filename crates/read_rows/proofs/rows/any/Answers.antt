@@ -10,10 +10,10 @@ pub keep-requires : goal.keep-requires
 keep-requires c =
     let a = c.args in
     let h = c.requires in
-    (coded_fits (told_of a.told) a.s.now a.end a.at a.n 7 any_values c.take-v.result h c.take-v.ensures, omega (arith, h.small, h.before, h.few))
+    (coded_fits (told_of a.told) a.s.now a.end a.from.at a.from.rows 7 any_values c.take-v.result h c.take-v.ensures, omega (arith, h.small, h.before, h.few))
 
 pub returns : goal.returns
 returns c q d h =
     let a = c.args in
     let k = c.keep.ensures in
-    rw (k.0, k.1) (coded_kept (source (told_of a.told) a.s.now a.end) a.at a.n a.level a.rows.now c.requires 7 any_values q d c.take-v.result h c.take-v.ensures)
+    rw (k.0, k.1) (coded_kept (source (told_of a.told) a.s.now a.end) a.from.at a.from.rows a.level a.rows.now c.requires 7 any_values q d c.take-v.result h c.take-v.ensures)

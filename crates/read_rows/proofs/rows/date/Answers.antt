@@ -10,10 +10,10 @@ pub keep-requires : goal.keep-requires
 keep-requires c =
     let a = c.args in
     let h = c.requires in
-    (coded_fits (told_of a.told) a.s.now a.end a.at a.n 9 (dates_of (edition_of a.told.edition)) c.take-v.result h (c.take-v.ensures (told_of a.told)), omega (arith, h.small, h.before, h.few))
+    (coded_fits (told_of a.told) a.s.now a.end a.from.at a.from.rows 9 (dates_of (edition_of a.told.edition)) c.take-v.result h (c.take-v.ensures (told_of a.told)), omega (arith, h.small, h.before, h.few))
 
 pub returns : goal.returns
 returns c q d h =
     let a = c.args in
     let k = c.keep.ensures in
-    rw (k.0, k.1) (coded_kept (source (told_of a.told) a.s.now a.end) a.at a.n a.level a.rows.now c.requires 9 (dates_of (edition_of a.told.edition)) q d c.take-v.result h (c.take-v.ensures (told_of a.told)))
+    rw (k.0, k.1) (coded_kept (source (told_of a.told) a.s.now a.end) a.from.at a.from.rows a.level a.rows.now c.requires 9 (dates_of (edition_of a.told.edition)) q d c.take-v.result h (c.take-v.ensures (told_of a.told)))

@@ -12,10 +12,10 @@ pub keep-requires : goal.keep-requires
 keep-requires c =
     let a = c.args in
     let h = c.requires in
-    (value_fits a.s.now a.end a.at a.n payload_length 0 (take_number 0 true (from a.s.now a.at a.end)) c.take-v.result h c.take-v.ensures, omega (arith, h.small, h.before, h.few))
+    (value_fits a.s.now a.end a.from.at a.from.rows payload_length 0 (take_number 0 true (from a.s.now a.from.at a.end)) c.take-v.result h c.take-v.ensures, omega (arith, h.small, h.before, h.few))
 
 pub returns : goal.returns
 returns c t q =
     let a = c.args in
     let k = c.keep.ensures in
-    rw (k.0, k.1) (value_kept (source t a.s.now a.end) a.at a.n 0 a.rows.now c.requires payload_length 0 q (take_number 0 true (from a.s.now a.at a.end)) c.take-v.result c.take-v.ensures)
+    rw (k.0, k.1) (value_kept (source t a.s.now a.end) a.from.at a.from.rows 0 a.rows.now c.requires payload_length 0 q (take_number 0 true (from a.s.now a.from.at a.end)) c.take-v.result c.take-v.ensures)

@@ -10,8 +10,8 @@ use Rattle.read_rows.proofs.texts.extras.Given as goal
 
 abbrev pub invariant-loop-told : goal.invariant-loop-told
 invariant-loop-told l =
-    (l.at ≤ l.here) × (l.here ≤ l.end) × (l.count ≤ l.here) × (length l.rows ≡ length l.initial.rows)
-    × ((q any d : State) → Extras (told_of l.told) q any d l.code l.level → run_at (source (told_of l.told) l.s l.end) q l.at l.n l.initial.rows ≡ run_at (source (told_of l.told) l.s l.end) q l.here l.count l.rows)
+    (l.fn.from.at ≤ l.here.at) × (l.here.at ≤ l.end) × (l.here.rows ≤ l.here.at) × (length l.rows ≡ length l.initial.rows)
+    × ((q any d : State) → Extras (told_of l.told) q any d l.code l.level → run_at (source (told_of l.told) l.s l.end) q l.fn.from.at l.fn.from.rows l.initial.rows ≡ run_at (source (told_of l.told) l.s l.end) q l.here.at l.here.rows l.rows)
 
 abbrev pub decreases-loop-told : goal.decreases-loop-told
-decreases-loop-told l = l.end - l.here
+decreases-loop-told l = l.end - l.here.at
