@@ -4,9 +4,9 @@ use mathlib.Core.List.{List, []}
 use mathlib.Core.Bool.{Bool, true, false}
 use mathlib.Core.Path.{◌≡◌, refl, ap, sym, ◌∙◌, subst}
 use native.Mathlib.Omega.{arith}
-use lib.Dec.{eqb, ltb}
+use lib.Dec.{ltb}
 use lib.ListN.{length}
-use borrow.Author.Tests.{ltb-true, ltb-false, eq-eqb, ne_eqb}
+use borrow.Author.Tests.{ltb-true, ltb-false}
 use Rattle.meaning.specs.Headers.{start, envelope_most}
 use Rattle.meaning.specs.Writing.{Cell, Plan, stuck, new_plan, Limit}
 use Rattle.meaning.specs.Told.{Edition}
@@ -15,11 +15,11 @@ use Rattle.write_rows.specs.Laying.{capped, capped_most}
 use Rattle.laws_steps.specs.Rows.{cells_at, cells_next, cells_none, cells_part, whole_rows}
 use Rattle.write_rows.specs.Bodies.{Body, halt, body, body_of}
 use Rattle.write_inside.specs.Insides.{open_base, open_end}
-use Rattle.write_envelopes.specs.Whole.{edge, from_body, Verdict, bad, needs, verdict_of, verdict, end_verdict, limit_of, Measured, OneMore}
+use Rattle.write_envelopes.specs.Whole.{edge, from_body, Verdict, bad, verdict_of, verdict, end_verdict, limit_of, Measured, OneMore}
 use Rattle.write_envelopes.specs.declared.measure.Sizes.{Sizes}
 use Rattle.write_inside.specs.declared.body.Inside.{Inside}
 use Rattle.write_rows.specs.declared.advance.Misfit.{Misfit}
-use Rattle.std.specs.Prelude.{Option, None, Some, Result, Ok, Err}
+use Rattle.std.specs.Prelude.{None, Some, Ok, Err}
 use Rattle.write_envelopes.proofs.Wholes.{edge_none, edge_open, more_extension, more_base, Later, body_later, opened}
 
 -- the plan from row i on, where an envelope must open

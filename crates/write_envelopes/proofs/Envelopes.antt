@@ -18,7 +18,7 @@ use Rattle.write_inside.specs.Insides.{BodyIs}
 use Rattle.write_envelopes.specs.Whole.{Measured, identifier_of, head_of, EnvelopeWritten}
 use Rattle.write_inside.specs.declared.body.Inside.{Inside}
 use Rattle.write_rows.specs.declared.advance.Misfit.{Misfit}
-use Rattle.std.specs.Prelude.{Option, None, Some, Result, Ok, Err}
+use Rattle.std.specs.Prelude.{Result, Ok, Err}
 
 -- a part that is filled whole
 sets_all : (m bs : List ℕ) → length m ≡ length bs → sets m 0 bs ≡ bs

@@ -5,7 +5,6 @@ use mathlib.Core.Path.{◌≡◌, ap, sym, ◌∙◌}
 use native.Mathlib.Omega.{arith}
 use lib.ListN.{length, take, drop, set, length-append, length-set}
 use lib.Seq.{set_split, take_at, length-take-le}
-use borrow.Author.Tests.{eq-eqb, ne_eqb}
 use Rattle.meaning.specs.Writing.{Envelope, Plan, whole_plan, Limit, fine}
 use Rattle.laws_steps.specs.Rows.{cells_at}
 use Rattle.meaning.specs.Told.{Edition}

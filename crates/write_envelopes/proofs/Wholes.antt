@@ -5,7 +5,7 @@ use mathlib.Core.Bool.{Bool, true, false}
 use mathlib.Core.Path.{◌≡◌, refl, ap, sym, ◌∙◌}
 use native.Mathlib.Omega.{arith}
 use native.Mathlib.Numerals.{add-one}
-use lib.Dec.{eqb, ltb}
+use lib.Dec.{ltb}
 use lib.ListN.{length, length-append}
 use borrow.Author.Tests.{lt-leb, ltb-false}
 use Rattle.meaning.specs.Basics.{pick}
@@ -17,7 +17,7 @@ use Rattle.meaning.specs.Writing.{Fit, unfit, fits, fit_row, close, Cell, cell, 
 use Rattle.laws_steps.specs.Fits.{close_once}
 use Rattle.laws_steps.specs.Envelopes.{wrap_length}
 use Rattle.write_rows.specs.Laying.{capped}
-use Rattle.write_rows.specs.Bodies.{Body, halt, body, on_body, seal_body, row_body, cell_body, body_of, opens_number}
+use Rattle.write_rows.specs.Bodies.{Body, halt, body, on_body, seal_body, row_body, cell_body, body_of}
 use Rattle.write_inside.specs.Insides.{base_of, open_base, none_fits}
 use Rattle.write_envelopes.specs.Whole.{open_plan, edge, from_body, needs, first_over, verdict_of, verdict, sized, end_verdict, limit_of, OneMore}
 use Rattle.write_envelopes.specs.declared.measure.Sizes.{Sizes}
