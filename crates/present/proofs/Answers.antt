@@ -13,17 +13,17 @@ use Rattle.laws_steps.specs.Logic.{are_bytes}
 use Rattle.laws_tables.specs.Passing.{first_at}
 use Rattle.laws_tables.specs.PresentValues.{Walkable, passed_walkable, present_at}
 use Rattle.table.specs.declared.reply.Reply as declared
-use Rattle.table.specs.Reply.{reply_of}
-use Rattle.table.specs.declared.answers.Checked.{Checked}
-use Rattle.table.specs.declared.answers.Checked.TheVariants.{Bad, Needs}
+use Rattle.table.specs.Reply.{fault_reply, reply_of}
+use Rattle.table.specs.declared.answers.Fault.{Fault}
+use Rattle.std.specs.Prelude.{Result, Ok, Err}
 use Rattle.writer.specs.Promise.{check_is}
 use Rattle.present.specs.Promise.{PresentPromise}
 
-module _ (edition : Edition) (rows pool : List ℕ) (code : ℕ) {r : Checked} (k : check_is r ≡ checked edition rows pool) where
-  pub refuses : {answer place : ℕ} {a : declared.Reply} → r ≡ Bad answer place → reply_of a ≡ reply answer place 0 → reply_of a ≡ answered_by rows code (checked edition rows pool)
+module _ (edition : Edition) (rows pool : List ℕ) (code : ℕ) {r : Result ℕ Fault} (k : check_is r ≡ checked edition rows pool) where
+  pub refuses : {fault : Fault} {a : declared.Reply} → r ≡ Err fault → reply_of a ≡ fault_reply fault → reply_of a ≡ answered_by rows code (checked edition rows pool)
   refuses q e = e ∙ ap (answered_by rows code) (sym (ap check_is q) ∙ k)
 
-  module _ {many : ℕ} (q : r ≡ Needs many) where
+  module _ {many : ℕ} (q : r ≡ Ok many) where
     passes : checked edition rows pool ≡ passed
     passes = sym k ∙ ap check_is q
 

@@ -12,13 +12,12 @@ ghost use Rattle.table.specs.Reply.{reply_of};
 ghost use Rattle.table.specs.Told.{edition_of};
 ghost use Rattle.present.specs.Promise.{PresentPromise, next_looked};
 
-use table::answers::Checked;
-use table::kinds::{BASE_OPENS, EXTENSION_OPENS};
+use table::kinds::Kind;
 use table::parameters::{can_ask, code_of};
-use table::refusals::{EDITION_UNKNOWN, PARAMETER_UNKNOWN};
-use table::reply::{Reply, refused};
+use table::refusals::Refusal;
+use table::reply::Reply;
 use table::rows::{kind_at, level_at, room, skip_at};
-use table::told::{Edition, Label, label_of};
+use table::told::Edition;
 use writer::check_rows;
 
 // Takes an edition's number, rows, the pool that they view, and a parameter's code. Answers 0, the row that opens or holds its present value (the row
@@ -27,14 +26,13 @@ use writer::check_rows;
 pub fn present(edition: u32, rows: &[u32], pool: &[u8], code: u32) -> Reply
     ensures { PresentPromise edition rows.now pool.now code result }
 {
-    let label = label_of(edition);
-    let Label::Known(known) = label else {
-        return refused(EDITION_UNKNOWN, 0);
+    let Ok(known) = Edition::try_from(edition) else {
+        return Reply::from(Refusal::EditionUnknown.at(0));
     };
     if can_ask(code) {
         return present_in(known, rows, pool, code);
     }
-    refused(PARAMETER_UNKNOWN, 0)
+    Reply::from(Refusal::ParameterUnknown.at(0))
 }
 
 // The same in a known edition, of a code that can be asked for.
@@ -42,10 +40,9 @@ fn present_in(edition: Edition, rows: &[u32], pool: &[u8], code: u32) -> Reply
     requires { can_ask code ≡ true }
     ensures { reply_of result ≡ answered_by rows.now code (checked (edition_of edition) rows.now pool.now) }
 {
-    let c = check_rows(edition, rows, pool);
-    match c {
-        Checked::Bad { answer, place } => refused(answer, place),
-        Checked::Needs(_) => Reply {
+    match check_rows(edition, rows, pool) {
+        Err(fault) => Reply::from(fault),
+        Ok(_) => Reply {
             answer: 0,
             place: first_value(rows, code),
             rows: room(rows.len()),
@@ -86,9 +83,12 @@ fn next_looked(rows: &[u32], i: usize) -> usize
     requires { i < room_of rows.now }
     ensures { result ≡ next_looked rows.now i }
 {
-    match kind_at(rows, i) {
-        EXTENSION_OPENS => i + 1,
-        BASE_OPENS => i + 1,
+    let Ok(kind) = Kind::try_from(kind_at(rows, i)) else {
+        return skip_at(rows, i);
+    };
+    match kind {
+        Kind::ExtensionOpens => i + 1,
+        Kind::BaseOpens => i + 1,
         _ => skip_at(rows, i),
     }
 }

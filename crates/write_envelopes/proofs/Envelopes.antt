@@ -16,8 +16,9 @@ use Rattle.write_rows.specs.Laying.{one, capped, Laid, laid_as}
 use Rattle.write_rows.specs.Bodies.{Body, halt, body}
 use Rattle.write_inside.specs.Insides.{BodyIs}
 use Rattle.write_envelopes.specs.Whole.{Measured, identifier_of, head_of, EnvelopeWritten}
-use Rattle.write_inside.specs.declared.body.Bodied.{Bodied}
-use Rattle.write_inside.specs.declared.body.Bodied.TheVariants.{Stuck, Ended}
+use Rattle.write_inside.specs.declared.body.Inside.{Inside}
+use Rattle.write_rows.specs.declared.advance.Misfit.{Misfit}
+use Rattle.std.specs.Prelude.{Result, Ok, Err}
 
 -- a part that is filled whole
 sets_all : (m bs : List ℕ) → length m ≡ length bs → sets m 0 bs ≡ bs
@@ -64,11 +65,11 @@ module _ (out : List ℕ) (at n end : ℕ) (h : at ≤ n) (k : n ≤ end) (l : e
 
 -- A body over an empty part is only measured
 
-pub measured : (B : Body) (pool rows m after : List ℕ) (r : Bodied) → BodyIs B pool rows m 0 r after → Measured B pool rows r
-measured (halt j) pool rows m after (Stuck i) z = z
-measured (halt j) pool rows m after (Ended row p) z = z
-measured (body bytes j cells) pool rows m after (Stuck i) z = z
-measured (body bytes j cells) pool rows m after (Ended row p) z = (z.0, z.1, z.2, z.3.counted ∙ (let q : 0 + length bytes ≡ length bytes = omega arith in ap capped q))
+pub measured : (B : Body) (pool rows m after : List ℕ) (r : Result Inside Misfit) → BodyIs B pool rows m 0 r after → Measured B pool rows r
+measured (halt j) pool rows m after (Err misfit) z = z
+measured (halt j) pool rows m after (Ok inside) z = z
+measured (body bytes j cells) pool rows m after (Err misfit) z = z
+measured (body bytes j cells) pool rows m after (Ok inside) z = (z.0, z.1, z.2, z.3.counted ∙ (let q : 0 + length bytes ≡ length bytes = omega arith in ap capped q))
 
 module _ (out : List ℕ) (at n end many : ℕ) (base : Bool) (e : end ≡ at + envelope_size many) (i : n ≡ end - many) (l : end ≤ length out) where
   n_is : n ≡ at + length (head_of base many)
@@ -77,14 +78,14 @@ module _ (out : List ℕ) (at n end many : ℕ) (base : Bool) (e : end ≡ at + 
   head_part : length (take (n - at) (drop at out)) ≡ length (head_of base many)
   head_part = mid_len at n out (omega (arith, head_length base many)) ∙ (let q : n - at ≡ length (head_of base many) = omega (arith, n_is) in q)
 
-  body_bytes : (B : Body) (pool rows m lb : List ℕ) (r : Bodied) → length m ≡ many → BodyIs B pool rows m 0 r lb → (bytes : List ℕ) (j : ℕ) (cells : List Cell) → B ≡ body bytes j cells → length bytes ≡ many → lb ≡ bytes
+  body_bytes : (B : Body) (pool rows m lb : List ℕ) (r : Result Inside Misfit) → length m ≡ many → BodyIs B pool rows m 0 r lb → (bytes : List ℕ) (j : ℕ) (cells : List Cell) → B ≡ body bytes j cells → length bytes ≡ many → lb ≡ bytes
   body_bytes B pool rows m lb r q b bytes j cells f w = from r (subst (λ (x : Body). BodyIs x pool rows m 0 r lb) f b)
     where
-      from : (r : Bodied) → BodyIs (body bytes j cells) pool rows m 0 r lb → lb ≡ bytes
-      from (Stuck i) z = absurd z
-      from (Ended row p) z = laid_all z.3 (q ∙ sym w)
+      from : (r : Result Inside Misfit) → BodyIs (body bytes j cells) pool rows m 0 r lb → lb ≡ bytes
+      from (Err misfit) z = absurd z
+      from (Ok inside) z = laid_all z.3 (q ∙ sym w)
 
-  pub envelope_laid : (B : Body) (pool rows lh lb : List ℕ) (r : Bodied) {p : ℕ} → Laid (take (n - at) (drop at out)) 0 (head_of base many) lh p → BodyIs B pool rows (take (end - n) (drop n (put_mid at (n - at) out lh))) 0 r lb
+  pub envelope_laid : (B : Body) (pool rows lh lb : List ℕ) (r : Result Inside Misfit) {p : ℕ} → Laid (take (n - at) (drop at out)) 0 (head_of base many) lh p → BodyIs B pool rows (take (end - n) (drop n (put_mid at (n - at) out lh))) 0 r lb
       → EnvelopeWritten B pool rows base many out at (put_mid n (end - n) (put_mid at (n - at) out lh) lb) r
   envelope_laid B pool rows lh lb r a b =
       let hn = n_is in

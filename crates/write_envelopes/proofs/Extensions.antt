@@ -12,10 +12,12 @@ use Rattle.meaning.specs.Memory.{room_of, laid_over}
 use Rattle.meaning.specs.Relay.{extension_inside, extension_plan}
 use Rattle.laws_steps.specs.Rows.{cells_at, cells_next}
 use Rattle.write_rows.specs.Laying.{capped}
-use Rattle.write_rows.specs.Bodies.{Body, halt, body, body_of, opens_number}
-use Rattle.write_inside.specs.Insides.{open_number}
+use Rattle.write_rows.specs.Bodies.{Body, halt, body, body_of}
+use Rattle.write_inside.specs.Insides.{base_of, open_base}
 use Rattle.laws_steps.specs.Envelopes.{wrap_length}
-use Rattle.write_inside.specs.declared.body.Bodied.{Bodied}
+use Rattle.write_inside.specs.declared.body.Inside.{Inside}
+use Rattle.write_rows.specs.declared.advance.Misfit.{Misfit}
+use Rattle.std.specs.Prelude.{Some, Result}
 use Rattle.write_envelopes.specs.Whole.{edge, from_body, bad, end_verdict, EnvelopeWritten}
 use Rattle.write_envelopes.specs.Extension.{extension_verdict}
 use Rattle.write_envelopes.proofs.Wholes.{plan_body, opened}
@@ -24,39 +26,39 @@ use Rattle.write_envelopes.proofs.Checking.{row_inside, Ends}
 no_plan : {A : Type 0} {i : ℕ} {bytes : List ℕ} {vs : List Envelope} → stuck i ≡ plan bytes vs → A
 no_plan q = let z : ◌≡◌ {A = ℕ} 0 1 = cc q in absurd (omega arith)
 
-other_opens : (e : Edition) (cs : List Cell) → (open_number cs ≡ 1 → ⊥) → extension_plan e cs ≡ stuck 0
+other_opens : (e : Edition) (cs : List Cell) → (open_base cs ≡ Some false → ⊥) → extension_plan e cs ≡ stuck 0
 other_opens e [] h = refl
 other_opens e (broken ∷ cs) h = refl
 other_opens e (cell row ∷ cs) h = at (opens_of row) h
   where
-    at : (o : Opens) → (opens_number o ≡ 1 → ⊥) → extension_inside e cs o ≡ stuck 0
+    at : (o : Opens) → (base_of o ≡ Some false → ⊥) → extension_inside e cs o ≡ stuck 0
     at inner_row h = refl
     at (envelope_row true) h = refl
     at (envelope_row false) h = absurd (h refl)
 
-extension_opens_lem : (e : Edition) (cs ds : List Cell) → open_number cs ≡ 1 → opened cs ≡ ds → extension_plan e cs ≡ from_body e true (body_of e ds 1 (start false))
-extension_opens_lem e [] ds h d = absurd (omega arith)
-extension_opens_lem e (broken ∷ cs) ds h d = absurd (omega arith)
+extension_opens_lem : (e : Edition) (cs ds : List Cell) → open_base cs ≡ Some false → opened cs ≡ ds → extension_plan e cs ≡ from_body e true (body_of e ds 1 (start false))
+extension_opens_lem e [] ds h d = cc
+extension_opens_lem e (broken ∷ cs) ds h d = cc
 extension_opens_lem e (cell row ∷ cs) ds h d = at (opens_of row) h
   where
-    at : (o : Opens) → opens_number o ≡ 1 → extension_inside e cs o ≡ from_body e true (body_of e ds 1 (start false))
-    at inner_row h = absurd (omega arith)
-    at (envelope_row true) h = absurd (omega arith)
+    at : (o : Opens) → base_of o ≡ Some false → extension_inside e cs o ≡ from_body e true (body_of e ds 1 (start false))
+    at inner_row h = cc
+    at (envelope_row true) h = cc
     at (envelope_row false) h = plan_body e cs 1 true (start false) ∙ ap (λ (x : List Cell). from_body e true (body_of e x 1 (start false))) d
 
-module _ (e : Edition) (pool rows : List ℕ) {n : ℕ} (q : n ≡ open_number (cells_at pool rows 0)) where
-  pub no_extension : (n ≡ 1 → ⊥) → bad 15 0 ≡ extension_verdict (extension_plan e (cells_at pool rows 0))
-  no_extension h = sym (ap extension_verdict (other_opens e (cells_at pool rows 0) (λ z. h (q ∙ z))))
+module _ (e : Edition) (pool rows : List ℕ) where
+  pub no_extension : (open_base (cells_at pool rows 0) ≡ Some false → ⊥) → bad 15 0 ≡ extension_verdict (extension_plan e (cells_at pool rows 0))
+  no_extension h = sym (ap extension_verdict (other_opens e (cells_at pool rows 0) h))
 
-  module _ (one : n ≡ 1) where
+  module _ (q : Some false ≡ open_base (cells_at pool rows 0)) where
     pub some_row : 0 < room_of rows
-    some_row = row_inside e pool rows 0 q (λ z. omega arith)
+    some_row = row_inside e pool rows 0 q
 
     abbrev pub inside : Body
     inside = body_of e (cells_at pool rows 1) 1 (start false)
 
     pub its_plan : extension_plan e (cells_at pool rows 0) ≡ from_body e true inside
-    its_plan = extension_opens_lem e (cells_at pool rows 0) (cells_at pool rows 1) (sym q ∙ one) (ap opened (cells_next pool rows 0 some_row))
+    its_plan = extension_opens_lem e (cells_at pool rows 0) (cells_at pool rows 1) (sym q) (ap opened (cells_next pool rows 0 some_row))
 
     pub extension_stuck : {j : ℕ} → inside ≡ halt j → bad 15 j ≡ extension_verdict (extension_plan e (cells_at pool rows 0))
     extension_stuck h = sym (ap extension_verdict (its_plan ∙ ap (from_body e true) h))
@@ -77,12 +79,12 @@ extension_long {xs = xs} {ys = ys} {vs = vs} {ws = ws} a b =
     let z : ys ≡ xs = cc q in
     ap length z
 
-one_opens : (e : Edition) (cs : List Cell) (bytes : List ℕ) (vs : List Envelope) → extension_plan e cs ≡ plan bytes vs → open_number cs ≡ 1
+one_opens : (e : Edition) (cs : List Cell) (bytes : List ℕ) (vs : List Envelope) → extension_plan e cs ≡ plan bytes vs → open_base cs ≡ Some false
 one_opens e [] bytes vs p = no_plan p
 one_opens e (broken ∷ cs) bytes vs p = no_plan p
 one_opens e (cell row ∷ cs) bytes vs p = at (opens_of row) p
   where
-    at : (o : Opens) → extension_inside e cs o ≡ plan bytes vs → opens_number o ≡ 1
+    at : (o : Opens) → extension_inside e cs o ≡ plan bytes vs → base_of o ≡ Some false
     at inner_row q = no_plan q
     at (envelope_row true) q = no_plan q
     at (envelope_row false) q = refl
@@ -95,12 +97,12 @@ body_planned e (body bs j (cell row ∷ cs)) bytes vs p = no_plan p
 
 module _ (e : Edition) (pool rows : List ℕ) (bytes : List ℕ) (vs : List Envelope) (p : extension_plan e (cells_at pool rows 0) ≡ plan bytes vs) where
   pub planned_row : 0 < room_of rows
-  planned_row = some_row e pool rows refl (one_opens e (cells_at pool rows 0) bytes vs p)
+  planned_row = some_row e pool rows (sym (one_opens e (cells_at pool rows 0) bytes vs p))
 
   planned_body : (j : ℕ) × (cells : List Cell) × (body_of e (cells_at pool rows 1) 1 (start false) ≡ body bytes j cells)
-  planned_body = body_planned e (body_of e (cells_at pool rows 1) 1 (start false)) bytes vs (sym (its_plan e pool rows refl (one_opens e (cells_at pool rows 0) bytes vs p)) ∙ p)
+  planned_body = body_planned e (body_of e (cells_at pool rows 1) 1 (start false)) bytes vs (sym (its_plan e pool rows (sym (one_opens e (cells_at pool rows 0) bytes vs p))) ∙ p)
 
-  pub extension_laid : {many : ℕ} {before after : List ℕ} {r : Bodied} → length bytes ≡ many → EnvelopeWritten (body_of e (cells_at pool rows 1) 1 (start false)) pool rows false many before 0 after r → after ≡ laid_over before (wrap false bytes)
+  pub extension_laid : {many : ℕ} {before after : List ℕ} {r : Result Inside Misfit} → length bytes ≡ many → EnvelopeWritten (body_of e (cells_at pool rows 1) 1 (start false)) pool rows false many before 0 after r → after ≡ laid_over before (wrap false bytes)
   unfolding laid_over
   extension_laid {many} {before} l w =
       let (j, cells, q) = planned_body in

@@ -1,5 +1,4 @@
 pub mod Wholes
-pub mod Sizing
 pub mod Envelopes
 pub mod Checking
 pub mod Passing

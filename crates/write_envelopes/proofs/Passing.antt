@@ -4,15 +4,14 @@ use mathlib.Core.List.{List, [], ◌∷◌}
 use mathlib.Core.Bool.{Bool, true, false}
 use mathlib.Core.Path.{◌≡◌, refl, ap, sym, ◌∙◌}
 use native.Mathlib.Omega.{arith}
-use lib.Dec.{eqb}
 use lib.ListN.{length}
 use Rattle.meaning.specs.Told.{Edition}
 use Rattle.meaning.specs.Headers.{start}
 use Rattle.meaning.specs.Writing.{Cell, cell, broken, Opens, envelope_row, inner_row, opens_of, Envelope, envelope_at, Plan, stuck, plan, new_plan, plan_of, envelope_size, header_of, Limit, fine, exceeds, limits}
 use Rattle.laws_steps.specs.Rows.{cells_at}
-use Rattle.meaning.specs.Kinds.{base_opens}
 use Rattle.write_rows.specs.Bodies.{Body, halt, body}
-use Rattle.write_inside.specs.Insides.{open_number}
+use Rattle.std.specs.Prelude.{None, Some}
+use Rattle.write_inside.specs.Insides.{open_base}
 use Rattle.write_envelopes.specs.Whole.{open_plan, edge, from_body, bad, needs, verdict_of, verdict, sized, end_verdict, envelopes_of}
 use Rattle.write_envelopes.proofs.Wholes.{verdict_extension, verdict_base}
 use Rattle.write_envelopes.proofs.Checking.{rest, rest_none, here, rest_opens}
@@ -67,61 +66,61 @@ end_fine t u r o (c ∷ cs) q = never q
 pub record Passing (edition : Edition) (pool rows : List ℕ) (i m t u : ℕ) : Type 0 where
   pub is : verdict m t fine (rest edition pool rows i) ≡ needs u
 
-module _ {edition : Edition} {pool rows : List ℕ} {i m t u : ℕ} (v : Passing edition pool rows i m t u) {n : ℕ} (q : n ≡ open_number (cells_at pool rows i)) where
-  pub passing_none : {A : Type 0} → n ≡ 0 → A
-  passing_none z = never (ap (verdict m t fine) (sym (rest_none edition pool rows i q z)) ∙ v.is)
+module _ {edition : Edition} {pool rows : List ℕ} {i m t u : ℕ} (v : Passing edition pool rows i m t u) where
+  pub passing_none : {A : Type 0} → None ≡ open_base (cells_at pool rows i) → A
+  passing_none q = never (ap (verdict m t fine) (sym (rest_none edition pool rows i q)) ∙ v.is)
 
-  module _ (h : n ≡ 0 → ⊥) where
-    passes_here : verdict m t fine (new_plan i (eqb n base_opens) [] (from_body edition (eqb n base_opens) (here edition pool rows i q h))) ≡ needs u
-    passes_here = ap (verdict m t fine) (sym (rest_opens edition pool rows i q h)) ∙ v.is
+  module _ {base : Bool} (q : Some base ≡ open_base (cells_at pool rows i)) where
+    passes_here : verdict m t fine (new_plan i base [] (from_body edition base (here edition pool rows i q))) ≡ needs u
+    passes_here = ap (verdict m t fine) (sym (rest_opens edition pool rows i q)) ∙ v.is
 
-    pub passing_stuck : {A : Type 0} {j : ℕ} → here edition pool rows i q h ≡ halt j → A
-    passing_stuck e = never (ap (λ (b : Body). verdict m t fine (new_plan i (eqb n base_opens) [] (from_body edition (eqb n base_opens) b))) (sym e) ∙ passes_here)
+    pub passing_stuck : {A : Type 0} {j : ℕ} → here edition pool rows i q ≡ halt j → A
+    passing_stuck e = never (ap (λ (b : Body). verdict m t fine (new_plan i base [] (from_body edition base b))) (sym e) ∙ passes_here)
 
-    pub passing_body : (bytes : List ℕ) × (row : ℕ) × (cells : List Cell) × (here edition pool rows i q h ≡ body bytes row cells)
-    passing_body = at (here edition pool rows i q h) refl
+    pub passing_body : (bytes : List ℕ) × (row : ℕ) × (cells : List Cell) × (here edition pool rows i q ≡ body bytes row cells)
+    passing_body = at (here edition pool rows i q) refl
       where
-        at : (b : Body) → here edition pool rows i q h ≡ b → (bytes : List ℕ) × (row : ℕ) × (cells : List Cell) × (here edition pool rows i q h ≡ body bytes row cells)
+        at : (b : Body) → here edition pool rows i q ≡ b → (bytes : List ℕ) × (row : ℕ) × (cells : List Cell) × (here edition pool rows i q ≡ body bytes row cells)
         at (halt j) e = passing_stuck e
         at (body bytes row cells) e = (bytes, row, cells, e)
 
-    module _ {bytes : List ℕ} {row : ℕ} {cells : List Cell} (z : here edition pool rows i q h ≡ body bytes row cells) where
-      opens_at : (b : Bool) → eqb n base_opens ≡ b → rest edition pool rows i ≡ new_plan i b [] (edge edition b bytes row cells)
+    module _ {bytes : List ℕ} {row : ℕ} {cells : List Cell} (z : here edition pool rows i q ≡ body bytes row cells) where
+      opens_at : (b : Bool) → base ≡ b → rest edition pool rows i ≡ new_plan i b [] (edge edition b bytes row cells)
       opens_at b e =
-          rest_opens edition pool rows i q h ∙ ap (λ (x : Body). new_plan i (eqb n base_opens) [] (from_body edition (eqb n base_opens) x)) z
+          rest_opens edition pool rows i q ∙ ap (λ (x : Body). new_plan i base [] (from_body edition base x)) z
           ∙ ap (λ (b : Bool). new_plan i b [] (edge edition b bytes row cells)) e
 
-      passes_at : (b : Bool) → eqb n base_opens ≡ b → verdict m t fine (new_plan i b [] (edge edition b bytes row cells)) ≡ needs u
+      passes_at : (b : Bool) → base ≡ b → verdict m t fine (new_plan i b [] (edge edition b bytes row cells)) ≡ needs u
       passes_at b e = ap (verdict m t fine) (sym (opens_at b e)) ∙ v.is
 
-      extension_passes : eqb n base_opens ≡ false → (verdict (m - 1) (t + envelope_size (length bytes)) fine (edge edition false [] row cells) ≡ needs u) × (sized m i (length bytes) ≡ fine)
+      extension_passes : base ≡ false → (verdict (m - 1) (t + envelope_size (length bytes)) fine (edge edition false [] row cells) ≡ needs u) × (sized m i (length bytes) ≡ fine)
       extension_passes e =
           let w = sym (verdict_extension m t i fine edition bytes row cells) ∙ passes_at false e in
           let f = still_fine (m - 1) (t + envelope_size (length bytes)) u (sized m i (length bytes)) (edge edition false [] row cells) w in
           (ap (λ (o : Limit). verdict (m - 1) (t + envelope_size (length bytes)) o (edge edition false [] row cells)) (sym f) ∙ w, f)
 
-      base_passes : eqb n base_opens ≡ true → end_verdict cells row (t + envelope_size (length bytes)) (sized m i (length bytes)) ≡ needs u
+      base_passes : base ≡ true → end_verdict cells row (t + envelope_size (length bytes)) (sized m i (length bytes)) ≡ needs u
       base_passes e = sym (verdict_base m t i fine edition bytes row cells) ∙ passes_at true e
 
-      pub passing_on : eqb n base_opens ≡ false → verdict (m - 1) (t + envelope_size (length bytes)) fine (edge edition false [] row cells) ≡ needs u
+      pub passing_on : base ≡ false → verdict (m - 1) (t + envelope_size (length bytes)) fine (edge edition false [] row cells) ≡ needs u
       passing_on e = (extension_passes e).0
 
       pub passing_fine : (sized m i (length bytes) ≡ fine) × (t + envelope_size (length bytes) ≤ u)
-      passing_fine = at (eqb n base_opens) refl
+      passing_fine = at base refl
         where
-          at : (b : Bool) → eqb n base_opens ≡ b → (sized m i (length bytes) ≡ fine) × (t + envelope_size (length bytes) ≤ u)
+          at : (b : Bool) → base ≡ b → (sized m i (length bytes) ≡ fine) × (t + envelope_size (length bytes) ≤ u)
           at true e = let (f, g) = end_fine (t + envelope_size (length bytes)) u row (sized m i (length bytes)) cells (base_passes e) in (f, omega arith)
           at false e = ((extension_passes e).1, needs_most (m - 1) (t + envelope_size (length bytes)) u (edge edition false [] row cells) (passing_on e))
 
-      pub passing_extension : eqb n base_opens ≡ false → envelopes_of (rest edition pool rows i) ≡ envelope_at i false bytes ∷ envelopes_of (edge edition false [] row cells)
+      pub passing_extension : base ≡ false → envelopes_of (rest edition pool rows i) ≡ envelope_at i false bytes ∷ envelopes_of (edge edition false [] row cells)
       passing_extension e = ap envelopes_of (opens_at false e) ∙ extension_first (m - 1) (t + envelope_size (length bytes)) u i edition bytes row cells (passing_on e)
 
-      pub passing_base : eqb n base_opens ≡ true → envelopes_of (rest edition pool rows i) ≡ envelope_at i true bytes ∷ []
+      pub passing_base : base ≡ true → envelopes_of (rest edition pool rows i) ≡ envelope_at i true bytes ∷ []
       passing_base e = ap envelopes_of (opens_at true e) ∙ base_alone (t + envelope_size (length bytes)) u i (sized m i (length bytes)) edition bytes row cells (base_passes e)
 
-      pub passing_first : (behind : List Envelope) × (envelopes_of (rest edition pool rows i) ≡ envelope_at i (eqb n base_opens) bytes ∷ behind)
-      passing_first = at (eqb n base_opens) refl
+      pub passing_first : (behind : List Envelope) × (envelopes_of (rest edition pool rows i) ≡ envelope_at i base bytes ∷ behind)
+      passing_first = at base refl
         where
-          at : (b : Bool) → eqb n base_opens ≡ b → (behind : List Envelope) × (envelopes_of (rest edition pool rows i) ≡ envelope_at i b bytes ∷ behind)
+          at : (b : Bool) → base ≡ b → (behind : List Envelope) × (envelopes_of (rest edition pool rows i) ≡ envelope_at i b bytes ∷ behind)
           at true e = ([], passing_base e)
           at false e = (envelopes_of (edge edition false [] row cells), passing_extension e)

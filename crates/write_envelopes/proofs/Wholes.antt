@@ -5,7 +5,7 @@ use mathlib.Core.Bool.{Bool, true, false}
 use mathlib.Core.Path.{◌≡◌, refl, ap, sym, ◌∙◌}
 use native.Mathlib.Omega.{arith}
 use native.Mathlib.Numerals.{add-one}
-use lib.Dec.{eqb, ltb}
+use lib.Dec.{ltb}
 use lib.ListN.{length, length-append}
 use borrow.Author.Tests.{lt-leb, ltb-false}
 use Rattle.meaning.specs.Basics.{pick}
@@ -16,12 +16,12 @@ use Rattle.meaning.specs.Headers.{start, envelope_most}
 use Rattle.meaning.specs.Writing.{Fit, unfit, fits, fit_row, close, Cell, cell, broken, Opens, envelope_row, inner_row, opens_of, Envelope, envelope_at, Plan, stuck, plan, on_plan, new_plan, row_plan, turn_plan, end_plan, next_row, last_row, plan_of, whole_plan, envelope_size, within_limit, wrap, header_of, Limit, fine, exceeds, limits}
 use Rattle.laws_steps.specs.Fits.{close_once}
 use Rattle.laws_steps.specs.Envelopes.{wrap_length}
-use Rattle.meaning.specs.Kinds.{base_opens}
 use Rattle.write_rows.specs.Laying.{capped}
-use Rattle.write_rows.specs.Bodies.{Body, halt, body, on_body, seal_body, row_body, cell_body, body_of, opens_number}
-use Rattle.write_inside.specs.Insides.{open_number, none_fits}
+use Rattle.write_rows.specs.Bodies.{Body, halt, body, on_body, seal_body, row_body, cell_body, body_of}
+use Rattle.write_inside.specs.Insides.{base_of, open_base, none_fits}
 use Rattle.write_envelopes.specs.Whole.{open_plan, edge, from_body, needs, first_over, verdict_of, verdict, sized, end_verdict, limit_of, OneMore}
 use Rattle.write_envelopes.specs.declared.measure.Sizes.{Sizes}
+use Rattle.std.specs.Prelude.{Option, None, Some}
 
 -- Bodies and edges are the plan
 
@@ -87,35 +87,31 @@ whole_edge e (cell row ∷ cs) = at (opens_of row)
     at inner_row = ap (row_plan 0 (plan_of e cs 1 false)) (none_fits e row (fit_row e (state closed 0 false) row) refl)
     at (envelope_row b) = ap (turn_plan 0 b (plan_of e cs 1 b)) (close_once e (state closed 0 false))
 
-pub edge_none : (e : Edition) (bs : List ℕ) (j : ℕ) (cs : List Cell) → open_number cs ≡ 0 → edge e false bs j cs ≡ stuck j
+pub edge_none : (e : Edition) (bs : List ℕ) (j : ℕ) (cs : List Cell) → open_base cs ≡ None → edge e false bs j cs ≡ stuck j
 edge_none e bs j [] h = refl
 edge_none e bs j (broken ∷ cs) h = refl
 edge_none e bs j (cell row ∷ cs) h = at (opens_of row) h
   where
-    at : (o : Opens) → opens_number o ≡ 0 → open_plan j bs (λ c. plan_of e cs (suc j) c (start c)) o ≡ stuck j
+    at : (o : Opens) → base_of o ≡ None → open_plan j bs (λ c. plan_of e cs (suc j) c (start c)) o ≡ stuck j
     at inner_row q = refl
-    at (envelope_row true) q = absurd (omega arith)
-    at (envelope_row false) q = absurd (omega arith)
+    at (envelope_row base) q = cc
 
 -- an envelope that opens at row j is the body behind it
 abbrev pub opened : List Cell → List Cell
 opened [] = []
 opened (c ∷ cs) = cs
 
-opens_some : (o : Opens) → (opens_number o ≡ 0 → ⊥) → o ≡ envelope_row (eqb (opens_number o) 2)
-opens_some inner_row h = absurd (h refl)
-opens_some (envelope_row true) h = refl
-opens_some (envelope_row false) h = refl
+opens_some : (o : Opens) {base : Bool} → Some base ≡ base_of o → o ≡ envelope_row base
+opens_some inner_row q = cc
+opens_some (envelope_row c) q = cc
 
-pub edge_open : (e : Edition) (bs : List ℕ) (j : ℕ) (cs ds : List Cell) {n : ℕ} → n ≡ open_number cs → (n ≡ 0 → ⊥) → opened cs ≡ ds
-    → edge e false bs j cs ≡ new_plan j (eqb n base_opens) bs (from_body e (eqb n base_opens) (body_of e ds (j + 1) (start (eqb n base_opens))))
-edge_open e bs j [] ds q h d = absurd (h q)
-edge_open e bs j (broken ∷ cs) ds q h d = absurd (h q)
-edge_open e bs j (cell row ∷ cs) ds {n} q h d =
-    let o : opens_of row ≡ envelope_row (eqb n base_opens) = opens_some (opens_of row) (λ z. h (q ∙ z)) ∙ ap (λ (k : ℕ). envelope_row (eqb k 2)) (sym q) in
-    ap (open_plan j bs (λ c. plan_of e cs (suc j) c (start c))) o ∙ ap (new_plan j (eqb n base_opens) bs) (plan_body e cs (suc j) (eqb n base_opens) (start (eqb n base_opens)))
-    ∙ ap (λ (k : ℕ). new_plan j (eqb n base_opens) bs (from_body e (eqb n base_opens) (body_of e cs k (start (eqb n base_opens))))) (sym (add-one j))
-    ∙ ap (λ (x : List Cell). new_plan j (eqb n base_opens) bs (from_body e (eqb n base_opens) (body_of e x (j + 1) (start (eqb n base_opens))))) d
+pub edge_open : (e : Edition) (bs : List ℕ) (j : ℕ) (cs ds : List Cell) {base : Bool} → Some base ≡ open_base cs → opened cs ≡ ds → edge e false bs j cs ≡ new_plan j base bs (from_body e base (body_of e ds (j + 1) (start base)))
+edge_open e bs j [] ds q d = cc
+edge_open e bs j (broken ∷ cs) ds q d = cc
+edge_open e bs j (cell row ∷ cs) ds {base} q d =
+    ap (open_plan j bs (λ c. plan_of e cs (suc j) c (start c))) (opens_some (opens_of row) q) ∙ ap (new_plan j base bs) (plan_body e cs (suc j) base (start base))
+    ∙ ap (λ (k : ℕ). new_plan j base bs (from_body e base (body_of e cs k (start base)))) (sym (add-one j))
+    ∙ ap (λ (x : List Cell). new_plan j base bs (from_body e base (body_of e x (j + 1) (start base)))) d
 
 -- The verdict, envelope by envelope
 
@@ -195,38 +191,38 @@ exact n i k (exceeds j) q = let z : ◌≡◌ {A = ℕ} 0 1 = cc q in absurd (om
 exact n i k fine q = small_count n i k q
 
 module _ {t : Sizes} {i many : ℕ} {r : Sizes} (a : OneMore t i many r) (k : ℕ) (m : many ≡ capped k) where
-  more_limit : limit_of r.over r.first ≡ first_over (limit_of t.over t.first) (sized t.left i k)
-  more_limit = a.limit ∙ ap (first_over (limit_of t.over t.first)) (ap (sized t.left i) m ∙ sized_capped t.left i k)
+  more_limit : limit_of r.over ≡ first_over (limit_of t.over) (sized t.left i k)
+  more_limit = a.limit ∙ ap (first_over (limit_of t.over)) (ap (sized t.left i) m ∙ sized_capped t.left i k)
 
-  more_total : r.over ≡ false → t.total + envelope_size k ≡ r.total
+  more_total : r.over ≡ None → t.total + envelope_size k ≡ r.total
   more_total q =
-      let f : fine ≡ first_over (limit_of t.over t.first) (sized t.left i k) = ap (λ (b : Bool). limit_of b r.first) (sym q) ∙ more_limit in
-      let c : many ≡ k = m ∙ exact t.left i k (limit_of t.over t.first) (sym f) in
+      let f : fine ≡ first_over (limit_of t.over) (sized t.left i k) = ap limit_of (sym q) ∙ more_limit in
+      let c : many ≡ k = m ∙ exact t.left i k (limit_of t.over) (sym f) in
       ap (λ (n : ℕ). t.total + envelope_size n) (sym c) ∙ sym (a.sum q)
 
-  more_plan : (p : Plan) (b : Bool) → r.over ≡ b → verdict (t.left - 1) (t.total + envelope_size k) (limit_of b r.first) p ≡ verdict r.left r.total (limit_of b r.first) p
-  more_plan (stuck j) b q = refl
-  more_plan (plan bs vs) true q = refl
-  more_plan (plan bs vs) false q = ap (λ (n : ℕ). verdict_of (t.total + envelope_size k + length (header_of vs)) (limits n vs)) (sym a.less) ∙ ap (λ (n : ℕ). verdict_of (n + length (header_of vs)) (limits r.left vs)) (more_total q)
+  more_plan : (p : Plan) (o : Option ℕ) → r.over ≡ o → verdict (t.left - 1) (t.total + envelope_size k) (limit_of o) p ≡ verdict r.left r.total (limit_of o) p
+  more_plan (stuck j) o q = refl
+  more_plan (plan bs vs) (Some i) q = refl
+  more_plan (plan bs vs) None q = ap (λ (n : ℕ). verdict_of (t.total + envelope_size k + length (header_of vs)) (limits n vs)) (sym a.less) ∙ ap (λ (n : ℕ). verdict_of (n + length (header_of vs)) (limits r.left vs)) (more_total q)
 
-  more_end : (cs : List Cell) (j : ℕ) (b : Bool) → r.over ≡ b → end_verdict cs j (t.total + envelope_size k) (limit_of b r.first) ≡ end_verdict cs j r.total (limit_of b r.first)
-  more_end [] j true q = refl
-  more_end [] j false q = ap needs (more_total q)
-  more_end (c ∷ cs) j b q = refl
+  more_end : (cs : List Cell) (j : ℕ) (o : Option ℕ) → r.over ≡ o → end_verdict cs j (t.total + envelope_size k) (limit_of o) ≡ end_verdict cs j r.total (limit_of o)
+  more_end [] j (Some i) q = refl
+  more_end [] j None q = ap needs (more_total q)
+  more_end (c ∷ cs) j o q = refl
 
   pub more_extension : (e : Edition) (bs : List ℕ) (j : ℕ) (cs : List Cell) → length bs ≡ k
-      → verdict t.left t.total (limit_of t.over t.first) (new_plan i false [] (edge e false bs j cs)) ≡ verdict r.left r.total (limit_of r.over r.first) (edge e false [] j cs)
+      → verdict t.left t.total (limit_of t.over) (new_plan i false [] (edge e false bs j cs)) ≡ verdict r.left r.total (limit_of r.over) (edge e false [] j cs)
   more_extension e bs j cs q =
-      verdict_extension t.left t.total i (limit_of t.over t.first) e bs j cs
-      ∙ ap (λ (n : ℕ). verdict (t.left - 1) (t.total + envelope_size n) (first_over (limit_of t.over t.first) (sized t.left i n)) (edge e false [] j cs)) q
+      verdict_extension t.left t.total i (limit_of t.over) e bs j cs
+      ∙ ap (λ (n : ℕ). verdict (t.left - 1) (t.total + envelope_size n) (first_over (limit_of t.over) (sized t.left i n)) (edge e false [] j cs)) q
       ∙ ap (λ (o : Limit). verdict (t.left - 1) (t.total + envelope_size k) o (edge e false [] j cs)) (sym more_limit)
       ∙ more_plan (edge e false [] j cs) r.over refl
 
   pub more_base : (e : Edition) (bs : List ℕ) (j : ℕ) (cs : List Cell) → length bs ≡ k
-      → verdict t.left t.total (limit_of t.over t.first) (new_plan i true [] (edge e true bs j cs)) ≡ end_verdict cs j r.total (limit_of r.over r.first)
+      → verdict t.left t.total (limit_of t.over) (new_plan i true [] (edge e true bs j cs)) ≡ end_verdict cs j r.total (limit_of r.over)
   more_base e bs j cs q =
-      verdict_base t.left t.total i (limit_of t.over t.first) e bs j cs
-      ∙ ap (λ (n : ℕ). end_verdict cs j (t.total + envelope_size n) (first_over (limit_of t.over t.first) (sized t.left i n))) q
+      verdict_base t.left t.total i (limit_of t.over) e bs j cs
+      ∙ ap (λ (n : ℕ). end_verdict cs j (t.total + envelope_size n) (first_over (limit_of t.over) (sized t.left i n))) q
       ∙ ap (end_verdict cs j (t.total + envelope_size k)) (sym more_limit) ∙ more_end cs j r.over refl
 
 -- An envelope ends no earlier than it begins

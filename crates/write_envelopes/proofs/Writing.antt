@@ -1,24 +1,23 @@
 -- The pass that writes, envelope by envelope: what the check saw holds at every envelope, and the bytes so far are the front of all.
 use Prim.Native.Nat.{ℕ, ◌+◌, ◌-◌, ◌≤◌, ◌<◌}
 use mathlib.Core.List.{List, [], ◌∷◌, ◌++◌, append_assoc, append-nil}
-use mathlib.Core.Bool.{Bool, true}
+use mathlib.Core.Bool.{Bool, true, false}
 use mathlib.Core.Path.{◌≡◌, refl, ap, sym, ◌∙◌, subst}
 use native.Mathlib.Omega.{arith}
-use lib.Dec.{eqb}
 use lib.ListN.{length, take, drop, get_or, length-append, length-drop}
 use lib.Seq.{take_at, drop_at, drop-drop, get_or-drop}
-use borrow.Author.Tests.{eq-eqb, ne_eqb}
 use Rattle.meaning.specs.Writing.{Cell, Envelope, Plan, whole_plan, envelope_size, wrap, header_of, fine}
 use Rattle.meaning.specs.Memory.{laid_over}
 use Rattle.laws_steps.specs.Envelopes.{wrap_length}
 use Rattle.laws_steps.specs.Rows.{cells_at}
 use Rattle.meaning.specs.Told.{Edition}
 use Rattle.meaning.specs.Headers.{envelope_most, envelopes_most}
-use Rattle.meaning.specs.Kinds.{base_opens}
 use Rattle.write_rows.specs.Bodies.{halt, body}
-use Rattle.write_inside.specs.Insides.{open_number}
+use Rattle.write_inside.specs.Insides.{open_base}
 use Rattle.write_envelopes.specs.Whole.{verdict, bytes_of_plan, insides, insides_of, Begins, Writable, EnvelopeWritten}
-use Rattle.write_inside.specs.declared.body.Bodied.{Bodied}
+use Rattle.write_inside.specs.declared.body.Inside.{Inside}
+use Rattle.write_rows.specs.declared.advance.Misfit.{Misfit}
+use Rattle.std.specs.Prelude.{Option, None, Some, Result}
 use Rattle.write_rows.specs.Laying.{capped_most}
 use Rattle.write_envelopes.proofs.Wholes.{whole_edge, small_count}
 use Rattle.write_envelopes.proofs.Checking.{rest, here, Ends}
@@ -53,18 +52,18 @@ module _ (edition : Edition) (pool rows lengths before : List ℕ) (w : Writable
       let h = needs_most a.may_come at w.bytes_needed (rest edition pool rows i) a.passes.is in
       ap length a.memory ∙ length-append a.bytes (drop at before) ∙ omega (arith, a.count, w.room, length-drop at before)
 
-  module _ {i k at : ℕ} {output : List ℕ} (a : WritingAt edition pool rows lengths before w.bytes_needed i k at output) {n : ℕ} (q : n ≡ open_number (cells_at pool rows i)) where
-    pub writing_none : {A : Type 0} → n ≡ 0 → A
-    writing_none z = passing_none a.passes q z
+  module _ {i k at : ℕ} {output : List ℕ} (a : WritingAt edition pool rows lengths before w.bytes_needed i k at output) where
+    pub writing_none : {A : Type 0} → None ≡ open_base (cells_at pool rows i) → A
+    writing_none q = passing_none a.passes q
 
-    module _ (h : n ≡ 0 → ⊥) where
-      pub writing_stuck : {A : Type 0} {j : ℕ} → here edition pool rows i q h ≡ halt j → A
-      writing_stuck e = passing_stuck a.passes q h e
+    module _ {base : Bool} (q : Some base ≡ open_base (cells_at pool rows i)) where
+      pub writing_stuck : {A : Type 0} {j : ℕ} → here edition pool rows i q ≡ halt j → A
+      writing_stuck e = passing_stuck a.passes q e
 
       -- the length noted is the inside's
-      noted_first : (bytes : List ℕ) (row : ℕ) (cells : List Cell) → here edition pool rows i q h ≡ body bytes row cells → (k < length lengths) × (get_or lengths k 0 ≡ length bytes)
+      noted_first : (bytes : List ℕ) (row : ℕ) (cells : List Cell) → here edition pool rows i q ≡ body bytes row cells → (k < length lengths) × (get_or lengths k 0 ≡ length bytes)
       noted_first bytes row cells z =
-          let (vs, f) = passing_first a.passes q h z in
+          let (vs, f) = passing_first a.passes q z in
           let (behind, g) = a.noted in
           let d : drop k lengths ≡ length bytes ∷ (insides vs ++ behind) = g ∙ ap (λ (x : List Envelope). insides x ++ behind) f in
           let l : length (drop k lengths) ≡ 1 + length (insides vs ++ behind) = ap length d ∙ omega arith in
@@ -76,15 +75,15 @@ module _ (edition : Edition) (pool rows lengths before : List ℕ) (w : Writable
 
       pub writing_noted : (k < length lengths) × (at + envelope_size many ≤ length before) × (many ≤ envelope_most)
       writing_noted =
-          let (bytes, row, cells, z) = passing_body a.passes q h in
+          let (bytes, row, cells, z) = passing_body a.passes q in
           let (l, m) = noted_first bytes row cells z in
-          let f = passing_fine a.passes q h z in (
+          let f = passing_fine a.passes q z in (
             l,
             subst (λ (x : ℕ). at + envelope_size x ≤ length before) (sym m) (omega (arith, f.1, w.room)),
             omega (arith, m, small_count a.may_come i (length bytes) f.0, capped_most (length bytes)),
           )
 
-      module _ {row counted : ℕ} (z : Ends (here edition pool rows i q h) pool rows row counted) {after : List ℕ} {r : Bodied} (x : EnvelopeWritten (here edition pool rows i q h) pool rows (eqb n base_opens) many output at after r) where
+      module _ {row counted : ℕ} (z : Ends (here edition pool rows i q) pool rows row counted) {after : List ℕ} {r : Result Inside Misfit} (x : EnvelopeWritten (here edition pool rows i q) pool rows base many output at after r) where
         abbrev within : List ℕ
         within = z.0
 
@@ -94,9 +93,9 @@ module _ (edition : Edition) (pool rows lengths before : List ℕ) (w : Writable
         exact : length within ≡ many
         exact = sym (noted_first within row (cells_at pool rows row) z.1).1
 
-        front_length : length (a.bytes ++ wrap (eqb n base_opens) within) ≡ end
+        front_length : length (a.bytes ++ wrap base within) ≡ end
         front_length =
-            length-append a.bytes (wrap (eqb n base_opens) within) ∙ ap (λ (k : ℕ). length a.bytes + k) (wrap_length (eqb n base_opens) within ∙ ap envelope_size exact)
+            length-append a.bytes (wrap base within) ∙ ap (λ (k : ℕ). length a.bytes + k) (wrap_length base within ∙ ap envelope_size exact)
             ∙ ap (λ (k : ℕ). k + envelope_size many) a.count
 
         drop_back : drop end output ≡ drop end before
@@ -104,40 +103,48 @@ module _ (edition : Edition) (pool rows lengths before : List ℕ) (w : Writable
             let d : drop at output ≡ drop at before = ap (drop at) a.memory ∙ drop_at a.bytes (drop at before) at a.count in
             sym (drop-drop (envelope_size many) at output) ∙ ap (drop (envelope_size many)) d ∙ drop-drop (envelope_size many) at before
 
-        after_is : after ≡ (a.bytes ++ wrap (eqb n base_opens) within) ++ drop end before
+        after_is : after ≡ (a.bytes ++ wrap base within) ++ drop end before
         after_is =
             x.laid within row (cells_at pool rows row) z.1 exact
-            ∙ ap (λ (y : List ℕ). y ++ (wrap (eqb n base_opens) within ++ drop end output)) (ap (take at) a.memory ∙ take_at a.bytes (drop at before) at a.count)
-            ∙ ap (λ (y : List ℕ). a.bytes ++ (wrap (eqb n base_opens) within ++ y)) drop_back ∙ sym (append_assoc a.bytes (wrap (eqb n base_opens) within) (drop end before))
+            ∙ ap (λ (y : List ℕ). y ++ (wrap base within ++ drop end output)) (ap (take at) a.memory ∙ take_at a.bytes (drop at before) at a.count)
+            ∙ ap (λ (y : List ℕ). a.bytes ++ (wrap base within ++ y)) drop_back ∙ sym (append_assoc a.bytes (wrap base within) (drop end before))
 
-        goes_on : (n ≡ base_opens → ⊥) → WritingAt edition pool rows lengths before w.bytes_needed row (k + 1) end after
+        goes_on : base ≡ false → WritingAt edition pool rows lengths before w.bytes_needed row (k + 1) end after
         goes_on two =
-            let e = ne_eqb n base_opens two in
-            let first = passing_extension a.passes q h z.1 e in
+            let e = two in
+            let first = passing_extension a.passes q z.1 e in
             let (behind, g) = a.noted in
             let ended : at + envelope_size (length within) ≡ end = ap (λ (k : ℕ). at + envelope_size k) exact in
             let d : drop k lengths ≡ length within ∷ (insides_of (rest edition pool rows row) ++ behind) = g ∙ ap (λ (x : List Envelope). insides x ++ behind) first in
             record {
               may_come = a.may_come - 1;
-              bytes = a.bytes ++ wrap (eqb n base_opens) within;
-              passes = record { is = ap (λ (k : ℕ). verdict (a.may_come - 1) k fine (rest edition pool rows row)) (sym ended) ∙ passing_on a.passes q h z.1 e };
+              bytes = a.bytes ++ wrap base within;
+              passes = record { is = ap (λ (k : ℕ). verdict (a.may_come - 1) k fine (rest edition pool rows row)) (sym ended) ∙ passing_on a.passes q z.1 e };
               noted = (behind, sym (drop-drop 1 k lengths) ∙ ap (drop 1) d);
               count = front_length;
               all =
-                  append_assoc a.bytes (wrap (eqb n base_opens) within) (bytes_of_plan (rest edition pool rows row))
+                  append_assoc a.bytes (wrap base within) (bytes_of_plan (rest edition pool rows row))
                   ∙ ap (λ (b : Bool). a.bytes ++ (wrap b within ++ bytes_of_plan (rest edition pool rows row))) e
                   ∙ ap (λ (x : List Envelope). a.bytes ++ header_of x) (sym first) ∙ a.all;
               memory = after_is;
             }
 
-        pub writing_on : {size : ℕ} → size ≡ envelope_size many → (n ≡ base_opens → ⊥) → WritingAt edition pool rows lengths before w.bytes_needed row (k + 1) (at + size) after
+        pub writing_on : {size : ℕ} → size ≡ envelope_size many → base ≡ false → WritingAt edition pool rows lengths before w.bytes_needed row (k + 1) (at + size) after
         writing_on s two = subst (λ (x : ℕ). WritingAt edition pool rows lengths before w.bytes_needed row (k + 1) (at + x) after) (sym s) (goes_on two)
 
-        pub writing_ends : n ≡ base_opens → after ≡ laid_over before (bytes_of_plan (whole_plan edition (cells_at pool rows 0)))
+        pub writing_ends : base ≡ true → after ≡ laid_over before (bytes_of_plan (whole_plan edition (cells_at pool rows 0)))
         unfolding laid_over
         writing_ends two =
-            let e = eq-eqb n base_opens two in
-            let all : a.bytes ++ wrap (eqb n base_opens) within ≡ bytes_of_plan (whole_plan edition (cells_at pool rows 0))
+            let e = two in
+            let all : a.bytes ++ wrap base within ≡ bytes_of_plan (whole_plan edition (cells_at pool rows 0))
             = ap (λ (b : Bool). a.bytes ++ wrap b within) e ∙ ap (λ (y : List ℕ). a.bytes ++ y) (sym (append-nil (wrap true within)))
-            ∙ ap (λ (x : List Envelope). a.bytes ++ header_of x) (sym (passing_base a.passes q h z.1 e)) ∙ a.all in
-            after_is ∙ ap (λ (k : ℕ). (a.bytes ++ wrap (eqb n base_opens) within) ++ drop k before) (sym front_length) ∙ ap (λ (y : List ℕ). y ++ drop (length y) before) all
+            ∙ ap (λ (x : List Envelope). a.bytes ++ header_of x) (sym (passing_base a.passes q z.1 e)) ∙ a.all in
+            after_is ∙ ap (λ (k : ℕ). (a.bytes ++ wrap base within) ++ drop k before) (sym front_length) ∙ ap (λ (y : List ℕ). y ++ drop (length y) before) all
+
+  -- an envelope is left for as many lengths as there are
+  pub writing_over : {i k at : ℕ} {output : List ℕ} {A : Type 0} → WritingAt edition pool rows lengths before w.bytes_needed i k at output → length lengths ≤ k → A
+  writing_over {i} {k} {A = A} a h = by (open_base (cells_at pool rows i)) refl
+    where
+      by : (o : Option Bool) → o ≡ open_base (cells_at pool rows i) → A
+      by None q = writing_none a q
+      by (Some base) q = let n = (writing_noted a q).0 in absurd (omega arith)

@@ -1,5 +1,5 @@
 -- From the insides of envelopes to `meaning`'s plan, and what the check over all rows answers.
-use Rattle.std.specs.Prelude.{ℕ, zero, suc, ◌+◌, ◌-◌, ◌*◌, ◌≤◌, List, [], ◌∷◌, ◌++◌, Bool, true, false, ◌≡◌, length, take, drop}
+use Rattle.std.specs.Prelude.{ℕ, zero, suc, ◌+◌, ◌-◌, ◌*◌, ◌≤◌, List, [], ◌∷◌, ◌++◌, Bool, true, false, ◌≡◌, length, take, drop, Option, None, Some, Result, Ok, Err}
 use Rattle.meaning.specs.Basics.{pick}
 use Rattle.meaning.specs.Told.{Edition}
 use Rattle.meaning.specs.Headers.{start, envelope_most, envelopes_most}
@@ -8,11 +8,11 @@ use Rattle.meaning.specs.Memory.{room_of}
 use Rattle.write_rows.specs.Laying.{capped}
 use Rattle.write_rows.specs.Bodies.{Body, halt, body}
 use Rattle.laws_steps.specs.Rows.{cells_at}
-use Rattle.write_inside.specs.declared.body.Bodied.{Bodied}
-use Rattle.write_inside.specs.declared.body.Bodied.TheVariants.{Stuck, Ended}
+use Rattle.write_rows.specs.declared.advance.Misfit.{Misfit}
+use Rattle.write_inside.specs.declared.body.Inside.{Inside}
 use Rattle.write_envelopes.specs.declared.measure.Sizes.{Sizes}
-use Rattle.table.specs.declared.answers.Checked.{Checked}
-use Rattle.table.specs.declared.answers.Checked.TheVariants.{Bad, Needs}
+use Rattle.table.specs.declared.answers.Fault.{Fault}
+use Rattle.table.specs.Refusals.{answer_of}
 
 -- what follows the inside of an envelope; base: it was the base
 abbrev pub open_plan : ℕ → List ℕ → (Bool → Plan) → Opens → Plan
@@ -58,19 +58,20 @@ end_verdict [] j t o = verdict_of t o
 end_verdict (c ∷ cells) j t o = bad 15 j
 
 -- a body that was measured
-abbrev pub Measured : Body → List ℕ → List ℕ → Bodied → Type 0
-Measured (halt j) pool rows (Stuck i) = i ≡ j
-Measured (halt j) pool rows (Ended row many) = ⊥
-Measured (body bytes j cells) pool rows (Stuck i) = ⊥
-Measured (body bytes j cells) pool rows (Ended row many) = (row ≡ j) × (row ≤ room_of rows) × (cells ≡ cells_at pool rows row) × (many ≡ capped (length bytes))
+abbrev pub Measured : Body → List ℕ → List ℕ → Result Inside Misfit → Type 0
+Measured (halt j) pool rows (Err misfit) = misfit.row ≡ j
+Measured (halt j) pool rows (Ok inside) = ⊥
+Measured (body bytes j cells) pool rows (Err misfit) = ⊥
+Measured (body bytes j cells) pool rows (Ok inside) = (inside.row ≡ j) × (inside.row ≤ room_of rows) × (cells ≡ cells_at pool rows inside.row) × (inside.many ≡ capped (length bytes))
 
-abbrev pub checked_of : Verdict → Checked
-checked_of (bad answer place) = Bad answer place
-checked_of (needs t) = Needs t
+-- what the code's answer says
+abbrev pub verdict_is : Result ℕ Fault → Verdict
+verdict_is (Ok t) = needs t
+verdict_is (Err fault) = bad (answer_of fault.refusal) fault.at
 
-abbrev pub limit_of : Bool → ℕ → Limit
-limit_of true i = exceeds i
-limit_of false i = fine
+abbrev pub limit_of : Option ℕ → Limit
+limit_of (Some i) = exceeds i
+limit_of None = fine
 
 abbrev pub envelopes_of : Plan → List Envelope
 envelopes_of (stuck i) = []
@@ -80,13 +81,10 @@ envelopes_of (plan bytes vs) = vs
 abbrev pub bytes_of_plan : Plan → List ℕ
 bytes_of_plan p = header_of (envelopes_of p)
 
-abbrev pub passed_at : ℕ → ℕ → ℕ → Sizes
-passed_at left total first = record { left = left - 1; total = total; over = true; first = first }
-
 pub record OneMore (t : Sizes) (i many : ℕ) (r : Sizes) : Type 0 where
-  pub limit : limit_of r.over r.first ≡ first_over (limit_of t.over t.first) (sized t.left i many)
+  pub limit : limit_of r.over ≡ first_over (limit_of t.over) (sized t.left i many)
   pub less : r.left ≡ t.left - 1
-  pub sum : r.over ≡ false → r.total ≡ t.total + envelope_size many
+  pub sum : r.over ≡ None → r.total ≡ t.total + envelope_size many
   pub bound : r.total + r.left * envelope_most ≤ envelopes_most * envelope_most
 
 -- how long each envelope's inside is
@@ -102,8 +100,8 @@ abbrev pub Begins : List ℕ → List ℕ → Type 0
 Begins front all = (behind : List ℕ) × (all ≡ front ++ behind)
 
 -- what the check promises: the verdict, and if it is passed the envelopes' lengths
-pub record CheckedAs (p : Plan) (r : Checked) (lengths : List ℕ) : Type 0 where
-  pub is : r ≡ checked_of (verdict envelopes_most 0 fine p)
+pub record CheckedAs (p : Plan) (r : Result ℕ Fault) (lengths : List ℕ) : Type 0 where
+  pub is : verdict_is r ≡ verdict envelopes_most 0 fine p
   pub noted : (t : ℕ) → verdict envelopes_most 0 fine p ≡ needs t → Begins (insides_of p) lengths
 
 -- what the pass that writes asks: the check was passed, and its bytes have room
@@ -114,15 +112,14 @@ pub record Writable (edition : Edition) (rows pool lengths output : List ℕ) : 
   pub long : length lengths ≡ envelopes_most
   pub room : bytes_needed ≤ length output
 
--- what writing an envelope asks: it opens before row `from`, its inside was measured, and the output has room for it
-pub record EnvelopeRequires (rows : List ℕ) (from opened many : ℕ) (output : List ℕ) (at : ℕ) : Type 0 where
+-- what writing an envelope asks: row `from` is one or the end, its inside was measured, and the output has room for it
+pub record EnvelopeRequires (rows : List ℕ) (from many : ℕ) (output : List ℕ) (at : ℕ) : Type 0 where
   pub inside : from ≤ room_of rows
-  pub opens : 1 ≤ opened
   pub small : many ≤ envelope_most
   pub room : at + envelope_size many ≤ length output
 
 -- the inside is as it was measured, and the envelope's bytes are laid from `at` on
-pub record EnvelopeWritten (b : Body) (pool rows : List ℕ) (base : Bool) (many : ℕ) (before : List ℕ) (at : ℕ) (after : List ℕ) (r : Bodied) : Type 0 where
+pub record EnvelopeWritten (b : Body) (pool rows : List ℕ) (base : Bool) (many : ℕ) (before : List ℕ) (at : ℕ) (after : List ℕ) (r : Result Inside Misfit) : Type 0 where
   pub inside : Measured b pool rows r
   pub laid : (bytes : List ℕ) (j : ℕ) (cells : List Cell) → b ≡ body bytes j cells → length bytes ≡ many → after ≡ take at before ++ (wrap base bytes ++ drop (at + envelope_size many) before)
 

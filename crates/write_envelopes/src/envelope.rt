@@ -1,6 +1,5 @@
 // The pass that writes, once the check is passed and the output has room.
-ghost use Rattle.std.specs.Prelude.{◌≡◌, ◌+◌, ◌≤◌, eqb, length};
-ghost use Rattle.meaning.specs.Kinds.{base_opens};
+ghost use Rattle.std.specs.Prelude.{◌≡◌, ◌≤◌, length};
 ghost use Rattle.meaning.specs.Headers.{start, envelope_most};
 ghost use Rattle.meaning.specs.Writing.{whole_plan};
 ghost use Rattle.meaning.specs.Memory.{laid_over};
@@ -11,62 +10,55 @@ ghost use Rattle.write_rows.specs.Bodies.{body_of};
 ghost use Rattle.write_envelopes.specs.Whole.{head_of, bytes_of_plan, Writable, EnvelopeRequires, EnvelopeWritten};
 
 use crate::measure::size_of;
-use table::kinds::BASE_OPENS;
 use table::limits::{LONG_HEAD, SHORT_HEAD, SHORT_MOST};
 use table::told::Edition;
-use write_inside::body::{Bodied, body, open_at};
-use write_rows::lay::{put, put_four, put_two};
+use write_inside::body::{Inside, body, open_at};
+use write_rows::advance::Misfit;
+use write_rows::lay::{copy, put};
 
 // "Extension: FD, length ..; Base: FE, length": lays the identifier and the length of an envelope with so many bytes inside, in the short
 // form or the long one. Answers the place behind them.
-fn put_head(opened: u32, many: usize, output: &mut [u8]) -> usize
+fn put_head(base: bool, many: usize, output: &mut [u8]) -> usize
     requires { (many ≤ envelope_most) × (length output.old ≤ envelope_most) }
-    ensures { Laid output.old 0 (head_of (eqb opened base_opens) many) output.new result }
+    ensures { Laid output.old 0 (head_of base many) output.new result }
 {
-    let p = put(output, 0, identifier(opened));
+    let p = put(output, 0, identifier(base));
     if SHORT_HEAD + many <= SHORT_MOST {
-        return put_two(SHORT_HEAD + many, output, p);
+        return copy(&((SHORT_HEAD + many) as u16).to_be_bytes(), output, p);
     }
-    let q = put_two(0, output, p);
-    put_four(LONG_HEAD + many, output, q)
+    let q = copy(&[0, 0], output, p);
+    copy(&((LONG_HEAD + many) as u32).to_be_bytes(), output, q)
 }
 
-// Takes the kind that opens an envelope. Answers its identifier: FE for the base, else FD.
-fn identifier(opened: u32) -> u8
-    ensures { result ≡ Rattle.write_envelopes.specs.Whole.identifier_of (eqb opened base_opens) }
+// Takes whether an envelope is the base. Answers its identifier: FE for the base, else FD.
+fn identifier(base: bool) -> u8
+    ensures { result ≡ Rattle.write_envelopes.specs.Whole.identifier_of base }
 {
-    if opened == BASE_OPENS {
+    if base {
         return 0xfe;
     }
     0xfd
 }
 
-// Lays one envelope at `at`, by the kind that opens it, the row after its own, and how many bytes it has inside.
+// Lays one envelope at `at`, by whether it is the base, the row after its own, and how many bytes it has inside.
 // Answers where its rows end; bytes before and behind it are as they were.
 pub(crate) fn put_envelope(
     edition: Edition,
     rows: &[u32],
     pool: &[u8],
     from: usize,
-    opened: u32,
+    base: bool,
     many: usize,
     output: &mut [u8],
     at: usize,
-) -> Bodied
-    requires { EnvelopeRequires rows.now from opened many output.old at }
-    ensures { EnvelopeWritten (body_of (edition_of edition) (cells_at pool.now rows.now from) from (start (eqb opened base_opens))) pool.now rows.now (eqb opened base_opens) many output.old at output.new result }
+) -> Result<Inside, Misfit>
+    requires { EnvelopeRequires rows.now from many output.old at }
+    ensures { EnvelopeWritten (body_of (edition_of edition) (cells_at pool.now rows.now from) from (start base)) pool.now rows.now base many output.old at output.new result }
 {
     let end = at + size_of(many);
     let inside = end - many;
-    put_head(opened, many, &mut output[at..inside]);
-    body(
-        edition,
-        rows,
-        pool,
-        from,
-        opened == BASE_OPENS,
-        &mut output[inside..end],
-    )
+    put_head(base, many, &mut output[at..inside]);
+    body(edition, rows, pool, from, base, &mut output[inside..end])
 }
 
 // Lays all envelopes over the front of `output`, with the lengths that the check noted. Bytes behind them are as they were.
@@ -75,23 +67,18 @@ pub fn put_all(edition: Edition, rows: &[u32], pool: &[u8], lengths: &[usize], o
     ensures { output.new ≡ laid_over output.old (bytes_of_plan (whole_plan (edition_of edition) (cells_at pool.now rows.now 0))) }
 {
     let mut i: usize = 0;
-    let mut k: usize = 0;
     let mut at: usize = 0;
-    loop {
-        let opened = open_at(rows, pool, i);
-        if opened == 0 {
-            return;
-        }
-        let many = lengths[k];
-        let r = put_envelope(edition, rows, pool, i + 1, opened, many, output, at);
-        let Bodied::Ended { row, many: _ } = r else {
+    for many in lengths {
+        let Some(base) = open_at(rows, pool, i) else {
             return;
         };
-        if opened == BASE_OPENS {
+        let Ok(inside) = put_envelope(edition, rows, pool, i + 1, base, *many, output, at) else {
+            return;
+        };
+        if base {
             return;
         }
-        i = row;
-        k += 1;
-        at += size_of(many);
+        i = inside.row;
+        at += size_of(*many);
     }
 }

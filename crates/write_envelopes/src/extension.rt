@@ -3,39 +3,35 @@ ghost use Rattle.std.specs.Prelude.{◌≡◌};
 ghost use Rattle.meaning.specs.Relay.{extension_plan};
 ghost use Rattle.laws_steps.specs.Rows.{cells_at};
 ghost use Rattle.table.specs.Told.{edition_of};
-ghost use Rattle.write_envelopes.specs.Whole.{checked_of};
+ghost use Rattle.write_envelopes.specs.Whole.{verdict_is};
 ghost use Rattle.write_envelopes.specs.Extension.{extension_verdict, ExtensionFits, ExtensionLaid};
 
 use crate::envelope::put_envelope;
-use crate::measure::{ENVELOPES, Sizes, ended, measure, no_table};
-use table::answers::Checked;
-use table::kinds::EXTENSION_OPENS;
+use crate::measure::{ENVELOPES, Sizes, ended, measure};
+use table::answers::Fault;
+use table::refusals::Refusal;
 use table::told::Edition;
-use write_inside::body::{Bodied, open_at};
+use write_inside::body::open_at;
 
 // Takes all rows. Answers how many bytes the envelope has inside; past the limit, a number that is past it too.
 // "15 for the new table (any first row but kind 1, or a second envelope)": refuses the first row that begins no such table, and rows or a slice that end
 // early.
-pub fn check_extension(edition: Edition, rows: &[u32], pool: &[u8]) -> Checked
-    ensures { result ≡ checked_of (extension_verdict (extension_plan (edition_of edition) (cells_at pool.now rows.now 0))) }
+pub fn check_extension(edition: Edition, rows: &[u32], pool: &[u8]) -> Result<usize, Fault>
+    ensures { verdict_is result ≡ extension_verdict (extension_plan (edition_of edition) (cells_at pool.now rows.now 0)) }
 {
-    let opened = open_at(rows, pool, 0);
-    if opened != EXTENSION_OPENS {
-        return no_table(0);
+    let Some(base) = open_at(rows, pool, 0) else {
+        return Err(Refusal::TableWrong.at(0));
+    };
+    if base {
+        return Err(Refusal::TableWrong.at(0));
     }
-    let r = measure(edition, rows, pool, 1, false);
-    match r {
-        Bodied::Stuck(j) => no_table(j),
-        Bodied::Ended { row, many } => {
-            let t = Sizes {
-                left: ENVELOPES,
-                total: many,
-                over: false,
-                first: 0,
-            };
-            ended(rows, row, t)
-        }
-    }
+    let inside = measure(edition, rows, pool, 1, false)?;
+    let sizes = Sizes {
+        left: ENVELOPES,
+        total: inside.many,
+        over: None,
+    };
+    ended(rows, inside.row, sizes)
 }
 
 // Takes such a table's rows, once they are checked, and how many bytes the envelope has inside. Lays it over the front of `output`; bytes behind it are as they
@@ -44,5 +40,5 @@ pub fn put_extension(edition: Edition, rows: &[u32], pool: &[u8], many: usize, o
     requires { ExtensionFits (edition_of edition) rows.now pool.now many output.old }
     ensures { ExtensionLaid (edition_of edition) rows.now pool.now output.old output.new }
 {
-    put_envelope(edition, rows, pool, 1, EXTENSION_OPENS, many, output, 0);
+    let _ = put_envelope(edition, rows, pool, 1, false, many, output, 0);
 }

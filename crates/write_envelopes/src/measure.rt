@@ -6,26 +6,25 @@ ghost use Rattle.meaning.specs.Writing.{envelope_size, whole_plan};
 ghost use Rattle.laws_steps.specs.Rows.{cells_at};
 ghost use Rattle.table.specs.Told.{edition_of};
 ghost use Rattle.write_rows.specs.Bodies.{body_of};
-ghost use Rattle.write_envelopes.specs.Whole.{bad, passed_at, Measured, OneMore, limit_of, end_verdict, checked_of, CheckedAs};
+ghost use Rattle.write_envelopes.specs.Whole.{Measured, OneMore, limit_of, end_verdict, verdict_is, CheckedAs};
 
-use table::answers::Checked;
-use table::kinds::BASE_OPENS;
+use table::answers::Fault;
 use table::limits::{ENVELOPE_MOST, ENVELOPES_MOST, LONG_HEAD, SHORT_HEAD, SHORT_MOST};
-use table::refusals::{ENVELOPE_LIMIT, TABLE_WRONG};
+use table::refusals::Refusal;
 use table::rows::{room, whole};
 use table::told::Edition;
-use write_inside::body::{Bodied, body, open_at};
+use write_inside::body::{Inside, body, open_at};
+use write_rows::advance::Misfit;
 
 // How many envelopes' lengths the check notes: as many as a table may have.
 pub const ENVELOPES: usize = ENVELOPES_MOST as usize;
 
 // The envelopes so far: how many may still come, their bytes, and the row of the first that is past a limit.
-#[derive(Drop)]
+#[derive(Clone, Copy)]
 pub struct Sizes {
     pub left: usize,
     pub total: usize,
-    pub over: bool,
-    pub first: usize,
+    pub over: Option<usize>,
 }
 
 // "The long form is used exactly if the envelope in the short form would pass 65,535 bytes." Takes how many bytes an envelope has inside.
@@ -47,44 +46,27 @@ fn count_in(t: Sizes, i: usize, many: usize) -> Sizes
     requires { (many ≤ envelope_most) × (t.total + t.left * envelope_most ≤ envelopes_most * envelope_most) }
     ensures { OneMore t i many result }
 {
-    let left = t.left;
+    let left = t.left.saturating_sub(1);
     let total = t.total;
     let size = size_of(many);
-    if t.over {
-        return passed(left, total, t.first);
-    }
-    if left == 0 {
-        return passed(left, total, i);
-    }
-    if ENVELOPE_MOST < size {
-        return passed(left, total, i);
-    }
-    Sizes {
-        left: left - 1,
-        total: total + size,
-        over: false,
-        first: 0,
-    }
-}
-
-// Takes how many envelopes may still come, the bytes so far, and the row of the first envelope that is past a limit.
-// Answers the envelopes with one more, whose bytes are not added.
-fn passed(left: usize, total: usize, first: usize) -> Sizes
-    ensures { result ≡ passed_at left total first }
-{
-    if left == 0 {
+    if t.over.is_some() {
         return Sizes {
-            left: 0,
-            total: total,
-            over: true,
-            first: first,
+            left,
+            total,
+            over: t.over,
+        };
+    }
+    if (t.left == 0) | (ENVELOPE_MOST < size) {
+        return Sizes {
+            left,
+            total,
+            over: Some(i),
         };
     }
     Sizes {
-        left: left - 1,
-        total: total,
-        over: true,
-        first: first,
+        left,
+        total: total + size,
+        over: None,
     }
 }
 
@@ -96,7 +78,7 @@ pub(crate) fn measure(
     pool: &[u8],
     from: usize,
     base: bool,
-) -> Bodied
+) -> Result<Inside, Misfit>
     requires { from ≤ room_of rows.now }
     ensures { Measured (body_of (edition_of edition) (cells_at pool.now rows.now from) from (start base)) pool.now rows.now result }
 {
@@ -117,37 +99,29 @@ fn note(lengths: &mut [usize], left: usize, many: usize)
 
 // Takes the row behind the base, and all envelopes. Answers the bytes that they need.
 // Refuses a row or a number left over there (15), then an envelope past a limit (5).
-pub(crate) fn ended(rows: &[u32], row: usize, t: Sizes) -> Checked
-    ensures { (pool : List ℕ) → result ≡ checked_of (end_verdict (cells_at pool rows.now row) row t.total (limit_of t.over t.first)) }
+pub(crate) fn ended(rows: &[u32], row: usize, t: Sizes) -> Result<usize, Fault>
+    ensures { (pool : List ℕ) → verdict_is result ≡ end_verdict (cells_at pool rows.now row) row t.total (limit_of t.over) }
 {
     if row < room(rows.len()) {
-        return no_table(row);
+        return Err(Refusal::TableWrong.at(row));
     }
-    if whole(rows.len()) {
-        if t.over {
-            return Checked::Bad {
-                answer: ENVELOPE_LIMIT,
-                place: t.first,
-            };
-        }
-        return Checked::Needs(t.total);
+    if !whole(rows.len()) {
+        return Err(Refusal::TableWrong.at(row));
     }
-    no_table(row)
-}
-
-// "15: rows up to here begin no table of this edition, .. or rows or slice end early": the refusal at a row.
-pub(crate) fn no_table(row: usize) -> Checked
-    ensures { result ≡ checked_of (bad 15 row) }
-{
-    Checked::Bad {
-        answer: TABLE_WRONG,
-        place: row,
+    match t.over {
+        Some(first) => Err(Refusal::EnvelopeLimit.at(first)),
+        None => Ok(t.total),
     }
 }
 
 // Takes all rows, and room for the envelopes' lengths. Answers the bytes that the rows need, and then the lengths are noted.
 // Refuses rows that are no table (15, at the first that fits nowhere), then an envelope past a limit (5, at its row).
-pub fn check(edition: Edition, rows: &[u32], pool: &[u8], lengths: &mut [usize]) -> Checked
+pub fn check(
+    edition: Edition,
+    rows: &[u32],
+    pool: &[u8],
+    lengths: &mut [usize],
+) -> Result<usize, Fault>
     requires { length lengths.old ≡ envelopes_most }
     ensures { CheckedAs (whole_plan (edition_of edition) (cells_at pool.now rows.now 0)) result lengths.new }
 {
@@ -155,25 +129,18 @@ pub fn check(edition: Edition, rows: &[u32], pool: &[u8], lengths: &mut [usize])
     let mut t = Sizes {
         left: ENVELOPES,
         total: 0,
-        over: false,
-        first: 0,
+        over: None,
     };
     loop {
-        let opened = open_at(rows, pool, i);
-        if opened == 0 {
-            return no_table(i);
+        let Some(base) = open_at(rows, pool, i) else {
+            return Err(Refusal::TableWrong.at(i));
+        };
+        let inside = measure(edition, rows, pool, i + 1, base)?;
+        note(lengths, t.left, inside.many);
+        t = count_in(t, i, inside.many);
+        if base {
+            return ended(rows, inside.row, t);
         }
-        let r = measure(edition, rows, pool, i + 1, opened == BASE_OPENS);
-        match r {
-            Bodied::Stuck(j) => return no_table(j),
-            Bodied::Ended { row, many } => {
-                note(lengths, t.left, many);
-                t = count_in(t, i, many);
-                if opened == BASE_OPENS {
-                    return ended(rows, row, t);
-                }
-                i = row;
-            }
-        }
+        i = inside.row;
     }
 }

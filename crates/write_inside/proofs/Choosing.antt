@@ -20,16 +20,13 @@ use Rattle.write_rows.specs.Stands.{fits_pass, led_row, LedBy, closing_first}
 use Rattle.write_rows.specs.Laying.{Laid}
 use Rattle.laws_steps.specs.Rows.{cells_at}
 use Rattle.write_rows.specs.Rooms.{of_kind, own_among, NotAmong}
-use Rattle.table.specs.Rows.{row_ahead, AheadIs, ahead_cells, ahead_row}
-use Rattle.write_rows.specs.Stages.{RowTaken, TriedIs, Onward, AdvanceIs, Beyond, after_needed, at_parameters}
+use Rattle.table.specs.Rows.{row_ahead, IsAhead, NoRow, no_row_lem}
+use Rattle.write_rows.specs.Stages.{RowTaken, TriedIs, Onward, AdvanceIs, Beyond, at_parameters}
 use Rattle.write_inside.specs.Parameters.{encrypted_in, after_one, after_advance, InParameters, ParameterIs, KindAhead, ClosingAhead, FoundIs}
 use Rattle.table.specs.declared.rows.Ahead.{Ahead}
-use Rattle.write_rows.specs.declared.advance.Tried.{Tried}
-use Rattle.write_rows.specs.declared.advance.Tried.TheVariants.{To, Other}
-use Rattle.write_rows.specs.declared.advance.Advance.{Advance}
-use Rattle.write_rows.specs.declared.advance.Advance.TheVariants as advance
-use Rattle.write_inside.specs.declared.parameter.Parameter.{Parameter}
-use Rattle.write_inside.specs.declared.parameter.Parameter.TheVariants.{Go, Last, Stuck}
+use Rattle.write_rows.specs.declared.advance.Onto.{Onto}
+use Rattle.write_rows.specs.declared.advance.Misfit.{Misfit}
+use Rattle.std.specs.Prelude.{Option, None, Some, Result, Ok, Err}
 use Rattle.write_rows.specs.Among.{find_kind, nothing_among, not_hit, sole_move, same_kind, takes}
 use Rattle.write_rows.specs.Openings.{opens_past}
 use Rattle.write_rows.specs.Onward.{leading, onward_then, onward_stuck, own_on}
@@ -104,55 +101,59 @@ parameter_row edition pool rows {i} m {before} {at} {after} {p} q d t =
     (own_on edition pool rows at_parameters t (stands_there edition m q t.row t.stands) (ap (λ (x : Move). too_deep x at_parameters) (sym same) ∙ ap (λ (b : Bool). b && ltb level_most 0) d))
 
 -- the same by its code
-pub tried_move : (kind : ℕ) (next : Next) (pool rows : List ℕ) (i : ℕ) (before : List ℕ) (at : ℕ) (t : Tried) (after : List ℕ) {code code₁ : ℕ} → code ≡ code₁ → TriedIs (on code ▸ kind ▸ opens ▸ next ∷ []) 0 pool rows i before at t after → TriedIs (on code₁ ▸ kind ▸ opens ▸ next ∷ []) 0 pool rows i before at t after
+pub tried_move : (kind : ℕ) (next : Next) (pool rows : List ℕ) (i : ℕ) (before : List ℕ) (at : ℕ) (t : Option ℕ) (after : List ℕ) {code code₁ : ℕ} → code ≡ code₁ → TriedIs (on code ▸ kind ▸ opens ▸ next ∷ []) 0 pool rows i before at t after → TriedIs (on code₁ ▸ kind ▸ opens ▸ next ∷ []) 0 pool rows i before at t after
 tried_move kind next pool rows i before at t after q x = subst (λ (c : ℕ). TriedIs (on c ▸ kind ▸ opens ▸ next ∷ []) 0 pool rows i before at t after) q x
 
 -- What follows it
 
 module _ (edition : Edition) (l : List Move) {pool rows : List ℕ} {i : ℕ} {st : State} {m : List ℕ} {at : ℕ} {m₁ : List ℕ} {p₁ : ℕ} (small : length m ≤ envelope_most) (a : Onward edition pool rows i at_parameters (i + 1) st m at m₁ p₁) where
-  followed : (s : Advance) (m₂ : List ℕ) → AdvanceIs edition pool rows (i + 1) st at_parameters m₁ p₁ s m₂ → ParameterIs edition l pool rows i m at (after_advance s) m₂
-  followed (advance.Go k p) m₂ x = (onward_then small a x, omega (arith, x.later))
-  followed (advance.Stuck j) m₂ x = onward_stuck small a x
+  followed : (s : Result Onto Misfit) (m₂ : List ℕ) → AdvanceIs edition pool rows (i + 1) st at_parameters m₁ p₁ s m₂ → ParameterIs edition l pool rows i m at (after_advance s) m₂
+  followed (Ok onto) m₂ x = (onward_then small a x, omega (arith, x.later))
+  followed (Err misfit) m₂ x = onward_stuck small a x
 
-  pub after_first : (s : Advance) (m₂ : List ℕ) {r : Parameter} → AdvanceIs edition pool rows (i + 1) st at_parameters m₁ p₁ s m₂ → r ≡ after_advance s → ParameterIs edition l pool rows i m at r m₂
-  after_first s m₂ x q = subst (λ (y : Parameter). ParameterIs edition l pool rows i m at y m₂) (sym q) (followed s m₂ x)
+  pub after_first : (s : Result Onto Misfit) (m₂ : List ℕ) {r : Result (Option Onto) Misfit} → AdvanceIs edition pool rows (i + 1) st at_parameters m₁ p₁ s m₂ → r ≡ after_advance s → ParameterIs edition l pool rows i m at r m₂
+  after_first s m₂ x q = subst (λ (y : Result (Option Onto) Misfit). ParameterIs edition l pool rows i m at y m₂) (sym q) (followed s m₂ x)
 
-pub after_single : (edition : Edition) (pool rows : List ℕ) (i : ℕ) (m : Move) (before : List ℕ) (at : ℕ) (t : Tried) (after : List ℕ) {r : Parameter} → InParameters edition m → eqb m.kind agent_name ≡ false → go m.next at_parameters ≡ at_parameters → TriedIs (m ∷ []) 0 pool rows i before at t after → r ≡ after_one i t → ParameterIs edition (m ∷ []) pool rows i before at r after
-after_single edition pool rows i m before at t after q d g x e = subst (λ (y : Parameter). ParameterIs edition (m ∷ []) pool rows i before at y after) (sym e) (by t x)
+pub after_single : (edition : Edition) (pool rows : List ℕ) (i : ℕ) (m : Move) (before : List ℕ) (at : ℕ) (t : Option ℕ) (after : List ℕ) {r : Option Onto} → InParameters edition m → eqb m.kind agent_name ≡ false → go m.next at_parameters ≡ at_parameters → TriedIs (m ∷ []) 0 pool rows i before at t after → r ≡ after_one i t → ParameterIs edition (m ∷ []) pool rows i before at (Ok r) after
+after_single edition pool rows i m before at t after q d g x e = subst (λ (y : Option Onto). ParameterIs edition (m ∷ []) pool rows i before at (Ok y) after) (sym e) (by t x)
   where
-    by : (t : Tried) → TriedIs (m ∷ []) 0 pool rows i before at t after → ParameterIs edition (m ∷ []) pool rows i before at (after_one i t) after
-    by (To p) y = (leading g (parameter_row edition pool rows m q d y), omega arith)
-    by Other y = y
+    by : (t : Option ℕ) → TriedIs (m ∷ []) 0 pool rows i before at t after → ParameterIs edition (m ∷ []) pool rows i before at (Ok (after_one i t)) after
+    by (Some p) y = (leading g (parameter_row edition pool rows m q d y), omega arith)
+    by None y = y
 
 -- The row ahead, by its kind
 
-module _ (edition : Edition) (pool rows : List ℕ) (i : ℕ) {r : Ahead} (a : AheadIs pool rows i r) (l : List Move) (is : of_kind r.kind (moves edition parameters) ≡ of_kind r.kind l) where
+module _ (edition : Edition) (pool rows : List ℕ) (i : ℕ) {r : Ahead} (a : IsAhead pool rows i r) (l : List Move) (is : of_kind r.kind (moves edition parameters) ≡ of_kind r.kind l) where
   none_there : NotAmong l 0 (cells_at pool rows i) → NotAmong (moves edition parameters) 0 (cells_at pool rows i)
-  none_there = ahead_cells (λ (cs : List Cell). NotAmong l 0 cs → NotAmong (moves edition parameters) 0 cs) a (λ x. tt) (λ cs x. tt) (λ x. ap (at_level (eqb r.level 0)) (same_kind (row_ahead pool r) (moves edition parameters) l is) ∙ x)
+  none_there x = subst (NotAmong (moves edition parameters) 0) (sym a.row.cells) (ap (at_level (eqb r.level 0)) (same_kind (row_ahead pool r) (moves edition parameters) l is) ∙ subst (NotAmong l 0) a.row.cells x)
 
   closing_ahead : way_to r.kind ≡ closing → ClosingAhead (cells_at pool rows i)
-  closing_ahead w = ahead_cells ClosingAhead a tt (λ cs. tt) w
+  closing_ahead w = subst ClosingAhead (sym a.row.cells) w
 
-  found_by : (before : List ℕ) (at : ℕ) (p : Parameter) (after : List ℕ) → way_to r.kind ≡ closing → ParameterIs edition l pool rows i before at p after → FoundIs edition pool rows i before at p after
-  found_by before at (Go k p) after w x = x
-  found_by before at Last after w x = (x.0, none_there x.1, closing_ahead w)
-  found_by before at (Stuck j) after w x = x
+  found_by : (before : List ℕ) (at : ℕ) (p : Result (Option Onto) Misfit) (after : List ℕ) → way_to r.kind ≡ closing → ParameterIs edition l pool rows i before at p after → FoundIs edition pool rows i before at p after
+  found_by before at (Ok (Some onto)) after w x = x
+  found_by before at (Ok None) after w x = (x.0, none_there x.1, closing_ahead w)
+  found_by before at (Err misfit) after w x = x
 
-module _ (edition : Edition) (pool rows : List ℕ) (i k : ℕ) {r : Ahead} (a : AheadIs pool rows i r) (q : r.kind ≡ k) (w : way_to k ≡ closing) (before : List ℕ) (at : ℕ) where
-  pub found_kind : (l : List Move) → of_kind k (moves edition parameters) ≡ of_kind k l → (p : Parameter) (after : List ℕ) → ParameterIs edition l pool rows i before at p after → FoundIs edition pool rows i before at p after
+module _ (edition : Edition) (pool rows : List ℕ) (i k : ℕ) {r : Ahead} (a : IsAhead pool rows i r) (q : r.kind ≡ k) (w : way_to k ≡ closing) (before : List ℕ) (at : ℕ) where
+  pub found_kind : (l : List Move) → of_kind k (moves edition parameters) ≡ of_kind k l → (p : Result (Option Onto) Misfit) (after : List ℕ) → ParameterIs edition l pool rows i before at p after → FoundIs edition pool rows i before at p after
   found_kind l is p after x =
       found_by edition pool rows i a l (ap (λ (n : ℕ). of_kind n (moves edition parameters)) q ∙ is ∙ sym (ap (λ (n : ℕ). of_kind n l) q)) before at p after (ap way_to q ∙ w) x
 
-  pub found_none : {after : List ℕ} → after ≡ before → of_kind k (moves edition parameters) ≡ [] → FoundIs edition pool rows i before at Last after
-  found_none {after} e is = found_kind [] is Last after (e, nothing_among 0 (cells_at pool rows i))
+  pub found_none : {after : List ℕ} → after ≡ before → of_kind k (moves edition parameters) ≡ [] → FoundIs edition pool rows i before at (Ok None) after
+  found_none {after} e is = found_kind [] is (Ok None) after (e, nothing_among 0 (cells_at pool rows i))
+
+-- no row is ahead
+pub found_nothing : (edition : Edition) (pool rows : List ℕ) (i : ℕ) (before : List ℕ) (at : ℕ) → NoRow (cells_at pool rows i) → FoundIs edition pool rows i before at (Ok None) before
+found_nothing edition pool rows i before at x = (refl, no_row_lem (NotAmong (moves edition parameters) 0) tt (λ cs. tt) (cells_at pool rows i) x, no_row_lem ClosingAhead tt (λ cs. tt) (cells_at pool rows i) x)
 
 -- "08 encrypted", of an edition that is known
-pub encrypted_as : {edition : Edition} (pool rows : List ℕ) (i : ℕ) (before : List ℕ) (at : ℕ) (p : Parameter) (after : List ℕ) {edition₁ : Edition} → edition ≡ edition₁ → ParameterIs edition₁ (encrypted_in edition₁) pool rows i before at p after → ParameterIs edition (encrypted_in edition) pool rows i before at p after
+pub encrypted_as : {edition : Edition} (pool rows : List ℕ) (i : ℕ) (before : List ℕ) (at : ℕ) (p : Result (Option Onto) Misfit) (after : List ℕ) {edition₁ : Edition} → edition ≡ edition₁ → ParameterIs edition₁ (encrypted_in edition₁) pool rows i before at p after → ParameterIs edition (encrypted_in edition) pool rows i before at p after
 encrypted_as pool rows i before at p after q x = subst (λ (e : Edition). ParameterIs e (encrypted_in e) pool rows i before at p after) (sym q) x
 
 -- a row before which the parameter's code stands
-pub kind_ahead : {pool rows : List ℕ} {i : ℕ} {r : Ahead} → AheadIs pool rows i r → {k : ℕ} → r.kind ≡ k → 3 ≤ k → KindAhead k (cells_at pool rows i)
-kind_ahead a {k} q h = subst (KindAhead k) (sym (ahead_row a (λ z. omega (arith, sym q ∙ z))).cells) q
+pub kind_ahead : {pool rows : List ℕ} {i : ℕ} {r : Ahead} → IsAhead pool rows i r → {k : ℕ} → r.kind ≡ k → KindAhead k (cells_at pool rows i)
+kind_ahead a {k} q = subst (KindAhead k) (sym a.row.cells) q
 
 pub way_ahead : (edition : Edition) (k : ℕ) (cs : List Cell) → KindAhead k cs → 3 ≤ k → of_kind k (moves edition parameters) ≡ [] → WayAhead edition (way_to k) cs
 unfolding find
@@ -174,12 +175,12 @@ pass_on edition pool rows i c {m} q h w l =
       inside = h;
     }
 
-pub found_advance : (edition : Edition) (pool rows : List ℕ) (i : ℕ) (before : List ℕ) (at : ℕ) (s : Advance) (after : List ℕ) {r : Parameter} → AdvanceIs edition pool rows i at_parameters at_parameters before at s after → Beyond i s → r ≡ after_advance s → FoundIs edition pool rows i before at r after
-found_advance edition pool rows i before at s after x b q = subst (λ (y : Parameter). FoundIs edition pool rows i before at y after) (sym q) (by s x b)
+pub found_advance : (edition : Edition) (pool rows : List ℕ) (i : ℕ) (before : List ℕ) (at : ℕ) (s : Result Onto Misfit) (after : List ℕ) {r : Result (Option Onto) Misfit} → AdvanceIs edition pool rows i at_parameters at_parameters before at s after → Beyond i s → r ≡ after_advance s → FoundIs edition pool rows i before at r after
+found_advance edition pool rows i before at s after x b q = subst (λ (y : Result (Option Onto) Misfit). FoundIs edition pool rows i before at y after) (sym q) (by s x b)
   where
-    by : (s : Advance) → AdvanceIs edition pool rows i at_parameters at_parameters before at s after → Beyond i s → FoundIs edition pool rows i before at (after_advance s) after
-    by (advance.Go k p) y z = (y, z)
-    by (advance.Stuck j) y z = y
+    by : (s : Result Onto Misfit) → AdvanceIs edition pool rows i at_parameters at_parameters before at s after → Beyond i s → FoundIs edition pool rows i before at (after_advance s) after
+    by (Ok onto) y z = (y, z)
+    by (Err misfit) y z = y
 
 -- The end of the parameters
 
@@ -191,12 +192,5 @@ parameters_end edition pool rows i x w h l =
       inside = h;
     }
 
-pub found_as : (edition : Edition) (pool rows : List ℕ) (i : ℕ) (before : List ℕ) (at : ℕ) (after : List ℕ) {r r₁ : Parameter} → r ≡ r₁ → FoundIs edition pool rows i before at r after → FoundIs edition pool rows i before at r₁ after
-found_as edition pool rows i before at after q f = subst (λ (x : Parameter). FoundIs edition pool rows i before at x after) q f
-
-pub beyond_one : (i : ℕ) (t : Tried) {s : Advance} → s ≡ after_needed i t → Beyond i s
-beyond_one i t q = subst (Beyond i) (sym q) (by t)
-  where
-    by : (t : Tried) → Beyond i (after_needed i t)
-    by (To p) = omega arith
-    by Other = tt
+pub found_as : (edition : Edition) (pool rows : List ℕ) (i : ℕ) (before : List ℕ) (at : ℕ) (after : List ℕ) {r r₁ : Result (Option Onto) Misfit} → r ≡ r₁ → FoundIs edition pool rows i before at r after → FoundIs edition pool rows i before at r₁ after
+found_as edition pool rows i before at after q f = subst (λ (x : Result (Option Onto) Misfit). FoundIs edition pool rows i before at x after) q f

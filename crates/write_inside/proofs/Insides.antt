@@ -1,44 +1,36 @@
 -- The inside of an envelope by its stages: what stands at its front, and its end behind the closing 01, where nothing fits any more.
-use Prim.Native.Nat.{ℕ, suc, ◌+◌, ◌≤◌, ◌<◌, ◌-◌}
+use Prim.Native.Nat.{ℕ, suc, ◌+◌, ◌≤◌, ◌<◌}
 use mathlib.Core.List.{List, [], ◌∷◌, append-nil}
-use mathlib.Core.Bool.{Bool, true, false, not}
+use mathlib.Core.Bool.{Bool, true, false, not, ◌&&◌}
 use mathlib.Core.Path.{◌≡◌, refl, ap, sym, ◌∙◌, subst}
-use mathlib.Core.Logic.{◌⊎◌, inl, inr}
-use Rattle.laws_steps.specs.From.{from, from_length}
 use Rattle.table.specs.declared.rows.Ahead.{Ahead}
-use native.Mathlib.Omega.{arith}
-use Rattle.meaning.specs.Kinds.{base_opens}
-use Rattle.write_rows.specs.Openings.{opens_by, opens_kind, opens_level, opens_past, opens_some}
+use Rattle.meaning.specs.Kinds.{base_opens, extension_opens}
+use borrow.Author.Tests.{ne_eqb}
 use lib.Dec.{eqb}
-use lib.ListN.{length}
-use Rattle.meaning.specs.Basics.{pick}
+use Rattle.meaning.specs.Basics.{pick, is_empty}
 use Rattle.meaning.specs.Told.{Edition}
 use Rattle.meaning.specs.Editions.{State, state, head_date, closed, outer, representations}
 use Rattle.meaning.specs.Headers.{start}
 use Rattle.meaning.specs.Writing.{Cell, cell, broken, Opens, envelope_row, inner_row, opens_of, fit_row}
 use Rattle.laws_steps.specs.Fits.{close_once}
 use Rattle.laws_steps.specs.Rows.{row_cell, cells_at, cells_next, cells_last, whole_rows}
-use Rattle.table.specs.Rows.{RowAhead, viewed, row_ahead, NoRow, AheadIs, no_row_lem}
+use Rattle.table.specs.Rows.{viewed, IsAhead}
 use Rattle.meaning.specs.Memory.{room_of}
 use Rattle.write_rows.specs.Bodies.{Body, halt, body, on_body, seal_body, row_body, cell_body, body_of, opens_number}
-use Rattle.write_inside.specs.Insides.{open_number, ends_before, BodyIs, none_fits}
+use Rattle.write_inside.specs.Insides.{base_of, open_base, ends_before, BodyIs, none_fits}
 use Rattle.write_rows.specs.Stages.{body_at, TriedIs, Onward, AdvanceIs, after_needed}
-use Rattle.write_rows.specs.declared.advance.Tried.{Tried}
-use Rattle.write_rows.specs.declared.advance.Advance.{Advance}
-use Rattle.write_rows.specs.declared.advance.Advance.TheVariants.{Stuck}
-use Rattle.write_inside.specs.declared.body.Bodied.TheVariants as bodied
-use Rattle.write_rows.specs.Onward.{needed_is, advance_as}
+use Rattle.write_rows.specs.declared.advance.Onto.{Onto}
+use Rattle.write_rows.specs.declared.advance.Misfit.{Misfit}
+use Rattle.write_inside.specs.declared.body.Inside.{Inside}
+use Rattle.write_rows.specs.Onward.{needed_is}
+use Rattle.std.specs.Prelude.{Option, None, Result, Ok, Err, is_some}
 use Rattle.write_inside.proofs.Rooms.{front_representation}
 
 -- "Base: FE, length, representation, date": what is known of the representation, where the code asks whether the envelope is the base
-pub represented : (edition : Edition) (pool rows : List ℕ) (i : ℕ) (before : List ℕ) (at : ℕ) (t : Tried) (after : List ℕ) → TriedIs (representations (outer head_date)) 0 pool rows i before at t after
-    → {base : Bool} {s r : Advance} → base ≡ true → s ≡ after_needed i t → s ≡ r → AdvanceIs edition pool rows i (start base) (state head_date 0 false) before at r after
-represented edition pool rows i before at t after x {r = r} b q e =
-    subst (λ (y : Bool). AdvanceIs edition pool rows i (start y) (state head_date 0 false) before at r after) (sym b) (needed_is edition pool rows i (start true) (front_representation edition) before at t after x (sym e ∙ q))
-
--- where a stage is stuck, so is what it is the front of
-pub stuck_on : (edition : Edition) (pool rows : List ℕ) (i : ℕ) (st st₁ st₂ : State) (before : List ℕ) (at : ℕ) (after : List ℕ) {s : Advance} {j : ℕ} → s ≡ Stuck j → AdvanceIs edition pool rows i st st₁ before at s after → AdvanceIs edition pool rows i st st₂ before at s after
-stuck_on edition pool rows i st st₁ st₂ before at after q x = advance_as edition pool rows i st st₂ before at after (sym q) (advance_as edition pool rows i st st₁ before at after q x)
+pub represented : (edition : Edition) (pool rows : List ℕ) (i : ℕ) (before : List ℕ) (at : ℕ) (t : Option ℕ) (after : List ℕ) → TriedIs (representations (outer head_date)) 0 pool rows i before at t after
+    → {base : Bool} {r : Result Onto Misfit} → base ≡ true → r ≡ after_needed i t → AdvanceIs edition pool rows i (start base) (state head_date 0 false) before at r after
+represented edition pool rows i before at t after x {r = r} b q =
+    subst (λ (y : Bool). AdvanceIs edition pool rows i (start y) (state head_date 0 false) before at r after) (sym b) (needed_is edition pool rows i (start true) (front_representation edition) before at t after x q)
 
 -- The end: the next envelope's row, or no row
 
@@ -49,40 +41,27 @@ ends_last pool rows i h = sym (ap ends_before (cells_last pool rows i h) ∙ at 
     at true = refl
     at false = refl
 
--- What the row ahead opens, by its kind, level and length
+-- a row of another kind opens no envelope
+pub open_other : {pool rows : List ℕ} {i : ℕ} {r : Ahead} → IsAhead pool rows i r → (r.kind ≡ extension_opens → ⊥) → (r.kind ≡ base_opens → ⊥) → None ≡ open_base (cells_at pool rows i)
+open_other {pool} {r = r} a x y = (rw (ne_eqb r.kind 1 x, ne_eqb r.kind 2 y) (none (eqb r.level 0 && is_empty (viewed pool r)))) ∙ sym (ap open_base a.row.cells)
+  where
+    none : (b : Bool) → None ≡ base_of (pick b inner_row inner_row)
+    none true = refl
+    none false = refl
 
-module _ {pool rows : List ℕ} {i : ℕ} {r : Ahead} (a : AheadIs pool rows i r) where
-  open_by : (n : ℕ) → n ≡ opens_number (opens_of (row_ahead pool r)) → (r.kind ≡ 0 → n ≡ 0) → n ≡ open_number (cells_at pool rows i)
-  open_by n q z = at a.is
-    where
-      at : RowAhead pool rows i (row_ahead pool r) ⊎ ((r.kind ≡ 0) × NoRow (cells_at pool rows i)) → n ≡ open_number (cells_at pool rows i)
-      at (inl x) = q ∙ sym (ap open_number x.cells)
-      at (inr x) = z x.0 ∙ no_row_lem (λ (cs : List Cell). 0 ≡ open_number cs) refl (λ cs. refl) (cells_at pool rows i) x.1
-
-  view_length : length (viewed pool r) ≡ r.end - r.start
-  unfolding from
-  view_length = from_length pool r.start r.end a.ordered a.inside
-
-  pub open_past : base_opens < r.kind → 0 ≡ open_number (cells_at pool rows i)
-  open_past h = open_by 0 (opens_past r.kind r.level (viewed pool r) h) (λ z. refl)
-
-  pub open_deep : (r.level ≡ 0 → ⊥) → 0 ≡ open_number (cells_at pool rows i)
-  open_deep h = open_by 0 (opens_level r.kind r.level (viewed pool r) h) (λ z. refl)
-
-  pub open_some : (r.start ≡ r.end → ⊥) → 0 ≡ open_number (cells_at pool rows i)
-  open_some h = open_by 0 (opens_some r.kind r.level (viewed pool r) (λ z. h (omega (arith, view_length, a.ordered)))) (λ z. refl)
-
-  pub open_is : r.kind ≤ base_opens → r.level ≡ 0 → r.start ≡ r.end → r.kind ≡ open_number (cells_at pool rows i)
-  open_is h l e = open_by r.kind (opens_kind r.kind h ∙ opens_by r.kind r.level (viewed pool r) l (omega (arith, view_length))) (λ z. z)
-
-pub ends_open : (pool rows : List ℕ) (i : ℕ) → i < room_of rows → {n : ℕ} → n ≡ open_number (cells_at pool rows i) → not (eqb n 0) ≡ ends_before (cells_at pool rows i)
+pub ends_open : (pool rows : List ℕ) (i : ℕ) → i < room_of rows → {o : Option Bool} → o ≡ open_base (cells_at pool rows i) → is_some o ≡ ends_before (cells_at pool rows i)
 ends_open pool rows i h q =
     let c = cells_next pool rows i h in
-    ap (λ (k : ℕ). not (eqb k 0)) (q ∙ ap open_number c) ∙ at (row_cell pool rows i) ∙ sym (ap ends_before c)
+    ap is_some (q ∙ ap open_base c) ∙ at (row_cell pool rows i) ∙ sym (ap ends_before c)
   where
-    at : (c : Cell) → not (eqb (open_number (c ∷ cells_at pool rows (i + 1))) 0) ≡ ends_before (c ∷ cells_at pool rows (i + 1))
+    opens : (o : Opens) → is_some (base_of o) ≡ not (eqb (opens_number o) 0)
+    opens inner_row = refl
+    opens (envelope_row true) = refl
+    opens (envelope_row false) = refl
+
+    at : (c : Cell) → is_some (open_base (c ∷ cells_at pool rows (i + 1))) ≡ ends_before (c ∷ cells_at pool rows (i + 1))
     at broken = refl
-    at (cell row) = refl
+    at (cell row) = opens (opens_of row)
 
 -- behind the closing 01 nothing fits
 closed_body : (e : Edition) (cs : List Cell) (i : ℕ) → body_of e cs i (state closed 0 false) ≡ pick (ends_before cs) (body [] i cs) (halt i)
@@ -96,8 +75,11 @@ closed_body e (cell row ∷ cs) i = at (opens_of row)
     at (envelope_row true) = ap (seal_body i (cell row ∷ cs)) (close_once e (state closed 0 false))
     at (envelope_row false) = ap (seal_body i (cell row ∷ cs)) (close_once e (state closed 0 false))
 
-pub body_stuck : {o : Body} (pool rows m : List ℕ) (at : ℕ) (m₁ : List ℕ) {j : ℕ} → o ≡ halt j → BodyIs o pool rows m at (bodied.Stuck j) m₁
-body_stuck pool rows m at m₁ {j} q = subst (λ (x : Body). BodyIs x pool rows m at (bodied.Stuck j) m₁) (sym q) refl
+pub body_as : (o : Body) (pool rows m : List ℕ) (at : ℕ) (m₁ : List ℕ) {r r₁ : Result Inside Misfit} → r ≡ r₁ → BodyIs o pool rows m at r m₁ → BodyIs o pool rows m at r₁ m₁
+body_as o pool rows m at m₁ q x = subst (λ (y : Result Inside Misfit). BodyIs o pool rows m at y m₁) q x
+
+pub body_stuck : {o : Body} (pool rows m : List ℕ) (at : ℕ) (m₁ : List ℕ) {j : ℕ} → o ≡ halt j → BodyIs o pool rows m at (Err (record { row = j })) m₁
+body_stuck pool rows m at m₁ {j} q = subst (λ (x : Body). BodyIs x pool rows m at (Err (record { row = j })) m₁) (sym q) refl
 
 -- what lies before the end is the whole inside
 module _ {edition : Edition} {pool rows : List ℕ} {i : ℕ} {st : State} {k : ℕ} {m : List ℕ} {at : ℕ} {m₁ : List ℕ} {p : ℕ} (a : Onward edition pool rows i st k (state closed 0 false) m at m₁ p) {b : Bool} (e : b ≡ ends_before (cells_at pool rows k)) where
@@ -107,8 +89,8 @@ module _ {edition : Edition} {pool rows : List ℕ} {i : ℕ} {st : State} {k : 
   whole : {c : Bool} → b ≡ c → body_at edition pool rows i st ≡ on_body bytes (pick c (body [] k (cells_at pool rows k)) (halt k))
   whole q = a.onto.is ∙ ap (on_body bytes) (closed_body edition (cells_at pool rows k) k ∙ ap (λ (x : Bool). pick x (body [] k (cells_at pool rows k)) (halt k)) (sym e ∙ q))
 
-  pub body_ends : b ≡ true → BodyIs (body_at edition pool rows i st) pool rows m at (bodied.Ended k p) m₁
-  body_ends q = subst (λ (x : Body). BodyIs x pool rows m at (bodied.Ended k p) m₁) (sym (whole q ∙ ap (λ (x : List ℕ). body x k (cells_at pool rows k)) (append-nil bytes))) (refl, a.inside, refl, a.onto.laid)
+  pub body_ends : b ≡ true → BodyIs (body_at edition pool rows i st) pool rows m at (Ok (record { row = k; many = p })) m₁
+  body_ends q = subst (λ (x : Body). BodyIs x pool rows m at (Ok (record { row = k; many = p })) m₁) (sym (whole q ∙ ap (λ (x : List ℕ). body x k (cells_at pool rows k)) (append-nil bytes))) (refl, a.inside, refl, a.onto.laid)
 
-  pub body_halts : b ≡ false → BodyIs (body_at edition pool rows i st) pool rows m at (bodied.Stuck k) m₁
+  pub body_halts : b ≡ false → BodyIs (body_at edition pool rows i st) pool rows m at (Err (record { row = k })) m₁
   body_halts q = body_stuck pool rows m at m₁ (whole q)

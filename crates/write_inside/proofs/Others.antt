@@ -1,6 +1,7 @@
 -- A kind that neither begins a parameter nor has a code that leads to it.
 use Prim.Native.Nat.{ℕ}
 use mathlib.Core.List.{[]}
+use mathlib.Core.Logic.{◌⊎◌, inl, inr}
 use mathlib.Core.Path.{◌≡◌, refl, sym}
 use native.Mathlib.Omega.{arith}
 use borrow.Author.Tests.{ne_eqb}
@@ -8,7 +9,11 @@ use Rattle.meaning.specs.Editions.{parameters, closing, moves, shared, own}
 use Rattle.meaning.specs.Writing.{way_to}
 use Rattle.meaning.specs.Told.{Edition, B, D}
 use Rattle.write_rows.specs.Rooms.{of_kind}
+use Rattle.table.specs.Kinds.{number_of}
+use Rattle.table.specs.declared.kinds.Kind.{Kind}
+use Rattle.table.specs.declared.kinds.Kind.TheVariants.{StandardRepresentation, OwnRepresentation, ReceivedBy, ToOpens, FromOpens, ReceiverOpens, Comments, PayloadLength, PayloadEncoding, EncryptedOpens, OwnKey, BehaviourOpens}
 use Rattle.write_inside.specs.Parameters.{Names, Represents}
+use Rattle.std.proofs.lemmas.Grind.{common_steps}
 
 pub record OtherKind (k : ℕ) : Type 0 where
   pub represents : Represents k → ⊥
@@ -21,13 +26,40 @@ pub record OtherKind (k : ℕ) : Type 0 where
   pub key : k ≡ 27 → ⊥
   pub behaviour : k ≡ 29 → ⊥
 
--- none of the kinds that a parameter of one kind begins with
-abbrev pub Unlike : ℕ → Type 0
-Unlike k = (((((((Unit {0} × (k ≡ 8 → ⊥)) × (k ≡ 22 → ⊥)) × (k ≡ 23 → ⊥)) × (k ≡ 24 → ⊥)) × (k ≡ 25 → ⊥)) × (k ≡ 27 → ⊥)) × (k ≡ 29 → ⊥))
+-- a kind that begins no parameter
+pub other_kind : (k : Kind) → (k ≡ StandardRepresentation → ⊥) → (k ≡ OwnRepresentation → ⊥) → (k ≡ ReceivedBy → ⊥) → (k ≡ ToOpens → ⊥) → (k ≡ FromOpens → ⊥) → (k ≡ ReceiverOpens → ⊥) → (k ≡ Comments → ⊥) → (k ≡ PayloadLength → ⊥) → (k ≡ PayloadEncoding → ⊥) → (k ≡ EncryptedOpens → ⊥) → (k ≡ OwnKey → ⊥) → (k ≡ BehaviourOpens → ⊥) → OtherKind (number_of k)
+other_kind k standard own by to from receiver note long encoding encrypted key behaviour =
+    record {
+      represents = λ x. grind (arith, common_steps);
+      names = λ x. grind (arith, common_steps);
+      receives = λ q. grind (arith, common_steps);
+      comment = λ q. grind (arith, common_steps);
+      long = λ q. grind (arith, common_steps);
+      encoding = λ q. grind (arith, common_steps);
+      encrypted = λ q. grind (arith, common_steps);
+      key = λ q. grind (arith, common_steps);
+      behaviour = λ q. grind (arith, common_steps);
+    }
 
-pub other_kind : (k : ℕ) → Unlike k → (Represents k → ⊥) → (Names k → ⊥) → OtherKind k
-other_kind k rest represents names =
-    record { represents = represents; names = names; receives = rest.0.0.0.0.0.0.1; comment = rest.0.0.0.0.0.1; long = rest.0.0.0.0.1; encoding = rest.0.0.0.1; encrypted = rest.0.0.1; key = rest.0.1; behaviour = rest.1 }
+pub names_kind : (k : Kind) → (k ≡ ToOpens) ⊎ ((k ≡ FromOpens) ⊎ (k ≡ ReceiverOpens)) → Names (number_of k)
+names_kind k (inl q) = rw q (omega arith, omega arith)
+names_kind k (inr (inl q)) = rw q (omega arith, omega arith)
+names_kind k (inr (inr q)) = rw q (omega arith, omega arith)
+
+-- a number that is no kind's
+pub no_kind : (k : ℕ) → ((kind : Kind) → number_of kind ≡ k → ⊥) → OtherKind k
+no_kind k h =
+    record {
+      represents = λ x. let a = h StandardRepresentation in let b = h OwnRepresentation in omega (arith, x);
+      names = λ x. let a = h ToOpens in let b = h FromOpens in let d = h ReceiverOpens in omega (arith, x);
+      receives = λ q. h ReceivedBy (sym q);
+      comment = λ q. h Comments (sym q);
+      long = λ q. h PayloadLength (sym q);
+      encoding = λ q. h PayloadEncoding (sym q);
+      encrypted = λ q. h EncryptedOpens (sym q);
+      key = λ q. h OwnKey (sym q);
+      behaviour = λ q. h BehaviourOpens (sym q);
+    }
 
 pub none_other : (edition : Edition) (k : ℕ) → OtherKind k → of_kind k (moves edition parameters) ≡ []
 unfolding moves shared own

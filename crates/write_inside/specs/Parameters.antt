@@ -1,5 +1,5 @@
 -- What the stages of a parameter promise.
-use Rattle.std.specs.Prelude.{ℕ, ◌+◌, ◌≤◌, ◌<◌, List, [], ◌∷◌, Bool, true, false, ◌≡◌, eqb}
+use Rattle.std.specs.Prelude.{ℕ, ◌+◌, ◌≤◌, ◌<◌, List, [], ◌∷◌, Bool, true, false, ◌≡◌, eqb, Option, None, Some, Result, Ok, Err}
 use Rattle.meaning.specs.Basics.{pick}
 use Rattle.meaning.specs.Kinds.{standard_representation, own_representation, to_opens, from_opens, receiver_opens, encrypted_opens}
 use Rattle.meaning.specs.Editions.{outer, encrypted_texts, parameters, agent_list, one_agent, Next, inner, inner_one, opens, Move, moves, closing, on◌▸◌▸◌▸◌}
@@ -9,20 +9,16 @@ use Rattle.write_rows.specs.Bodies.{halt}
 use Rattle.laws_steps.specs.Rows.{cells_at}
 use Rattle.write_rows.specs.Rooms.{of_kind, NotAmong}
 use Rattle.write_rows.specs.Stages.{body_at, Onward, at_parameters}
-use Rattle.write_rows.specs.declared.advance.Tried.{Tried}
-use Rattle.write_rows.specs.declared.advance.Tried.TheVariants.{To, Other}
-use Rattle.write_rows.specs.declared.advance.Advance.{Advance}
-use Rattle.write_rows.specs.declared.advance.Advance.TheVariants as advance
-use Rattle.write_inside.specs.declared.parameter.Parameter.{Parameter}
-use Rattle.write_inside.specs.declared.parameter.Parameter.TheVariants.{Go, Last, Stuck}
+use Rattle.write_rows.specs.declared.advance.Onto.{Onto}
+use Rattle.write_rows.specs.declared.advance.Misfit.{Misfit}
 
-abbrev pub after_one : ℕ → Tried → Parameter
-after_one i (To p) = Go (i + 1) p
-after_one i Other = Last
+abbrev pub after_one : ℕ → Option ℕ → Option Onto
+after_one i (Some p) = Some (record { row = i + 1; at = p })
+after_one i None = None
 
-abbrev pub after_advance : Advance → Parameter
-after_advance (advance.Go k p) = Go k p
-after_advance (advance.Stuck j) = Stuck j
+abbrev pub after_advance : Result Onto Misfit → Result (Option Onto) Misfit
+after_advance (Ok onto) = Ok (Some onto)
+after_advance (Err misfit) = Err misfit
 
 -- the only move of its kind among the parameters
 abbrev pub InParameters : Edition → Move → Type 0
@@ -48,10 +44,10 @@ encrypted_in B = on 0x08 ▸ encrypted_opens ▸ opens ▸ outer encrypted_texts
 encrypted_in D = []
 
 -- a parameter is laid; or the row ahead has no move among these; or a row fits nowhere
-abbrev pub ParameterIs : Edition → List Move → List ℕ → List ℕ → ℕ → List ℕ → ℕ → Parameter → List ℕ → Type 0
-ParameterIs edition l pool rows i before at (Go k p) after = Onward edition pool rows i at_parameters k at_parameters before at after p × (i < k)
-ParameterIs edition l pool rows i before at Last after = (after ≡ before) × NotAmong l 0 (cells_at pool rows i)
-ParameterIs edition l pool rows i before at (Stuck j) after = body_at edition pool rows i at_parameters ≡ halt j
+abbrev pub ParameterIs : Edition → List Move → List ℕ → List ℕ → ℕ → List ℕ → ℕ → Result (Option Onto) Misfit → List ℕ → Type 0
+ParameterIs edition l pool rows i before at (Ok (Some onto)) after = Onward edition pool rows i at_parameters onto.row at_parameters before at after onto.at × (i < onto.row)
+ParameterIs edition l pool rows i before at (Ok None) after = (after ≡ before) × NotAmong l 0 (cells_at pool rows i)
+ParameterIs edition l pool rows i before at (Err misfit) after = body_at edition pool rows i at_parameters ≡ halt misfit.row
 
 -- "Representation: 10, 11 or 12, or 00 and a text"
 abbrev pub Represents : ℕ → Type 0
@@ -69,7 +65,7 @@ ClosingAhead [] = Unit {0}
 ClosingAhead (broken ∷ cs) = Unit {0}
 ClosingAhead (cell row ∷ cs) = way_to row.kind ≡ closing
 
-abbrev pub FoundIs : Edition → List ℕ → List ℕ → ℕ → List ℕ → ℕ → Parameter → List ℕ → Type 0
-FoundIs edition pool rows i before at (Go k p) after = Onward edition pool rows i at_parameters k at_parameters before at after p × (i < k)
-FoundIs edition pool rows i before at Last after = (after ≡ before) × NotAmong (moves edition parameters) 0 (cells_at pool rows i) × ClosingAhead (cells_at pool rows i)
-FoundIs edition pool rows i before at (Stuck j) after = body_at edition pool rows i at_parameters ≡ halt j
+abbrev pub FoundIs : Edition → List ℕ → List ℕ → ℕ → List ℕ → ℕ → Result (Option Onto) Misfit → List ℕ → Type 0
+FoundIs edition pool rows i before at (Ok (Some onto)) after = Onward edition pool rows i at_parameters onto.row at_parameters before at after onto.at × (i < onto.row)
+FoundIs edition pool rows i before at (Ok None) after = (after ≡ before) × NotAmong (moves edition parameters) 0 (cells_at pool rows i) × ClosingAhead (cells_at pool rows i)
+FoundIs edition pool rows i before at (Err misfit) after = body_at edition pool rows i at_parameters ≡ halt misfit.row

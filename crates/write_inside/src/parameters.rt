@@ -6,18 +6,14 @@ ghost use Rattle.write_rows.specs.Stages.{StageRequires, AdvanceIs, at_parameter
 ghost use Rattle.write_inside.specs.Parameters.{FoundIs};
 
 use crate::parameter::{
-    Parameter, behaviour, comments, encrypted, naming, own_parameter, payload_encoding,
-    payload_length, received_in, represented,
+    behaviour, encrypted, naming, one_text, own_parameter, payload_length, received_in, represented,
 };
 use table::codes::CLOSING;
-use table::kinds::{
-    BEHAVIOUR_OPENS, COMMENTS, ENCRYPTED_OPENS, FROM_OPENS, OWN_KEY, OWN_REPRESENTATION,
-    PAYLOAD_ENCODING, PAYLOAD_LENGTH, RECEIVED_BY, RECEIVER_OPENS, STANDARD_REPRESENTATION,
-    TO_OPENS,
-};
+use table::kinds::Kind;
 use table::rows::look_ahead;
 use table::told::Edition;
-use write_rows::advance::Advance;
+use values::text::Rule;
+use write_rows::advance::{Misfit, Onto};
 use write_rows::lay::put;
 
 // Lays the parameter that row i begins, by the kind of row i. None begins there if no parameter begins with a row of that kind.
@@ -28,30 +24,45 @@ fn by_kind(
     edition: Edition,
     output: &mut [u8],
     at: usize,
-) -> Parameter
+) -> Result<Option<Onto>, Misfit>
     requires { StageRequires rows.now i output.old at }
     ensures { FoundIs (edition_of edition) pool.now rows.now i output.old at result output.new }
 {
-    let r = look_ahead(rows, pool, i);
-    let kind = r.kind;
+    let Some(r) = look_ahead(rows, pool, i) else {
+        return Ok(None);
+    };
+    let Ok(kind) = Kind::try_from(r.kind) else {
+        return Ok(None);
+    };
     match kind {
-        STANDARD_REPRESENTATION | OWN_REPRESENTATION => represented(
+        Kind::StandardRepresentation | Kind::OwnRepresentation => represented(
             rows, pool, i, kind, output, at,
         ),
-        RECEIVED_BY => received_in(rows, pool, i, edition, output, at),
-        TO_OPENS | FROM_OPENS | RECEIVER_OPENS => naming(rows, pool, i, kind, edition, output, at),
-        COMMENTS => comments(rows, pool, i, output, at),
-        PAYLOAD_LENGTH => payload_length(rows, pool, i, output, at),
-        PAYLOAD_ENCODING => payload_encoding(rows, pool, i, output, at),
-        ENCRYPTED_OPENS => encrypted(rows, pool, i, edition, output, at),
-        OWN_KEY => own_parameter(rows, pool, i, output, at),
-        BEHAVIOUR_OPENS => behaviour(rows, pool, i, output, at),
-        _ => Parameter::Last,
+        Kind::ReceivedBy => received_in(rows, pool, i, edition, output, at),
+        Kind::ToOpens | Kind::FromOpens | Kind::ReceiverOpens => naming(
+            rows, pool, i, kind, edition, output, at,
+        ),
+        Kind::Comments => Ok(one_text(rows, pool, i, Kind::Comments, Rule::Note, 0x05, output, at)),
+        Kind::PayloadLength => Ok(payload_length(rows, pool, i, output, at)),
+        Kind::PayloadEncoding => Ok(one_text(
+            rows,
+            pool,
+            i,
+            Kind::PayloadEncoding,
+            Rule::Line,
+            0x07,
+            output,
+            at,
+        )),
+        Kind::EncryptedOpens => Ok(encrypted(rows, pool, i, edition, output, at)),
+        Kind::OwnKey => own_parameter(rows, pool, i, output, at),
+        Kind::BehaviourOpens => behaviour(rows, pool, i, output, at),
+        _ => Ok(None),
     }
 }
 
 // Lays every parameter from row `from` on, and the 01. Answers the first row that begins none, and the place behind the 01.
-// Stuck where a parameter is.
+// Refuses what a parameter does.
 pub fn parameters(
     rows: &[u32],
     pool: &[u8],
@@ -59,24 +70,16 @@ pub fn parameters(
     edition: Edition,
     output: &mut [u8],
     at: usize,
-) -> Advance
+) -> Result<Onto, Misfit>
     requires { StageRequires rows.now from output.old at }
     ensures { AdvanceIs (edition_of edition) pool.now rows.now from at_parameters (state closed 0 false) output.old at result output.new }
 {
-    let mut i = from;
-    let mut p = at;
-    loop {
-        let r = by_kind(rows, pool, i, edition, output, p);
-        match r {
-            Parameter::Stuck(j) => return Advance::Stuck(j),
-            Parameter::Last => return Advance::Go {
-                row: i,
-                at: put(output, p, CLOSING),
-            },
-            Parameter::Go { row, at: q } => {
-                i = row;
-                p = q;
-            }
-        }
+    let mut here = Onto { row: from, at };
+    while let Some(next) = by_kind(rows, pool, here.row, edition, output, here.at)? {
+        here = next;
     }
+    Ok(Onto {
+        row: here.row,
+        at: put(output, here.at, CLOSING),
+    })
 }

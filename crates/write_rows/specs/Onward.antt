@@ -63,8 +63,8 @@ advance_as edition pool rows i st st₁ before at after q s = subst (λ (x : Res
 pub tried_as : (l : List Move) (level : ℕ) (pool rows : List ℕ) (i : ℕ) (before : List ℕ) (at : ℕ) (after : List ℕ) {r r₁ : Option ℕ} → r ≡ r₁ → TriedIs l level pool rows i before at r after → TriedIs l level pool rows i before at r₁ after
 tried_as l level pool rows i before at after q t = subst (λ (x : Option ℕ). TriedIs l level pool rows i before at x after) q t
 
--- a row that fits nowhere, handed up
-pub handed_up : {T : Type 0} (r : Result T Misfit) {misfit : Misfit} → IsErr r × IsErrAnd r (λ e. e ≡ misfit) → Err misfit ≡ r
+-- a refusal handed up
+pub handed_up : {T E : Type 0} (r : Result T E) {refusal : E} → IsErr r × IsErrAnd r (λ e. e ≡ refusal) → Err refusal ≡ r
 handed_up (Ok x) q = absurd q.1
 handed_up (Err e) q = ap Err (sym q.1)
 

@@ -12,16 +12,16 @@ use Rattle.meaning.specs.Told.{known, unknown, label_of, Edition}
 use Rattle.meaning.specs.Writing.{Cell, Envelope, Plan, stuck, plan, whole_plan, header_of, Limit, fine, exceeds, limits, Written, written, unwritten, limited, planned, write_rows}
 use Rattle.meaning.specs.Skips.{Skips, right, wrong_at}
 use Rattle.meaning.specs.Memory.{cells_of, skips_held, reply, laid_over, write, write_answer, write_output, room_of}
-use Rattle.meaning.specs.Present.{passed as passes, check_of, checked}
+use Rattle.meaning.specs.Present.{Judgement, stopped, passed as passes, check_of, checked}
 use Rattle.laws_steps.specs.Logic.{are_bytes}
 use Rattle.laws_steps.specs.Rows.{cells_at, cells_are}
 use Rattle.meaning.specs.Headers.{envelopes_most}
-use Rattle.write_envelopes.specs.Whole.{Verdict, bad, needs, verdict_of, verdict, checked_of, bytes_of_plan, Writable}
-use Rattle.table.specs.Reply.{reply_of}
+use Rattle.write_envelopes.specs.Whole.{Verdict, bad, needs, verdict_of, verdict, verdict_is, bytes_of_plan, Writable}
+use Rattle.table.specs.Reply.{fault_reply, reply_of}
 use Rattle.writer.specs.Promise.{WrittenAs, WritePromise, skips_verdict, SkipsChecked, check_is}
 use Rattle.table.specs.declared.reply.Reply.{Reply}
-use Rattle.table.specs.declared.answers.Checked.{Checked}
-use Rattle.table.specs.declared.answers.Checked.TheVariants.{Bad, Needs}
+use Rattle.table.specs.declared.answers.Fault.{Fault}
+use Rattle.std.specs.Prelude.{Result, Ok, Err}
 
 -- The writer by the verdict
 
@@ -48,13 +48,13 @@ needs_length (plan bytes vs) u q = at (limits envelopes_most vs) q
     at fine q = let z : 0 + length (header_of vs) ≡ u = cc q in omega arith
     at (exceeds i) q = let z : ◌≡◌ {A = ℕ} 0 1 = cc q in absurd (omega arith)
 
-verdict_bad : (v : Verdict) {answer place : ℕ} → checked_of v ≡ Bad answer place → v ≡ bad answer place
-verdict_bad (bad a p) {answer} {place} q = let x : a ≡ answer = cc q in let y : p ≡ place = cc q in rw (x, y) refl
-verdict_bad (needs t) q = let z : ◌≡◌ {A = ℕ} 0 1 = cc q in absurd (omega arith)
+abbrev judged : Verdict → Judgement
+judged (bad answer place) = stopped answer place
+judged (needs t) = passes
 
-verdict_needs : (v : Verdict) {t : ℕ} → checked_of v ≡ Needs t → v ≡ needs t
-verdict_needs (bad a p) q = let z : ◌≡◌ {A = ℕ} 0 1 = cc q in absurd (omega arith)
-verdict_needs (needs u) {t} q = let x : u ≡ t = cc q in ap needs x
+check_judged : (r : Result ℕ Fault) → check_is r ≡ judged (verdict_is r)
+check_judged (Ok t) = refl
+check_judged (Err fault) = refl
 
 module _ (edition : Edition) (pool rows before : List ℕ) where
   abbrev all : Plan
@@ -71,7 +71,7 @@ module _ (edition : Edition) (pool rows before : List ℕ) where
   result_is = ap (λ (cs : List Cell). planned (length before) (skips_held rows) (whole_plan edition cs)) (cells_are pool rows) ∙ by_verdict (length before) (skips_held rows) all
 
   -- the check alone: 16 is no fault of the rows
-  room_aside : (w : List ℕ) (skips : Skips) (p : Plan) → check_is (checked_of (skips_verdict skips p)) ≡ check_of (answered 0 w (skips_verdict skips p))
+  room_aside : (w : List ℕ) (skips : Skips) (p : Plan) → judged (skips_verdict skips p) ≡ check_of (answered 0 w (skips_verdict skips p))
   room_aside w skips (stuck i) = refl
   room_aside w (wrong_at i) (plan bytes vs) = refl
   room_aside w right (plan bytes vs) = at (limits envelopes_most vs)
@@ -80,20 +80,20 @@ module _ (edition : Edition) (pool rows before : List ℕ) where
       short t true = refl
       short t false = refl
 
-      at : (o : Limit) → check_is (checked_of (verdict_of (0 + length (header_of vs)) o)) ≡ check_of (answered 0 w (verdict_of (0 + length (header_of vs)) o))
+      at : (o : Limit) → judged (verdict_of (0 + length (header_of vs)) o) ≡ check_of (answered 0 w (verdict_of (0 + length (header_of vs)) o))
       at fine = short (0 + length (header_of vs)) (leb (0 + length (header_of vs)) 0)
       at (exceeds i) = refl
 
   written_as : {w : Written} {answer : Reply} {after : List ℕ} → result ≡ w → WrittenAs w rows before answer after → WrittenAs result rows before answer after
   written_as {w} {answer} {after} q x = rw q x
 
-  module _ {r : Checked} {lengths : List ℕ} (k : SkipsChecked all (skips_held rows) r lengths) where
-    pub refuses : {answer place : ℕ} {a : Reply} → r ≡ Bad answer place → reply_of a ≡ reply answer place 0 → WrittenAs result rows before a before
-    refuses q e = written_as (result_is ∙ ap (answered (length before) (bytes_of_plan all)) (verdict_bad found (sym k.is ∙ q))) (record { answers = e; leaves = refl })
+  module _ {r : Result ℕ Fault} {lengths : List ℕ} (k : SkipsChecked all (skips_held rows) r lengths) where
+    pub refuses : {fault : Fault} {a : Reply} → r ≡ Err fault → reply_of a ≡ fault_reply fault → WrittenAs result rows before a before
+    refuses q e = written_as (result_is ∙ ap (answered (length before) (bytes_of_plan all)) (sym k.is ∙ ap verdict_is q)) (record { answers = e; leaves = refl })
 
-    module _ {many : ℕ} (q : r ≡ Needs many) where
+    module _ {many : ℕ} (q : r ≡ Ok many) where
       passed : found ≡ needs many
-      passed = verdict_needs found (sym k.is ∙ q)
+      passed = sym k.is ∙ ap verdict_is q
 
       pub writable : length lengths ≡ envelopes_most → many ≤ length before → Writable edition rows pool lengths before
       writable l h = let (p, n) = k.noted many passed in record { bytes_needed = many; passed = p; noted = n; long = l; room = h }
@@ -121,6 +121,6 @@ module _ (number : ℕ) (rows pool before : List ℕ) (t : T (are_bytes pool)) {
 
 -- The check alone
 
-pub checked_as : (edition : Edition) (pool rows : List ℕ) {r : Checked} {lengths : List ℕ} → SkipsChecked (whole_plan edition (cells_at pool rows 0)) (skips_held rows) r lengths → check_is r ≡ checked edition rows pool
+pub checked_as : (edition : Edition) (pool rows : List ℕ) {r : Result ℕ Fault} {lengths : List ℕ} → SkipsChecked (whole_plan edition (cells_at pool rows 0)) (skips_held rows) r lengths → check_is r ≡ checked edition rows pool
 unfolding checked
-checked_as edition pool rows k = ap check_is k.is ∙ room_aside edition pool rows [] (bytes_of_plan (all edition pool rows [])) (skips_held rows) (all edition pool rows []) ∙ ap check_of (sym (result_is edition pool rows []))
+checked_as edition pool rows k = check_judged _ ∙ ap judged k.is ∙ room_aside edition pool rows [] (bytes_of_plan (all edition pool rows [])) (skips_held rows) (all edition pool rows []) ∙ ap check_of (sym (result_is edition pool rows []))

@@ -1,11 +1,12 @@
 -- The public promise: the answer, and the whole output after the call, for every edition number, slice of rows, pool and output; what is lent as bytes holds bytes.
-use Rattle.std.specs.Prelude.{ℕ, List, ◌≡◌, T}
+use Rattle.std.specs.Prelude.{ℕ, List, ◌≡◌, T, Result, Ok, Err}
 use Rattle.meaning.specs.Skips.{Skips, right, wrong_at}
 use Rattle.meaning.specs.Headers.{envelopes_most}
 use Rattle.meaning.specs.Writing.{Plan, stuck, plan, fine, Written}
-use Rattle.write_envelopes.specs.Whole.{Verdict, bad, needs, verdict, checked_of, insides_of, Begins}
-use Rattle.table.specs.declared.answers.Checked.{Checked}
-use Rattle.table.specs.declared.answers.Checked.TheVariants.{Bad, Needs}
+use Rattle.write_envelopes.specs.Whole.{Verdict, bad, needs, verdict, verdict_is, insides_of, Begins}
+use Rattle.table.specs.declared.answers.Fault.{Fault}
+use Rattle.table.specs.declared.refusals.Refusal.TheVariants.{TableWrong}
+use Rattle.table.specs.Refusals.{answer_of}
 use Rattle.meaning.specs.Memory.{room_of, write_reply, write_memory, write_answer, write_output}
 use Rattle.meaning.specs.Present.{Judgement, passed, stopped}
 use Rattle.laws_steps.specs.Logic.{are_bytes}
@@ -23,9 +24,9 @@ pub record WrittenAs (w : Written) (rows before : List ℕ) (answer : Reply) (af
   pub leaves : after ≡ write_memory before w
 
 -- what the check of the skip numbers makes of an answer: a wrong one is 15 at its row
-abbrev pub unless_wrong : Skips → Checked → Checked
+abbrev pub unless_wrong : Skips → Result ℕ Fault → Result ℕ Fault
 unless_wrong right c = c
-unless_wrong (wrong_at i) c = Bad 15 i
+unless_wrong (wrong_at i) c = Err (record { refusal = TableWrong; at = i })
 
 -- the verdict, with a wrong skip number behind 15's other faults and before 5
 abbrev pub skips_verdict : Skips → Plan → Verdict
@@ -34,11 +35,11 @@ skips_verdict right (plan bytes vs) = verdict envelopes_most 0 fine (plan bytes 
 skips_verdict (wrong_at i) (plan bytes vs) = bad 15 i
 
 -- what the whole check promises: the verdict, and if it is passed the envelopes' lengths
-pub record SkipsChecked (p : Plan) (skips : Skips) (r : Checked) (lengths : List ℕ) : Type 0 where
-  pub is : r ≡ checked_of (skips_verdict skips p)
+pub record SkipsChecked (p : Plan) (skips : Skips) (r : Result ℕ Fault) (lengths : List ℕ) : Type 0 where
+  pub is : verdict_is r ≡ skips_verdict skips p
   pub noted : (t : ℕ) → skips_verdict skips p ≡ needs t → (verdict envelopes_most 0 fine p ≡ needs t) × Begins (insides_of p) lengths
 
 -- what each case of the check says, where no output is lent
-abbrev pub check_is : Checked → Judgement
-check_is (Bad answer place) = stopped answer place
-check_is (Needs many) = passed
+abbrev pub check_is : Result ℕ Fault → Judgement
+check_is (Err fault) = stopped (answer_of fault.refusal) fault.at
+check_is (Ok many) = passed

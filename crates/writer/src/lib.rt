@@ -11,11 +11,11 @@ ghost use Rattle.table.specs.Told.{edition_of};
 ghost use Rattle.writer.specs.Promise.{WritePromise, WrittenAs, SkipsChecked, unless_wrong, check_is};
 
 use hold_skips::first_wrong;
-use table::answers::Checked;
-use table::refusals::{EDITION_UNKNOWN, ENVELOPE_LIMIT, OUTPUT_SHORT, TABLE_WRONG};
-use table::reply::{Reply, refused};
+use table::answers::Fault;
+use table::refusals::Refusal;
+use table::reply::Reply;
 use table::rows::room;
-use table::told::{Edition, Label, label_of};
+use table::told::Edition;
 use write_envelopes::envelope::put_all;
 use write_envelopes::measure::{ENVELOPES, check};
 
@@ -25,9 +25,8 @@ use write_envelopes::measure::{ENVELOPES, check};
 pub fn write(edition: u32, rows: &[u32], pool: &[u8], output: &mut [u8]) -> Reply
     ensures { WritePromise edition rows.now pool.now output.old result output.new }
 {
-    let label = label_of(edition);
-    let Label::Known(known) = label else {
-        return refused(EDITION_UNKNOWN, 0);
+    let Ok(known) = Edition::try_from(edition) else {
+        return Reply::from(Refusal::EditionUnknown.at(0));
     };
     write_in(known, rows, pool, output)
 }
@@ -38,26 +37,24 @@ fn write_in(edition: Edition, rows: &[u32], pool: &[u8], output: &mut [u8]) -> R
     ensures { WrittenAs (write_rows (edition_of edition) (length output.old) (cells_of pool.now rows.now) (skips_held rows.now)) rows.now output.old result output.new }
 {
     let mut lengths = [0usize; ENVELOPES];
-    let c = check_all(edition, rows, pool, &mut lengths[..]);
-    match c {
-        Checked::Bad { answer, place } => refused(answer, place),
-        Checked::Needs(many) => {
-            if output.len() < many {
-                return refused(OUTPUT_SHORT, many);
-            }
-            put_all(edition, rows, pool, &lengths[..], output);
-            Reply {
-                answer: 0,
-                place: many,
-                rows: room(rows.len()),
-            }
-        }
+    let many = match check_all(edition, rows, pool, &mut lengths[..]) {
+        Ok(many) => many,
+        Err(fault) => return Reply::from(fault),
+    };
+    if output.len() < many {
+        return Reply::from(Refusal::OutputShort.at(many));
+    }
+    put_all(edition, rows, pool, &lengths[..], output);
+    Reply {
+        answer: 0,
+        place: many,
+        rows: room(rows.len()),
     }
 }
 
 // Takes rows and the pool that they view, and no output. Answers the bytes that they need, or refuses what `write` refuses of them whatever output it is
 // lent: rows that are no table (15), a wrong skip number (15), an envelope past a limit (5).
-pub fn check_rows(edition: Edition, rows: &[u32], pool: &[u8]) -> Checked
+pub fn check_rows(edition: Edition, rows: &[u32], pool: &[u8]) -> Result<usize, Fault>
     ensures { check_is result ≡ checked (edition_of edition) rows.now pool.now }
 {
     let mut lengths = [0usize; ENVELOPES];
@@ -66,32 +63,31 @@ pub fn check_rows(edition: Edition, rows: &[u32], pool: &[u8]) -> Checked
 
 // Takes all rows, and room for the envelopes' lengths. Answers the bytes that the rows need, and then the lengths are noted. Refuses, in this order,
 // rows that are no table (15), a wrong skip number (15, at the lowest such row), and an envelope past a limit (5, at its row).
-fn check_all(edition: Edition, rows: &[u32], pool: &[u8], lengths: &mut [usize]) -> Checked
+fn check_all(
+    edition: Edition,
+    rows: &[u32],
+    pool: &[u8],
+    lengths: &mut [usize],
+) -> Result<usize, Fault>
     requires { length lengths.old ≡ envelopes_most }
     ensures { SkipsChecked (whole_plan (edition_of edition) (cells_at pool.now rows.now 0)) (skips_held rows.now) result lengths.new }
 {
     let c = check(edition, rows, pool, lengths);
-    match c {
-        Checked::Bad { answer, place } => {
-            if answer == ENVELOPE_LIMIT {
-                return skips_before(rows, c);
-            }
-            c
-        }
-        Checked::Needs(_) => skips_before(rows, c),
+    let Err(fault) = c else {
+        return skips_before(rows, c);
+    };
+    match fault.refusal {
+        Refusal::EnvelopeLimit => skips_before(rows, c),
+        _ => c,
     }
 }
 
 // Takes what the rows answer where their skip numbers are right. Answers that, or refuses a wrong one (15, at the lowest such row).
-pub fn skips_before(rows: &[u32], c: Checked) -> Checked
+pub fn skips_before(rows: &[u32], c: Result<usize, Fault>) -> Result<usize, Fault>
     ensures { result ≡ unless_wrong (skips_held rows.now) c }
 {
-    let wrong = first_wrong(rows);
-    if wrong < room(rows.len()) {
-        return Checked::Bad {
-            answer: TABLE_WRONG,
-            place: wrong,
-        };
+    if let Some(wrong) = first_wrong(rows) {
+        return Err(Refusal::TableWrong.at(wrong));
     }
     c
 }

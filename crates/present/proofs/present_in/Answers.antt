@@ -5,8 +5,8 @@ use Rattle.present.proofs.present_in.Goals as goal
 
 pub first_value-requires : goal.first_value-requires
 first_value-requires c =
-    (walkable (edition_of c.args.edition) c.args.rows.now c.args.pool.now c.args.code c.check_rows-c.ensures c.in-Needs.is, c.requires)
+    (walkable (edition_of c.args.edition) c.args.rows.now c.args.pool.now c.args.code c.check_rows.ensures c.in-Ok.is, c.requires)
 
-pub returns-in-Needs : goal.returns-in-Needs
-returns-in-Needs c =
-    answers (edition_of c.args.edition) c.args.rows.now c.args.pool.now c.args.code c.check_rows-c.ensures c.in-Needs.is c.requires c.first_value.ensures c.room.ensures
+pub returns-in-Ok : goal.returns-in-Ok
+returns-in-Ok c =
+    answers (edition_of c.args.edition) c.args.rows.now c.args.pool.now c.args.code c.check_rows.ensures c.in-Ok.is c.requires c.first_value.ensures c.room.ensures

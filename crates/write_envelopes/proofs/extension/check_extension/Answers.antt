@@ -1,27 +1,34 @@
 -- `extension::check_extension`: an extension opens at row 0, and the table ends behind its inside.
-use mathlib.Core.Path.{◌∙◌, ap}
+use mathlib.Core.Path.{◌∙◌, ap, sym}
 use native.Mathlib.Omega.{arith}
+use Rattle.std.specs.Prelude.{Err, Result, Some, ℕ}
 use Rattle.table.specs.Told.{edition_of}
-use Rattle.write_envelopes.specs.Whole.{checked_of}
+use Rattle.table.specs.declared.answers.Fault.{Fault}
+use Rattle.write_rows.specs.Onward.{handed_up}
+use Rattle.write_envelopes.specs.Whole.{verdict_is}
 use Rattle.write_envelopes.proofs.Checking.{measured_ended, measured_stuck}
-use Rattle.write_envelopes.proofs.Extensions.{extension_ended, extension_stuck, inside, some_row}
+use Rattle.write_envelopes.proofs.Extensions.{extension_ended, extension_stuck, no_extension, some_row}
 use Rattle.write_envelopes.proofs.extension.check_extension.Goals as goal
 
-pub measure-r-requires : goal.measure-r-requires
-measure-r-requires c = let a = c.args in omega (arith, some_row (edition_of a.edition) a.pool.now a.rows.now c.open_at-opened.ensures c.if-opened-ne-EXTENSION_OPENS.false)
-
-pub returns-in-Stuck : goal.returns-in-Stuck
-returns-in-Stuck c =
+pub returns-in_default : goal.returns-in_default
+returns-in_default c =
     let a = c.args in
-    let e = edition_of a.edition in
-    let q = c.open_at-opened.ensures in
-    let one = c.if-opened-ne-EXTENSION_OPENS.false in
-    c.no_table-in-Stuck.ensures ∙ ap checked_of (extension_stuck e a.pool.now a.rows.now q one (measured_stuck (inside e a.pool.now a.rows.now q one) a.pool.now a.rows.now c.in-Stuck.is c.measure-r.ensures))
+    ap (λ (f : Fault). verdict_is (Err f)) c.at.ensures ∙ no_extension (edition_of a.edition) a.pool.now a.rows.now (λ q. let z = c.in_default.ensures ∙ q in cc)
 
-pub returns-in-Ended : goal.returns-in-Ended
-returns-in-Ended c =
+pub returns-then-base : goal.returns-then-base
+returns-then-base c =
     let a = c.args in
-    let e = edition_of a.edition in
-    let q = c.open_at-opened.ensures in
-    let one = c.if-opened-ne-EXTENSION_OPENS.false in
-    c.ended.ensures a.pool.now ∙ ap checked_of (extension_ended e a.pool.now a.rows.now q one (measured_ended (inside e a.pool.now a.rows.now q one) a.pool.now a.rows.now c.in-Ended.is c.measure-r.ensures))
+    ap (λ (f : Fault). verdict_is (Err f)) c.at-then-base.ensures ∙ no_extension (edition_of a.edition) a.pool.now a.rows.now (λ q. let z = c.in-Some.ensures ∙ q in let y = c.if-base.true in cc)
+
+pub measure-requires : goal.measure-requires
+measure-requires c = let a = c.args in omega (arith, some_row (edition_of a.edition) a.pool.now a.rows.now (ap Some (sym c.if-base.false) ∙ c.in-Some.ensures))
+
+pub returns-in_err-inside : goal.returns-in_err-inside
+returns-in_err-inside c =
+    let a = c.args in
+    ap (λ (r : Result ℕ Fault). verdict_is r) (sym (handed_up _ c.from_residual.ensures)) ∙ extension_stuck (edition_of a.edition) a.pool.now a.rows.now (ap Some (sym c.if-base.false) ∙ c.in-Some.ensures) (measured_stuck _ a.pool.now a.rows.now c.in_err-inside.ensures)
+
+pub returns : goal.returns
+returns c =
+    let a = c.args in
+    c.ended.ensures a.pool.now ∙ extension_ended (edition_of a.edition) a.pool.now a.rows.now (ap Some (sym c.if-base.false) ∙ c.in-Some.ensures) (measured_ended _ a.pool.now a.rows.now c.in_ok-inside.ensures)

@@ -9,7 +9,7 @@ pub put_envelope-requires : goal.put_envelope-requires
 put_envelope-requires c =
     let a = c.args in
     let f = c.requires in
-    record { inside = planned_row (edition_of a.edition) a.pool.now a.rows.now f.body f.envelopes f.planned; opens = omega arith; small = f.small; room = omega (arith, f.room) }
+    record { inside = planned_row (edition_of a.edition) a.pool.now a.rows.now f.body f.envelopes f.planned; small = f.small; room = omega (arith, f.room) }
 
 pub returns : goal.returns
 returns c =

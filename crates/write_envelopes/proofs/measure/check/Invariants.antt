@@ -11,8 +11,8 @@ use Rattle.write_envelopes.specs.Whole.{limit_of, verdict}
 use mathlib.Core.Path.{◌≡◌}
 use Rattle.write_envelopes.proofs.measure.check.Given as goal
 
-abbrev pub invariant-loop-edition : goal.invariant-loop-edition
-invariant-loop-edition l = (l.t.total + l.t.left * envelope_most ≤ envelopes_most * envelope_most) × (verdict envelopes_most 0 fine (whole_plan (edition_of l.edition) (cells_at l.pool l.rows 0)) ≡ verdict l.t.left l.t.total (limit_of l.t.over l.t.first) (rest (edition_of l.edition) l.pool l.rows l.i)) × Noting (edition_of l.edition) l.pool l.rows l.t.left l.i l.lengths × (l.i ≤ room_of l.rows)
+abbrev pub invariant-loop-base : goal.invariant-loop-base
+invariant-loop-base l = (l.t.total + l.t.left * envelope_most ≤ envelopes_most * envelope_most) × (verdict envelopes_most 0 fine (whole_plan (edition_of l.edition) (cells_at l.pool l.rows 0)) ≡ verdict l.t.left l.t.total (limit_of l.t.over) (rest (edition_of l.edition) l.pool l.rows l.i)) × Noting (edition_of l.edition) l.pool l.rows l.t.left l.i l.lengths × (l.i ≤ room_of l.rows)
 
-abbrev pub decreases-loop-edition : goal.decreases-loop-edition
-decreases-loop-edition l = room_of l.rows - l.i
+abbrev pub decreases-loop-base : goal.decreases-loop-base
+decreases-loop-base l = room_of l.rows - l.i

@@ -1,6 +1,8 @@
 -- `measure::ended`: no cell may follow the base; then the limits.
-use Rattle.write_envelopes.proofs.Checking.{end_all, end_more, end_part, over_limit, under_limit}
-use Rattle.write_envelopes.specs.Whole.{checked_of, limit_of}
+use Rattle.write_envelopes.proofs.Checking.{end_all, end_more, end_part}
+use Rattle.write_envelopes.specs.Whole.{limit_of, verdict_is, verdict_of}
+use Rattle.std.specs.Prelude.{Err, Option, ℕ}
+use Rattle.table.specs.declared.answers.Fault.{Fault}
 use mathlib.Core.Path.{◌∙◌, ap, sym}
 use native.Mathlib.Omega.{arith}
 use Rattle.write_envelopes.proofs.measure.ended.Goals as goal
@@ -8,19 +10,21 @@ use Rattle.write_envelopes.proofs.measure.ended.Goals as goal
 pub returns-then-row-room : goal.returns-then-row-room
 returns-then-row-room c =
     let a = c.args in
-    λ pool. c.no_table.ensures ∙ ap checked_of (end_more pool a.rows.now a.row a.t.total (limit_of a.t.over a.t.first) (omega (arith, c.room.ensures, c.if-row-room.true)))
+    λ pool. ap (λ (f : Fault). verdict_is (Err f)) c.at.ensures ∙ end_more pool a.rows.now a.row a.t.total (limit_of a.t.over) (omega (arith, c.room.ensures, c.if-row-room.true))
 
-pub returns-then-t : goal.returns-then-t
-returns-then-t c =
+pub returns-then-not-whole : goal.returns-then-not-whole
+returns-then-not-whole c =
     let a = c.args in
-    λ pool. over_limit a.t.total a.t.first c.if-t.true ∙ ap checked_of (end_all pool a.rows.now a.row a.t.total (limit_of a.t.over a.t.first) (omega (arith, c.room.ensures, c.if-row-room.false)) (sym c.whole.ensures ∙ c.if-whole.true))
+    λ pool. ap (λ (f : Fault). verdict_is (Err f)) c.at-then-not-whole.ensures ∙ end_part pool a.rows.now a.row a.t.total (limit_of a.t.over) (omega (arith, c.room.ensures, c.if-row-room.false)) (sym c.whole.ensures ∙ c.if-not-whole.true)
 
-pub returns-then-whole : goal.returns-then-whole
-returns-then-whole c =
+pub returns-in-Some : goal.returns-in-Some
+returns-in-Some c =
     let a = c.args in
-    λ pool. under_limit a.t.total a.t.first c.if-t.false ∙ ap checked_of (end_all pool a.rows.now a.row a.t.total (limit_of a.t.over a.t.first) (omega (arith, c.room.ensures, c.if-row-room.false)) (sym c.whole.ensures ∙ c.if-whole.true))
+    λ pool. ap (λ (f : Fault). verdict_is (Err f)) c.at-in-Some.ensures ∙ ap (λ (o : Option ℕ). verdict_of a.t.total (limit_of o)) (sym c.in-Some.is)
+    ∙ end_all pool a.rows.now a.row a.t.total (limit_of a.t.over) (omega (arith, c.room.ensures, c.if-row-room.false)) (sym c.whole.ensures ∙ c.if-not-whole.false)
 
-pub returns : goal.returns
-returns c =
+pub returns-in-None : goal.returns-in-None
+returns-in-None c =
     let a = c.args in
-    λ pool. c.no_table-2.ensures ∙ ap checked_of (end_part pool a.rows.now a.row a.t.total (limit_of a.t.over a.t.first) (omega (arith, c.room.ensures, c.if-row-room.false)) (sym c.whole.ensures ∙ c.if-whole.false))
+    λ pool. ap (λ (o : Option ℕ). verdict_of a.t.total (limit_of o)) (sym c.in-None.is)
+    ∙ end_all pool a.rows.now a.row a.t.total (limit_of a.t.over) (omega (arith, c.room.ensures, c.if-row-room.false)) (sym c.whole.ensures ∙ c.if-not-whole.false)

@@ -8,4 +8,4 @@ pub returns-then-room-i : goal.returns-then-room-i
 returns-then-room-i c = let a = c.args in c.whole.ensures ∙ ends_last a.pool.now a.rows.now a.i (omega (arith, c.room.ensures, c.if-room-i.true))
 
 pub returns : goal.returns
-returns c = let a = c.args in ends_open a.pool.now a.rows.now a.i (omega (arith, c.room.ensures, c.if-room-i.false)) c.open_at.ensures
+returns c = let a = c.args in c.is_some.ensures ∙ ends_open a.pool.now a.rows.now a.i (omega (arith, c.room.ensures, c.if-room-i.false)) c.open_at.ensures

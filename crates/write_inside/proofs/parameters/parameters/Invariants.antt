@@ -8,9 +8,9 @@ use lib.ListN.{length}
 use mathlib.Core.Path.{◌≡◌}
 use Rattle.write_inside.proofs.parameters.parameters.Given as goal
 
-abbrev pub invariant-loop-j : goal.invariant-loop-j
-invariant-loop-j l =
-    (l.i ≤ room_of l.rows) × Layable l.output l.p × (length l.output ≡ length l.initial.output) × Onward (edition_of l.edition) l.pool l.rows l.from at_parameters l.i at_parameters l.initial.output l.at l.output l.p
+abbrev pub invariant-loop-next : goal.invariant-loop-next
+invariant-loop-next l =
+    (l.here.row ≤ room_of l.rows) × Layable l.output l.here.at × (length l.output ≡ length l.initial.output) × Onward (edition_of l.edition) l.pool l.rows l.from at_parameters l.here.row at_parameters l.initial.output l.at l.output l.here.at
 
-abbrev pub decreases-loop-j : goal.decreases-loop-j
-decreases-loop-j l = room_of l.rows - l.i
+abbrev pub decreases-loop-next : goal.decreases-loop-next
+decreases-loop-next l = room_of l.rows - l.here.row
