@@ -29,7 +29,8 @@ pub fn take(s: &[u8], end: usize, at: usize, kind: Kind, rule: Rule) -> Value
     ended(s, end, at, i, kind)
 }
 
-// The same of a line that seldom stands there: its bytes are looked at behind a call, so that the code before it stays short.
+// The same of a line that seldom stands there: a function of its own for speed, since its bytes are looked at behind a call and the code
+// before it stays short.
 pub fn rare_line(s: &[u8], end: usize, at: usize, kind: Kind) -> Value
     requires { Inside s.now end at }
     ensures { Valued s.now end at (number_of kind) 1 (take_text line (from s.now at end)) result }
