@@ -11,7 +11,7 @@ use table::limits::{ENVELOPE_MOST, LONG_HEAD, SHORT_HEAD};
 use table::refusals::Refusal;
 use values::bytes::{four_bytes, two_bytes};
 
-// Which envelope opens, where its inside begins and its declared end; or the refusal.
+// "either a value with the place after it, or a refusal": which envelope opens, where its inside begins and its declared end; or the refusal.
 #[derive(Drop)]
 pub enum Frame {
     Opens {

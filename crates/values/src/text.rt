@@ -28,7 +28,8 @@ pub fn take(s: &[u8], at: usize, kind: Kind, rule: Rule) -> Value
     ended(s, at, i, kind)
 }
 
-// The same of a line that seldom stands there: its bytes are looked at behind a call, so that the code before it stays short.
+// The same of a line that seldom stands there: a function of its own for speed, since its bytes are looked at behind a call and the code
+// before it stays short.
 pub fn rare_line(s: &[u8], at: usize, kind: Kind) -> Value
     requires { Within s.now at }
     ensures { ValuedAt s.now at (number_of kind) 1 (take_text line (rest s.now at)) result }
