@@ -120,7 +120,7 @@ pub fn byte_passes(s: &[u8], at: usize, j: usize, absolute: bool) -> bool
         return padded(b);
     }
     if j == 9 {
-        return is_letter(b);
+        return is_letter(s[i]);
     }
     if absolute {
         return in_calendar(s, at, j, b);
@@ -194,7 +194,7 @@ fn within(b: u32, least: u32, most: u32) -> bool
 {
     let first = u32::from(pair_byte(least));
     let last = u32::from(pair_byte(most));
-    is_digit(b % 16) & (first <= b) & (b <= last)
+    is_digit(b % 16) & (first..=last).contains(&b)
 }
 
 // A digit and four zero bits.
@@ -205,10 +205,10 @@ fn padded(b: u32) -> bool
 }
 
 // "The designator is one ASCII letter."
-fn is_letter(b: u32) -> bool
+fn is_letter(b: u8) -> bool
     ensures { (before : List ℕ) → result ≡ passes letter before b }
 {
-    ((0x41 <= b) & (b <= 0x5a)) | ((0x61 <= b) & (b <= 0x7a))
+    b.is_ascii_alphabetic()
 }
 
 // "Codes in B: 20 absolute, 21 absolute with designator. In D: 20, 21, 22 absolute, forward, backward; 24, 25, 26 the same with designator."

@@ -12,20 +12,18 @@ pub fn count_envelopes(s: &[u8]) -> u32
     let mut at: usize = 0;
     let mut left: u32 = ENVELOPES_MOST;
     loop {
-        let f = frame_at(s, at, left);
-        match f {
-            Frame::Refused(_) => return 0,
-            Frame::Opens {
-                base,
-                first: _,
-                end,
-            } => {
-                if base {
-                    return ENVELOPES_MOST - left + 1;
-                }
-                at = end;
-                left -= 1;
-            }
+        let Frame::Opens {
+            base,
+            first: _,
+            end,
+        } = frame_at(s, at, left)
+        else {
+            return 0;
+        };
+        if base {
+            return ENVELOPES_MOST - left + 1;
         }
+        at = end;
+        left -= 1;
     }
 }

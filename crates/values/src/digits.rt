@@ -8,17 +8,14 @@ ghost use Rattle.values.specs.Digits.{PairAt};
 pub fn is_digit(bits: u32) -> bool
     ensures { result ≡ is_digit bits }
 {
-    (1 <= bits) & (bits <= 10)
+    (1..=10).contains(&bits)
 }
 
 // The digit of four bits, 0 where they are none.
 pub fn digit(bits: u32) -> u32
     ensures { result ≡ digit_of bits }
 {
-    if bits == 0 {
-        return 0;
-    }
-    bits - 1
+    bits.saturating_sub(1)
 }
 
 // The number of the two digits of a byte.

@@ -69,7 +69,7 @@ fn stop(s: &[u8], end: usize, at: usize, rule: Rule) -> usize
             if stands_below(s, end, at, FIRST_TEXT) {
                 return at;
             }
-            line_run(s, end, at)
+            line_stop(s, end, at)
         }
         Rule::Note => {
             if stands_below(s, end, at, 1) {
@@ -136,11 +136,11 @@ fn long_line(s: &[u8], end: usize, at: usize) -> usize
     ensures { LineRun s.now end at result }
 {
     let i = sixteens(s, end, at);
-    line_run(s, end, i)
+    line_stop(s, end, i)
 }
 
-// Past sixteen bytes at a time while all of them are of a line. A step of sixteen, here and in `note_run`, and of eight in `line_run`, is no iterator's:
-// what is left behind the last one is looked at from there on.
+// Past sixteen bytes at a time while all of them are of a line. A step of sixteen or of eight, here and below, is no iterator's: what is left
+// behind the last one is looked at from that place on.
 fn sixteens(s: &[u8], end: usize, at: usize) -> usize
     requires { Inside s.now end at }
     ensures { (rule : Rattle.meaning.specs.Bytes.Rule) → Skipped rule s.now end at result }
@@ -152,16 +152,28 @@ fn sixteens(s: &[u8], end: usize, at: usize) -> usize
     i
 }
 
-// The first place whose byte is below 20, or the end: eight bytes at a time.
+// The first place whose byte is below 20, or the end, where it is likely to stop before that: eight bytes at a time, asking which stops it.
+fn line_stop(s: &[u8], end: usize, at: usize) -> usize
+    requires { Inside s.now end at }
+    ensures { LineRun s.now end at result }
+{
+    let mut i = at;
+    while i + 8 <= end {
+        if let Some(before) = first_below(s, i) {
+            return i + before;
+        }
+        i += 8;
+    }
+    last_run(s, end, i)
+}
+
+// The same where it is likely to come to the end, as with bytes to be written: to ask only whether all eight are of a line takes less.
 fn line_run(s: &[u8], end: usize, at: usize) -> usize
     requires { Inside s.now end at }
     ensures { LineRun s.now end at result }
 {
     let mut i = at;
-    while 8 <= end - i {
-        if let Some(before) = first_below(s, i) {
-            return i + before;
-        }
+    while 8 <= end - i && all_text::<false, 8>(s, i) {
         i += 8;
     }
     last_run(s, end, i)

@@ -24,4 +24,4 @@ returns-then-stands_below-2 c =
     }
 
 pub returns-else-stands_below : goal.returns-else-stands_below
-returns-else-stands_below c = rw c.in-Line.is (line_runs c.line_run.ensures)
+returns-else-stands_below c = rw c.in-Line.is (line_runs c.line_stop.ensures)
