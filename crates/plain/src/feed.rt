@@ -1,4 +1,6 @@
 // A value byte by byte: what is being taken, and what the next byte does to it.
+#![tactic(auto, unfolding(crate::specs::Values::Valid, meaning::specs::Bytes::text_byte))]
+
 ghost use Rattle.std.specs.Prelude.{◌≡◌, List, ℕ, ◌+◌, ◌≤◌, ◌<◌, length};
 ghost use Rattle.meaning.specs.Told as meaning;
 ghost use Rattle.meaning.specs.Bytes.{text_byte};

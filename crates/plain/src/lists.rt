@@ -14,7 +14,8 @@ pub enum ListKind {
     Resolvers,
 }
 
-// The open lists, the outermost first, and how many they are: the level. Behind the first all are resolvers, and the first is none.
+// The open lists, the outermost first, and how many they are: the level. Behind the first all are resolvers, and the first is none. Document 01's named
+// form: "the open lists held in an array of fixed size, and its depth".
 #[derive(Clone, Copy)]
 pub struct Lists {
     kinds: [ListKind; LISTS_MOST],

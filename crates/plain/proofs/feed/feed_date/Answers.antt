@@ -4,14 +4,6 @@ use Rattle.plain.specs.Values.{Valid}
 use Rattle.plain.proofs.Feeding.{date_further, date_ended, date_refused}
 use Rattle.plain.proofs.feed.feed_date.Goals as goal
 
-pub overflow_sub-j : goal.overflow_sub-j
-unfolding Valid
-overflow_sub-j c = c.requires.0.0
-
-pub byte_passes-requires : goal.byte_passes-requires
-unfolding Valid
-byte_passes-requires c = omega (arith, c.requires.0.0, c.requires.1)
-
 pub returns-then-length-length_of : goal.returns-then-length-length_of
 returns-then-length-length_of c = λ t. date_further t c.args.s.now c.args.at c.args.absolute c.args.designated c.args.of c.requires.0 c.byte_passes.ensures c.if-byte_passes.true (omega (arith, c.if-length-length_of.true, c.length_of.ensures))
 

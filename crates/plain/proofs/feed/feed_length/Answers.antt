@@ -13,14 +13,8 @@ overflow_mul-n c = omega (arith, length_low c.args.width c.args.so_far c.args.at
 pub overflow_add-n : goal.overflow_add-n
 overflow_add-n c = omega (arith, length_low c.args.width c.args.so_far c.args.at c.args.of c.requires.0, c.from.ensures, c.type_inv.s c.args.at)
 
-pub overflow_sub-first : goal.overflow_sub-first
-overflow_sub-first c = omega (arith, (length_starts c.args.width c.args.so_far c.args.at c.args.of c.requires.0).1)
-
 pub returns-then-first-start : goal.returns-then-first-start
 returns-then-first-start c = let low : c.from.result < 256 = omega (arith, c.from.ensures, c.type_inv.s c.args.at) in length_further (told_of c.args.told) c.args.s.now c.args.at c.args.width c.args.so_far c.args.of c.requires.0 _ (ap (λ (x : ℕ). 256 * c.args.so_far + x) c.from.ensures) c.if-first-start.true (length_next c.args.width c.args.so_far c.args.at c.args.of c.requires.0 low)
-
-pub overflow_sub-start : goal.overflow_sub-start
-overflow_sub-start c = (length_starts c.args.width c.args.so_far c.args.at c.args.of c.requires.0).0
 
 pub returns-then-too_wide : goal.returns-then-too_wide
 returns-then-too_wide c = length_wide (told_of c.args.told) c.args.s.now c.args.at c.args.width c.args.so_far c.args.of c.requires.0 _ (ap (λ (x : ℕ). 256 * c.args.so_far + x) c.from.ensures) c.if-first-start.false (sym (c.too_wide.ensures (width_of c.args.width) (length_starts c.args.width c.args.so_far c.args.at c.args.of c.requires.0).2) ∙ c.if-too_wide.true) c.at.ensures

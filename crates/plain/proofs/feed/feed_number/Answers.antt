@@ -5,14 +5,6 @@ use Rattle.plain.specs.Values.{Valid}
 use Rattle.plain.proofs.Feeding.{number_stops, number_goes, number_wrongs}
 use Rattle.plain.proofs.feed.feed_number.Goals as goal
 
-pub turn-requires : goal.turn-requires
-unfolding Valid
-turn-requires c = (c.requires.0.1, omega (arith, c.from.ensures, c.type_inv.s c.args.at))
-
-pub overflow_sub-result : goal.overflow_sub-result
-unfolding Valid
-overflow_sub-result c = c.requires.0.0
-
 pub returns-in-Wrong : goal.returns-in-Wrong
 returns-in-Wrong c = λ t. number_wrongs t c.args.s.now c.args.at c.args.so_far c.args.of c.requires.0 c.from.ensures c.in-Wrong.ensures refl c.at.ensures
 

@@ -4,10 +4,6 @@ use Rattle.plain.specs.Values.{Valid}
 use Rattle.plain.proofs.Feeding.{text_ended, text_further, text_refused}
 use Rattle.plain.proofs.feed.feed_text.Goals as goal
 
-pub overflow_sub-result : goal.overflow_sub-result
-unfolding Valid
-overflow_sub-result c = c.requires.0
-
 pub returns-then-b-eq0 : goal.returns-then-b-eq0
 returns-then-b-eq0 c = λ t. text_ended t c.args.s.now c.args.at c.args.rule c.args.of c.requires.0 c.if-b-eq0.true
 
