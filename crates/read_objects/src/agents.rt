@@ -44,10 +44,13 @@ pub fn read_list(
     let mut here = from;
     loop {
         let b = peek(s, end, here.at);
-        if b == Some(CLOSING) {
+        let Some(code) = b else {
+            return fault(b, here.at);
+        };
+        if code == CLOSING {
             return Stage::Go(here.passed());
         }
-        if b != Some(AGENT) {
+        if code != AGENT {
             return fault(b, here.at);
         }
         if LEVEL_MOST < level {
