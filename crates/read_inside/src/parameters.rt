@@ -112,7 +112,7 @@ fn open_behaviour(s: &[u8], from: Reached, rows: &mut [u32], told: Told) -> Stag
     ensures { OpenedReadAt (told_of told) s.now behaviour_opens (state behaviour_value 0 false) from rows.old result (state parameters 0 false) rows.new }
 {
     let opened = rows::open(rows, from, Kind::BehaviourOpens, 0);
-    rows::behaviour(s, opened, rows, told)
+    rows::any(s, opened, rows, 0, told)
 }
 
 // "08 encrypted, texts then 01 (B only)", from the code on; in D the code is refused.

@@ -36,10 +36,13 @@ pub fn read_list(s: &[u8], from: Reached, rows: &mut [u32], level: u32, told: To
     let mut here = from;
     loop {
         let b = peek(s, here.at);
-        if b == Some(CLOSING) {
+        let Some(code) = b else {
+            return fault(b, here.at);
+        };
+        if code == CLOSING {
             return Stage::Go(here.passed());
         }
-        if b != Some(AGENT) {
+        if code != AGENT {
             return fault(b, here.at);
         }
         if LEVEL_MOST < level {

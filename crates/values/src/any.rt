@@ -14,7 +14,8 @@ use table::kinds::Kind;
 use table::refusals::Refusal;
 use table::told::{Strictness, Told};
 
-// An any-value from its code on.
+// An any-value from its code on. It is put in place where it is called, so that its answer is never handed through memory.
+#[inline(always)]
 pub fn take(s: &[u8], at: usize, told: Told) -> Value
     requires { Within s.now at }
     ensures { CodedAt (told_of told) any_values 7 s.now at result }
@@ -31,52 +32,6 @@ pub fn take(s: &[u8], at: usize, told: Told) -> Value
         0x17 => block(s, at, 2, told),
         0x19 => block(s, at, 4, told),
         _ => Value::Refused(Refusal::CodeWrong.at(at)),
-    }
-}
-
-// The same; bytes behind a short length are taken without a call. With `take_called` and `in_parts` it stands beside `take` for speed: where
-// one function does for all codes, each value goes through memory.
-pub fn take_in_place(s: &[u8], at: usize, told: Told) -> Value
-    requires { Within s.now at }
-    ensures { CodedAt (told_of told) any_values 7 s.now at result }
-{
-    let end = s.len();
-    if at < end {
-        if s[at] == 0x16 {
-            return block(s, at, 1, told);
-        }
-        if s[at] == 0x17 {
-            return block(s, at, 2, told);
-        }
-    }
-    take_called(s, at, told)
-}
-
-// The same behind a call. A function of its own, so that bytes behind a short length are never handed through memory.
-fn take_called(s: &[u8], at: usize, told: Told) -> Value
-    requires { Within s.now at }
-    ensures { CodedAt (told_of told) any_values 7 s.now at result }
-{
-    in_parts(take(s, at, told))
-}
-
-// Takes a value's answer. Answers the same, put together again from its parts: what a call left in memory goes on in registers.
-fn in_parts(v: Value) -> Value
-    ensures { result ≡ v }
-{
-    match v {
-        Value::Is {
-            kind,
-            start,
-            length,
-            after,
-        } => Value::Is {
-            kind: kind,
-            start: start,
-            length: length,
-            after: after,
-        },
-        Value::Refused(fault) => Value::Refused(fault),
     }
 }
 

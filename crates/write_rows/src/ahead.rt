@@ -30,7 +30,8 @@ pub fn look_for(rows: &[u32], pool: &[u8], i: usize, kind: Kind, level: u32) -> 
 }
 
 // Tries row i as a text of this kind and level by its rule: lays its code, if it has one, its bytes and the 00 behind them.
-// Where it is another row, or has a byte that the rule does not allow, nothing is laid.
+// Where it is another row, or has a byte that the rule does not allow, nothing is laid. It is put in place where it is called: most arguments are numbers there.
+#[inline(always)]
 pub fn text(
     rows: &[u32],
     pool: &[u8],

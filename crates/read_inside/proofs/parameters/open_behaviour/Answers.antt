@@ -5,4 +5,4 @@ use Rattle.read_inside.proofs.parameters.open_behaviour.Goals as goal
 pub returns : goal.returns
 returns c =
     let opened = c.open-opened.ensures in
-    rw (opened.at, opened.rows, opened.put) at (c.behaviour.ensures _ _ (behaviour_any _))
+    rw (opened.at, opened.rows, opened.put) at (c.any.ensures _ _ (behaviour_any _))

@@ -18,7 +18,7 @@ use Rattle.laws_steps.specs.Shapes.{InList}
 use Rattle.table.specs.Told.{told_of}
 use Rattle.table.specs.declared.answers.Reached.{Reached}
 use Rattle.table.specs.declared.answers.Stage.{Stage}
-use Rattle.read_rows.specs.Joining.{arrives, begun, closes, foreign_byte, found_is, handed, moved_to, not_found, onward, other_found, ready_inside, ready_on, refusing, row_fits, same_found, went}
+use Rattle.read_rows.specs.Joining.{arrives, begun, closes, foreign_byte, handed, moved_to, onward, other_found, ready_inside, ready_on, refusing, row_fits, same_found, went}
 use Rattle.read_rows.specs.Stages.{Ran, StateRead, TextRead, found}
 use Rattle.read_objects.proofs.agents.+read_agent_read_list.Goals as goal
 
@@ -104,56 +104,59 @@ once_more {t} {s} {end} {b} here name rows level single h few same p two x y age
     (same ∙ text_at_lem (source t s end) here.at here.rows rows b p 0x02 two (omega arith) (state agent_list level single) agent_name line (stay after_name) (list_name _) deep)
     (rw (x, y) at agent))
 
-pub read_list-returns-then-eq : goal.read_list-returns-then-eq
-read_list-returns-then-eq t c single h =
-    let p = c.peek-b in
-    let l = c.loop-told in
+pub read_list-returns-in_default : goal.read_list-returns-in_default
+read_list-returns-in_default t c single h =
+    let l = c.loop-code in
     let a = c.args in
-    closes (source (told_of a.told) a.s.now (length a.s.now)) (state agent_list a.level single) l.here l.rows (found p.result) p.ensures (found_is p.result 1 c.eq.ensures c.if-eq.true) (list_stop _) refl c.passed.ensures.at c.passed.ensures.rows (l.invariant.4 single h) l.invariant.0 l.invariant.2
-
-pub read_list-returns-then-ne : goal.read_list-returns-then-ne
-read_list-returns-then-ne t c single h =
-    let p = c.peek-b in
-    let l = c.loop-told in
-    let a = c.args in
-    let not_closing = not_found p.result 1 (omega arith) c.eq.ensures c.if-eq.false in
-    let not_agent = other_found p.result 0x02 (omega arith) c.ne.ensures c.if-ne.true in
+    let b = found c.peek-b.result in
+    let not_closing : b ≡ 1 → ⊥ = rw c.in_default.is (λ q. omega arith) in
+    let not_agent : b ≡ 0x02 → ⊥ = rw c.in_default.is (λ q. omega arith) in
     begun l.invariant.0 (l.invariant.4 single h)
-    (foreign_byte (source (told_of a.told) a.s.now (length a.s.now)) l.here.at l.here.rows l.rows (found p.result) p.ensures (state agent_list a.level single) c.fault.ensures (list_none _ (found p.result) not_closing not_agent) refl refl)
+    (foreign_byte (source (told_of a.told) a.s.now (length a.s.now)) l.here.at l.here.rows l.rows b c.peek-b.ensures (state agent_list a.level single) c.fault.ensures (list_none _ b not_closing not_agent) refl refl)
+
+pub read_list-returns-then-code-eq-CLOSING : goal.read_list-returns-then-code-eq-CLOSING
+read_list-returns-then-code-eq-CLOSING t c single h =
+    let l = c.loop-code in
+    let a = c.args in
+    closes (source (told_of a.told) a.s.now (length a.s.now)) (state agent_list a.level single) l.here l.rows c.in-Some.code (rw c.in-Some.is at c.peek-b.ensures) c.if-code-eq-CLOSING.true (list_stop _) refl c.passed.ensures.at c.passed.ensures.rows (l.invariant.4 single h) l.invariant.0 l.invariant.2
+
+pub read_list-returns-then-code-ne-AGENT : goal.read_list-returns-then-code-ne-AGENT
+read_list-returns-then-code-ne-AGENT t c single h =
+    let l = c.loop-code in
+    let a = c.args in
+    begun l.invariant.0 (l.invariant.4 single h)
+    (foreign_byte (source (told_of a.told) a.s.now (length a.s.now)) l.here.at l.here.rows l.rows c.in-Some.code (rw c.in-Some.is at c.peek-b.ensures) (state agent_list a.level single) c.fault-then-code-ne-AGENT.ensures (list_none _ c.in-Some.code c.if-code-eq-CLOSING.false c.if-code-ne-AGENT.true) refl refl)
 
 pub read_list-returns-then-level-gt-LEVEL_MOST : goal.read_list-returns-then-level-gt-LEVEL_MOST
 read_list-returns-then-level-gt-LEVEL_MOST t c single h =
-    let p = c.peek-b in
-    let l = c.loop-told in
+    let l = c.loop-code in
     let a = c.args in
-    let agent = same_found p.result 0x02 c.ne.ensures c.if-ne.false in
     let deep : ltb level_most a.level ≡ true = lt-ltb level_most a.level (omega arith) in
     rw c.at.ensures
-    (refusing (l.invariant.4 single h ∙ too_deep_at (source (told_of a.told) a.s.now (length a.s.now)) l.here.at l.here.rows l.rows (found p.result) p.ensures 0x02 agent (omega arith) (state agent_list a.level single) (on 0x02 ▸ agent_name ▸ text line ▸ stay after_name) (list_name _) deep))
+    (refusing (l.invariant.4 single h ∙ too_deep_at (source (told_of a.told) a.s.now (length a.s.now)) l.here.at l.here.rows l.rows c.in-Some.code (rw c.in-Some.is at c.peek-b.ensures) 0x02 c.if-code-ne-AGENT.false (omega arith) (state agent_list a.level single) (on 0x02 ▸ agent_name ▸ text line ▸ stay after_name) (list_name _) deep))
 
-pub read_list-returns-in_default : goal.read_list-returns-in_default
-read_list-returns-in_default t c single h =
-    let l = c.loop-told in
-    let name = c.passed-in-loop-told in
-    handed c.in_default.is
-    (once_more l.here name.result l.rows c.args.level single h (omega arith) (l.invariant.4 single h) c.peek-b.ensures (same_found c.peek-b.result 0x02 c.ne.ensures c.if-ne.false) name.ensures.at name.ensures.rows (c.read_agent-r.ensures single))
+pub read_list-returns-in_default-r : goal.read_list-returns-in_default-r
+read_list-returns-in_default-r t c single h =
+    let l = c.loop-code in
+    let name = c.passed-in-loop-code in
+    handed c.in_default-r.is
+    (once_more l.here name.result l.rows c.args.level single h (omega arith) (l.invariant.4 single h) (rw c.in-Some.is at c.peek-b.ensures) c.if-code-ne-AGENT.false name.ensures.at name.ensures.rows (c.read_agent-r.ensures single))
 
-pub read_list-loop-told-smaller : goal.read_list-loop-told-smaller
-read_list-loop-told-smaller t c =
-    let agent = same_found c.peek-b.result 0x02 c.ne.ensures c.if-ne.false in
+pub read_list-loop-code-smaller : goal.read_list-loop-code-smaller
+read_list-loop-code-smaller t c =
+    let looked = rw c.in-Some.is at c.peek-b.ensures in
     let u = moved_to c.in-Go.is (c.read_agent-r.ensures true) in
     omega arith
 
-pub read_list-loop-told-preserved : goal.read_list-loop-told-preserved
-read_list-loop-told-preserved t c =
-    let l = c.loop-told in
-    let name = c.passed-in-loop-told in
-    let agent = same_found c.peek-b.result 0x02 c.ne.ensures c.if-ne.false in
+pub read_list-loop-code-preserved : goal.read_list-loop-code-preserved
+read_list-loop-code-preserved t c =
+    let l = c.loop-code in
+    let name = c.passed-in-loop-code in
     let u = moved_to c.in-Go.is (c.read_agent-r.ensures true) in (
       omega arith,
       omega arith,
       omega arith,
       c.read_agent-r.auto.rows ∙ l.invariant.3,
       λ single h. went c.in-Go.is
-          (once_more l.here name.result l.rows c.args.level single h (omega arith) (l.invariant.4 single h) c.peek-b.ensures agent name.ensures.at name.ensures.rows (c.read_agent-r.ensures single)),
+          (once_more l.here name.result l.rows c.args.level single h (omega arith) (l.invariant.4 single h) (rw c.in-Some.is at c.peek-b.ensures) c.if-code-ne-AGENT.false name.ensures.at name.ensures.rows (c.read_agent-r.ensures single)),
     )

@@ -12,10 +12,10 @@ decreases-read_agent l = 2 * (9 - l.level)
 abbrev pub decreases-read_list : goal.decreases-read_list
 decreases-read_list l = 2 * (9 - l.level) + 1
 
-abbrev pub invariant-read_list-loop-told : goal.invariant-read_list-loop-told
-invariant-read_list-loop-told l =
+abbrev pub invariant-read_list-loop-code : goal.invariant-read_list-loop-code
+invariant-read_list-loop-code l =
     (l.fn.from.at ≤ l.here.at) × (l.here.at ≤ (length l.s)) × (l.here.rows ≤ l.here.at) × (length l.rows ≡ length l.initial.rows)
     × ((single : Bool) → InList l.level single → run_at (source (told_of l.told) l.s (length l.s)) (state agent_list l.level single) l.fn.from.at l.fn.from.rows l.initial.rows ≡ run_at (source (told_of l.told) l.s (length l.s)) (state agent_list l.level single) l.here.at l.here.rows l.rows)
 
-abbrev pub decreases-read_list-loop-told : goal.decreases-read_list-loop-told
-decreases-read_list-loop-told l = (length l.s) - l.here.at
+abbrev pub decreases-read_list-loop-code : goal.decreases-read_list-loop-code
+decreases-read_list-loop-code l = (length l.s) - l.here.at
