@@ -1,7 +1,7 @@
 -- What may be joined: its sizes, too little room for it, and that the reader's rows for the joined header are the joined rows.
 use Prim.Native.Nat.{ℕ, ◌+◌, ◌-◌, ◌*◌, ◌≤◌, ◌<◌}
 use mathlib.Core.List.{List, [], ◌++◌, append-nil}
-use mathlib.Core.Bool.{Bool, true, false}
+use mathlib.Core.Bool.{true, false}
 use mathlib.Core.Path.{◌≡◌, refl, ap, sym, ◌∙◌, subst}
 use native.Mathlib.Omega.{arith}
 use lib.Dec.{T, leb}
@@ -9,7 +9,6 @@ use lib.ListN.{length, take, drop, length-append}
 use lib.Seq.{length-take-le}
 use borrow.Author.Tests.{le-leb, lt-leb}
 use borrow.Rule.Slice.PartMut.{put_mid}
-use Rattle.meaning.specs.Basics.{pick}
 use Rattle.meaning.specs.Told.{Edition, known, label_of, strict, told}
 use Rattle.meaning.specs.Headers.{accepted, envelope_most, envelopes_most, read}
 use Rattle.meaning.specs.Writing.{envelope_size, wrap}
@@ -27,17 +26,10 @@ use Rattle.table.specs.declared.answers.Reached.{Reached}
 use Rattle.table.specs.declared.reply.Reply.{Reply}
 use Rattle.table.specs.Reply.{reply_of}
 use Rattle.reader.specs.Promises.{Accepted, AcceptedHeader, ReadsBy, accepted_told}
-use Rattle.write_envelopes.specs.Extension.{ExtensionFits, ExtensionLaid}
+use Rattle.write_envelopes.specs.Extension.{ExtensionLaid}
 use Rattle.relay.specs.declared.Joint as declared
 use Rattle.relay.specs.Promise.{RelayPromise, Joinable}
 use Rattle.relay.proofs.Parts.{copied, joined_laid}
-
-size_above : (many : ℕ) → many ≤ envelope_size many
-size_above many = at (leb (3 + many) 65535)
-  where
-    at : (b : Bool) → many ≤ pick b (3 + many) (7 + many)
-    at true = omega arith
-    at false = omega arith
 
 laid_is : (output front : List ℕ) → laid_over output front ≡ front ++ drop (length front) output
 unfolding laid_over
@@ -50,9 +42,6 @@ joined_to parts size room = record { at = size + parts.old.at; rows = room + par
 module _ {e : Edition} {input table pool : List ℕ} {parts : declared.Joint} (k : Joinable e input table pool parts) where
   abbrev pub joint : Joint
   joint = joint_of e k.body (take parts.old.at input) k.old.rows
-
-  pub inside_small : parts.inside ≤ envelope_most
-  inside_small = omega (arith, limit_size parts.inside k.small, size_above parts.inside)
 
   new_long : length (wrap false k.body) ≡ envelope_size parts.inside
   new_long = wrap_length false k.body ∙ ap envelope_size k.long
@@ -97,9 +86,6 @@ module _ {e : Edition} {input table pool : List ℕ} {parts : declared.Joint} (k
             let no : leb (length (bytes_of joint)) (length output) ≡ false = lt-leb (length (bytes_of joint)) (length output) (omega (arith, all_long)) in
             let a : size + parts.old.at ≡ length (bytes_of joint) = omega (arith, all_long) in
             record { bytes = t; pool_bytes = u; answers = q ∙ rw (joined_as, fits, no, a) refl; joins = rw (joined_as, fits, no) refl; carries = rw (joined_as, fits, no) refl; leaves = rw (joined_as, fits, no) refl }
-
-        pub new_fits : size + parts.old.at ≤ length output → ExtensionFits e table pool parts.inside output
-        new_fits g = record { body = k.body; envelopes = k.envelopes; planned = k.planned; long = k.long; small = inside_small; room = omega arith }
 
         module _ (g : size + parts.old.at ≤ length output) {laid part : List ℕ} (x : ExtensionLaid e table pool output laid) (p : part ≡ copied (take parts.old.at input) laid size) where
           abbrev good : LaidAsRead edition input table pool rows words output joint

@@ -1,18 +1,18 @@
 -- What refuses: the edition, the old input, the new table, one envelope too many or too long; and what is left to be joined.
-use Prim.Native.Nat.{ℕ, ◌+◌, ◌≤◌, ◌<◌}
+use Prim.Native.Nat.{ℕ, ◌+◌, ◌≤◌}
 use mathlib.Core.List.{List}
 use mathlib.Core.Bool.{Bool, true, false, ◌&&◌}
 use mathlib.Core.Path.{◌≡◌, refl, ap, sym, ◌∙◌}
 use native.Mathlib.Omega.{arith}
-use lib.Dec.{T, ltb, leb}
+use lib.Dec.{T, ltb}
 use lib.ListN.{length, take}
-use borrow.Author.Tests.{ltb-false, lt-leb, lt-ltb, le-ltb}
-use Rattle.std.specs.Prelude.{Result, Ok, Err}
+use borrow.Author.Tests.{ltb-false, lt-leb}
+use Rattle.std.specs.Prelude.{Ok, Err}
 use Rattle.meaning.specs.Basics.{pick}
 use Rattle.meaning.specs.Told.{Edition, B, D, Label, known, label_of, strict, told}
 use Rattle.meaning.specs.Skips.{Skips, right, wrong_at}
 use Rattle.meaning.specs.Headers.{envelope_most, envelopes_most}
-use Rattle.meaning.specs.Writing.{Cell, Envelope, Plan, stuck, plan, envelope_size, within_limit}
+use Rattle.meaning.specs.Writing.{Cell, Envelope, Plan, stuck, plan, within_limit}
 use Rattle.meaning.specs.Memory.{skips_held, words_read}
 use Rattle.meaning.specs.Relay.{extension_plan, relayed, unrelayed, joint_of, joined_plan, behind_old, relay_under, relay, relay_answer, relay_rows, relay_words, relay_output}
 use Rattle.laws_steps.specs.Logic.{are_bytes, both_hold}
@@ -24,13 +24,10 @@ use Rattle.table.specs.Refusals.{answer_of}
 use Rattle.table.specs.declared.answers.Fault.{Fault}
 use Rattle.table.specs.declared.answers.Reached.{Reached}
 use Rattle.table.specs.declared.answers.Stage.{Stage}
-use Rattle.table.specs.declared.answers.Stage.TheVariants.{Refused}
-use Rattle.frames.specs.Counts.{EnvelopesCounted}
-use Rattle.reader.specs.Promises.{Accepted, Counted}
-use Rattle.write_rows.specs.Laying.{capped, capped_most}
-use Rattle.write_envelopes.specs.Whole.{bad, needs, verdict_is}
-use Rattle.write_envelopes.specs.Extension.{extension_verdict}
-use Rattle.writer.specs.Promise.{unless_wrong}
+use Rattle.table.specs.declared.answers.Stage.TheVariants.{Go, Refused}
+use Rattle.reader.specs.Promises.{Accepted, Counted, accepted_told}
+use Rattle.write_rows.specs.Laying.{capped}
+use Rattle.write_envelopes.specs.Whole.{verdict_is}
 use Rattle.relay.specs.Promise.{RelayPromise, new_verdict, OneMoreFits, Joinable}
 
 -- One envelope more
@@ -74,8 +71,11 @@ module _ (edition : ℕ) (input table pool rows words output : List ℕ) where
   refuses t u fault l q s = let k = ap (relay_under input table pool) (sym l) ∙ q in record { bytes = t; pool_bytes = u; answers = s ∙ rw k refl; joins = rw k refl; carries = rw k refl; leaves = rw k refl }
 
 module _ (e : Edition) (input table pool : List ℕ) where
-  pub no_header : {number : ℕ} {old : Stage} {fault : Fault} → label_of number ≡ known e → Counted number input old → old ≡ Refused fault → relay_under input table pool (known e) ≡ unrelayed (answer_of fault.refusal) fault.at
-  no_header {number} n c g = ap (behind_old e input table pool) (sym (read_as strict number e input n) ∙ c.refuses _ g)
+  pub no_header : {old : Stage} {fault : Fault} → ((number : ℕ) → label_of number ≡ known e → Counted number input old) → old ≡ Refused fault → relay_under input table pool (known e) ≡ unrelayed (answer_of fault.refusal) fault.at
+  no_header c g = ap (behind_old e input table pool) (sym (read_as strict (number_of e) e input (numbered e)) ∙ (c (number_of e) (numbered e)).refuses _ g)
+
+  pub counted_header : {old : Stage} {to : Reached} → ((number : ℕ) → label_of number ≡ known e → Counted number input old) → old ≡ Go to → Accepted (told e) input to
+  counted_header c g = accepted_told (numbered e) ((c (number_of e) (numbered e)).accepts _ g)
 
   module _ {to : Reached} (a : Accepted (told e) input to) where
     relay_is : relay_under input table pool (known e) ≡ joined_plan e (take to.at input) a.rows (skips_held table) (extension_plan e (cells_at pool table 0))
@@ -100,9 +100,6 @@ module _ (e : Edition) (input table pool : List ℕ) where
           at skips s (stuck i) p q = let z : ◌≡◌ {A = ℕ} 0 1 = cc q in absurd (omega arith)
           at right s (plan bytes vs) p q = let z : inside ≡ capped (length bytes) = cc q in (bytes, vs, p, s, sym z)
           at (wrong_at i) s (plan bytes vs) p q = let z : ◌≡◌ {A = ℕ} 0 1 = cc q in absurd (omega arith)
-
-      pub capped_small : inside ≤ envelope_most
-      capped_small = let (bytes, vs, p, s, m) = planned in omega (arith, m, capped_most (length bytes))
 
       limits_decide : (b : Bool) → OneMoreFits input inside b → (bytes : List ℕ) (vs : List Envelope) → extension_plan e (cells_at pool table 0) ≡ plan bytes vs → skips_held table ≡ right → capped (length bytes) ≡ inside
           → relay_under input table pool (known e) ≡ pick b (relayed (joint_of e bytes (take to.at input) a.rows)) (unrelayed 5 0)

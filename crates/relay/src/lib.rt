@@ -57,12 +57,7 @@ pub fn relay(
 
 // Takes the old input and the new table, in a known edition. Answers what may be joined. Refuses, in this order, what the reader refuses of the old
 // input, what is wrong with the new table (15), and what passes the limits (5, at row 0).
-fn check_joint(
-    edition: Edition,
-    input: &[u8],
-    table: &[u32],
-    pool: &[u8],
-) -> Result<Joint, Fault>
+fn check_joint(edition: Edition, input: &[u8], table: &[u32], pool: &[u8]) -> Result<Joint, Fault>
     ensures { JudgedAs (edition_of edition) input.now table.now pool.now result }
 {
     let old = match count_in(edition, input) {

@@ -1,6 +1,6 @@
 -- `relay`: the edition, then what refuses both parts; else they are joined.
 use Rattle.std.specs.Prelude.{refl}
-use Rattle.std.proofs.Common.{ap, sym, ◌∙◌}
+use Rattle.std.proofs.Common.{ap, ◌∙◌}
 use native.Mathlib.Omega.{arith}
 use Rattle.laws_steps.specs.Logic.{slice_of_bytes}
 use Rattle.table.specs.Reply.{fault_reply}
