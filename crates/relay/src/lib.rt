@@ -1,28 +1,34 @@
 // Document 02, order 2: the relay. "The gateway may not alter an envelope it received; it puts a new one in front."
 #![tactic(auto)]
 
-ghost use Rattle.std.specs.Prelude.{◌≡◌, ◌≤◌, length};
-ghost use Rattle.meaning.specs.Told as told;
+ghost use Rattle.std.specs.Prelude.{◌≡◌, ◌≤◌, ℕ, length};
+ghost use Rattle.meaning.specs.Told.{label_of, known};
 ghost use Rattle.meaning.specs.Headers.{envelope_most};
 ghost use Rattle.meaning.specs.Memory.{laid_over, skips_held};
 ghost use Rattle.meaning.specs.Relay.{extension_plan};
 ghost use Rattle.laws_steps.specs.Rows.{cells_at};
 ghost use Rattle.table.specs.Told.{edition_of};
-ghost use Rattle.reader.specs.Promises.{AcceptedHeader};
-ghost use Rattle.write_envelopes.specs.Whole.{checked_of};
-ghost use Rattle.relay.specs.Promise.{RelayPromise, new_verdict, OneMoreFits, Joinable};
+ghost use Rattle.write_envelopes.specs.Whole.{verdict_is};
+ghost use Rattle.relay.specs.Promise.{RelayPromise, new_verdict, OneMoreFits, Joinable, JudgedAs};
 
 use frames::count::count_envelopes;
-use reader::{count, fill, room_with};
-use table::answers::{Checked, Stage};
+use reader::{count_in, fill, room_with};
+use table::answers::{Fault, Reached, Stage};
 use table::limits::{ENVELOPE_MOST, ENVELOPES_MOST};
-use table::refusals::{EDITION_UNKNOWN, ENVELOPE_LIMIT, OUTPUT_SHORT, ROWS_SHORT};
-use table::reply::{Reply, refused};
+use table::refusals::Refusal;
+use table::reply::Reply;
 use table::rows::room;
-use table::told::{Edition, Label, Strictness, label_of};
+use table::told::{Edition, Strictness, Told};
 use write_envelopes::extension::{check_extension, put_extension};
 use write_envelopes::measure::size_of;
 use writer::skips_before;
+
+// What is joined, once it is checked: how far the old header reaches, and how many bytes the new envelope has inside.
+#[derive(Clone, Copy)]
+struct Joint {
+    old: Reached,
+    inside: usize,
+}
 
 // Takes an edition's number, the old input, the new table and the pool that it views. Lays the new envelope and the old header over the front of `output`,
 // fills `rows` and `words` with what the reader gives for them, and answers 0, the joined header's length and the joined row count. The old payload
@@ -40,120 +46,91 @@ pub fn relay(
 ) -> Reply
     ensures { RelayPromise edition input.now table.now pool.now rows.old words.old output.old result rows.new words.new output.new }
 {
-    let label = label_of(edition);
-    let Label::Known(known) = label else {
-        return refused(EDITION_UNKNOWN, 0);
+    let Ok(known) = Edition::try_from(edition) else {
+        return Reply::from(Refusal::EditionUnknown.at(0));
     };
-    let old = count(edition, input);
-    match old {
-        Stage::Refused { refusal, at } => refused(refusal, at),
-        Stage::Go(place, n) => put_before(
-            edition, known, input, table, pool, rows, words, output, place, n,
-        ),
+    match check_joint(known, input, table, pool) {
+        Err(fault) => Reply::from(fault),
+        Ok(joint) => join(known, input, table, pool, rows, words, output, joint),
     }
 }
 
-// The same for an old header up to `place` with n rows, in a known edition: refuses, in this order, what is wrong with the new table (15), with the limits (5), and
-// with the room (14, 16).
-fn put_before(
-    edition: u32,
-    known: Edition,
-    input: &[u8],
-    table: &[u32],
-    pool: &[u8],
-    rows: &mut [u32],
-    words: &mut [u32],
-    output: &mut [u8],
-    place: usize,
-    n: usize,
-) -> Reply
-    requires { (told.label_of edition ≡ told.known (edition_of known)) × AcceptedHeader told.strict edition input.now place n }
-    ensures { RelayPromise edition input.now table.now pool.now rows.old words.old output.old result rows.new words.new output.new }
+// Takes the old input and the new table, in a known edition. Answers what may be joined. Refuses, in this order, what the reader refuses of the old
+// input, what is wrong with the new table (15), and what passes the limits (5, at row 0).
+fn check_joint(edition: Edition, input: &[u8], table: &[u32], pool: &[u8]) -> Result<Joint, Fault>
+    ensures { JudgedAs (edition_of edition) input.now table.now pool.now result }
 {
-    let new = check_new(known, table, pool);
-    match new {
-        Checked::Bad { answer, place: row } => refused(answer, row),
-        Checked::Needs(many) => {
-            if one_more_fits(input, many) {
-                return join(
-                    edition, known, input, table, pool, rows, words, output, place, n, many,
-                );
-            }
-            refused(ENVELOPE_LIMIT, 0)
-        }
+    let old = match count_in(edition, input) {
+        Stage::Refused(fault) => return Err(fault),
+        Stage::Go(to) => to,
+    };
+    let inside = check_new(edition, table, pool)?;
+    if one_more_fits(input, inside) {
+        return Ok(Joint { old, inside });
     }
+    Err(Refusal::EnvelopeLimit.at(0))
 }
 
 // Takes the new table's rows. Answers how many bytes its envelope has inside. Refuses (15) what is no table of one extension, and then a wrong skip
 // number.
-fn check_new(edition: Edition, table: &[u32], pool: &[u8]) -> Checked
-    ensures { result ≡ checked_of (new_verdict (skips_held table.now) (extension_plan (edition_of edition) (cells_at pool.now table.now 0))) }
+fn check_new(edition: Edition, table: &[u32], pool: &[u8]) -> Result<usize, Fault>
+    ensures { verdict_is result ≡ new_verdict (skips_held table.now) (extension_plan (edition_of edition) (cells_at pool.now table.now 0)) }
 {
-    let c = check_extension(edition, table, pool);
-    match c {
-        Checked::Bad {
-            answer: _,
-            place: _,
-        } => c,
-        Checked::Needs(_) => skips_before(table, c),
-    }
+    let inside = check_extension(edition, table, pool)?;
+    skips_before(table, Ok(inside))
 }
 
 // Takes an accepted old input, and how many bytes the new envelope has inside. Answers whether it may stand in front: "5 at row 0 for a 17th envelope or a
 // new one over the limit".
-fn one_more_fits(input: &[u8], many: usize) -> bool
-    requires { many ≤ envelope_most }
-    ensures { OneMoreFits input.now many result }
+fn one_more_fits(input: &[u8], inside: usize) -> bool
+    requires { inside ≤ envelope_most }
+    ensures { OneMoreFits input.now inside result }
 {
     if ENVELOPES_MOST <= count_envelopes(input) {
         return false;
     }
-    size_of(many) <= ENVELOPE_MOST
+    size_of(inside) <= ENVELOPE_MOST
 }
 
-// Takes an old header up to `place` with n rows, and a new table whose envelope has `many` bytes inside, which may be joined. Refuses too little room: "14,
-// room for the joined rows, at the joined header's length with the rows needed; 16". Else the new envelope is laid, and the part of the output
-// behind it is lent on, to be filled with the old header; what the reader gives for both are the rows and words.
+// Takes an old input and a new table, in a known edition, which may be joined. Refuses too little room: "14, room for the joined rows, at the joined
+// header's length with the rows needed; 16". Else the new envelope is laid, and the part of the output behind it is lent on, to be filled with
+// the old header; what the reader gives for both are the rows and words.
 fn join(
-    edition: u32,
-    known: Edition,
+    edition: Edition,
     input: &[u8],
     table: &[u32],
     pool: &[u8],
     rows: &mut [u32],
     words: &mut [u32],
     output: &mut [u8],
-    place: usize,
-    n: usize,
-    many: usize,
+    joint: Joint,
 ) -> Reply
-    requires { Joinable edition (edition_of known) input.now table.now pool.now place n many }
-    ensures { RelayPromise edition input.now table.now pool.now rows.old words.old output.old result rows.new words.new output.new }
+    requires { Joinable (edition_of edition) input.now table.now pool.now joint }
+    ensures { (number : ℕ) → label_of number ≡ known (edition_of edition) →
+        RelayPromise number input.now table.now pool.now rows.old words.old output.old result rows.new words.new output.new }
 {
-    let size = size_of(many);
-    let long = size + place;
-    let count = room(table.len()) + n;
-    if room_with(rows.len(), words.len()) < count {
+    let size = size_of(joint.inside);
+    let to = Reached {
+        at: size + joint.old.at,
+        rows: room(table.len()) + joint.old.rows,
+    };
+    if room_with(rows.len(), words.len()) < to.rows {
         return Reply {
-            answer: ROWS_SHORT,
-            place: long,
-            rows: count,
+            answer: Refusal::RowsShort.answer(),
+            place: to.at,
+            rows: to.rows,
         };
     }
-    if output.len() < long {
-        return refused(OUTPUT_SHORT, long);
+    if output.len() < to.at {
+        return Reply::from(Refusal::OutputShort.at(to.at));
     }
-    put_extension(known, table, pool, many, output);
-    lay(&input[..place], &mut output[size..]);
-    fill(
+    put_extension(edition, table, pool, joint.inside, output);
+    lay(&input[..joint.old.at], &mut output[size..]);
+    let told = Told {
         edition,
-        Strictness::Strict,
-        output,
-        rows,
-        words,
-        long,
-        count,
-    )
+        strictness: Strictness::Strict,
+    };
+    fill(told, output, rows, words, to)
 }
 
 // Over the front of `output`; nothing behind it changes. A loop, since a slice's own copy asks the archive's users for memmove.
