@@ -9,6 +9,7 @@ use Rattle.write_rows.specs.Laying.{capped}
 use Rattle.write_rows.specs.Bodies.{Body, halt, body}
 use Rattle.laws_steps.specs.Rows.{cells_at}
 use Rattle.write_rows.specs.declared.advance.Misfit.{Misfit}
+use Rattle.write_rows.specs.declared.lent.Table.{Table}
 use Rattle.write_inside.specs.declared.body.Inside.{Inside}
 use Rattle.write_envelopes.specs.declared.measure.Sizes.{Sizes}
 use Rattle.table.specs.declared.answers.Fault.{Fault}
@@ -129,3 +130,17 @@ identifier_of base = pick base 0xfe 0xfd
 
 abbrev pub head_of : Bool → ℕ → List ℕ
 head_of base many = identifier_of base ∷ envelope_length many
+
+-- The same of a table that is lent
+
+abbrev pub MeasuredAt : Body → Table → Result Inside Misfit → Type 0
+MeasuredAt b table r = Measured b table.pool.now table.rows.now r
+
+abbrev pub EnvelopeReady : Table → ℕ → ℕ → List ℕ → ℕ → Type 0
+EnvelopeReady table from many output at = EnvelopeRequires table.rows.now from many output at
+
+abbrev pub EnvelopeWrittenAt : Body → Table → Bool → ℕ → List ℕ → ℕ → List ℕ → Result Inside Misfit → Type 0
+EnvelopeWrittenAt b table base many before at after r = EnvelopeWritten b table.pool.now table.rows.now base many before at after r
+
+abbrev pub WritableAt : Edition → Table → List ℕ → List ℕ → Type 0
+WritableAt edition table lengths output = Writable edition table.rows.now table.pool.now lengths output

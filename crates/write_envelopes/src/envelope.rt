@@ -3,11 +3,11 @@ ghost use Rattle.std.specs.Prelude.{◌≡◌, ◌≤◌, length};
 ghost use Rattle.meaning.specs.Headers.{start, envelope_most};
 ghost use Rattle.meaning.specs.Writing.{whole_plan};
 ghost use Rattle.meaning.specs.Memory.{laid_over};
-ghost use Rattle.laws_steps.specs.Rows.{cells_at};
 ghost use Rattle.table.specs.Told.{edition_of};
 ghost use Rattle.write_rows.specs.Laying.{Laid};
 ghost use Rattle.write_rows.specs.Bodies.{body_of};
-ghost use Rattle.write_envelopes.specs.Whole.{head_of, bytes_of_plan, Writable, EnvelopeRequires, EnvelopeWritten};
+ghost use Rattle.write_rows.specs.Stages.{cells_from};
+ghost use Rattle.write_envelopes.specs.Whole.{WritableAt, EnvelopeWrittenAt, EnvelopeReady, head_of, bytes_of_plan};
 
 use crate::measure::size_of;
 use table::limits::{LONG_HEAD, SHORT_HEAD, SHORT_MOST};
@@ -15,6 +15,7 @@ use table::told::Edition;
 use write_inside::body::{Inside, body, open_at};
 use write_rows::advance::Misfit;
 use write_rows::lay::{copy, put};
+use write_rows::lent::Table;
 
 // "Extension: FD, length ..; Base: FE, length": lays the identifier and the length of an envelope with so many bytes inside, in the short
 // form or the long one. Answers the place behind them.
@@ -44,35 +45,34 @@ fn identifier(base: bool) -> u8
 // Answers where its rows end; bytes before and behind it are as they were.
 pub(crate) fn put_envelope(
     edition: Edition,
-    rows: &[u32],
-    pool: &[u8],
+    table: &Table,
     from: usize,
     base: bool,
     many: usize,
     output: &mut [u8],
     at: usize,
 ) -> Result<Inside, Misfit>
-    requires { EnvelopeRequires rows.now from many output.old at }
-    ensures { EnvelopeWritten (body_of (edition_of edition) (cells_at pool.now rows.now from) from (start base)) pool.now rows.now base many output.old at output.new result }
+    requires { EnvelopeReady table.now from many output.old at }
+    ensures { EnvelopeWrittenAt (body_of (edition_of edition) (cells_from table.now from) from (start base)) table.now base many output.old at output.new result }
 {
     let end = at + size_of(many);
     let inside = end - many;
     put_head(base, many, &mut output[at..inside]);
-    body(edition, rows, pool, from, base, &mut output[inside..end])
+    body(edition, table, from, base, &mut output[inside..end])
 }
 
 // Lays all envelopes over the front of `output`, with the lengths that the check noted. Bytes behind them are as they were.
-pub fn put_all(edition: Edition, rows: &[u32], pool: &[u8], lengths: &[usize], output: &mut [u8])
-    requires { Writable (edition_of edition) rows.now pool.now lengths.now output.old }
-    ensures { output.new ≡ laid_over output.old (bytes_of_plan (whole_plan (edition_of edition) (cells_at pool.now rows.now 0))) }
+pub fn put_all(edition: Edition, table: &Table, lengths: &[usize], output: &mut [u8])
+    requires { WritableAt (edition_of edition) table.now lengths.now output.old }
+    ensures { output.new ≡ laid_over output.old (bytes_of_plan (whole_plan (edition_of edition) (cells_from table.now 0))) }
 {
     let mut i: usize = 0;
     let mut at: usize = 0;
     for many in lengths {
-        let Some(base) = open_at(rows, pool, i) else {
+        let Some(base) = open_at(table, i) else {
             return;
         };
-        let Ok(inside) = put_envelope(edition, rows, pool, i + 1, base, *many, output, at) else {
+        let Ok(inside) = put_envelope(edition, table, i + 1, base, *many, output, at) else {
             return;
         };
         if base {

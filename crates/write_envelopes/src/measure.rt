@@ -1,20 +1,20 @@
 // The pass that checks and measures: "15 over all rows, then 5 (place: the envelope's row)".
-ghost use Rattle.std.specs.Prelude.{◌≡◌, List, ℕ, ◌+◌, ◌-◌, ◌*◌, ◌≤◌, length, set};
+ghost use Rattle.std.specs.Prelude.{◌≡◌, ◌+◌, ◌-◌, ◌*◌, ◌≤◌, length, set};
 ghost use Rattle.meaning.specs.Headers.{start, envelope_most, envelopes_most};
 ghost use Rattle.meaning.specs.Memory.{room_of};
 ghost use Rattle.meaning.specs.Writing.{envelope_size, whole_plan};
-ghost use Rattle.laws_steps.specs.Rows.{cells_at};
 ghost use Rattle.table.specs.Told.{edition_of};
 ghost use Rattle.write_rows.specs.Bodies.{body_of};
-ghost use Rattle.write_envelopes.specs.Whole.{Measured, OneMore, limit_of, end_verdict, verdict_is, CheckedAs};
+ghost use Rattle.write_rows.specs.Stages.{cells_from};
+ghost use Rattle.write_envelopes.specs.Whole.{MeasuredAt, OneMore, limit_of, end_verdict, verdict_is, CheckedAs};
 
 use table::answers::Fault;
 use table::limits::{ENVELOPE_MOST, ENVELOPES_MOST, LONG_HEAD, SHORT_HEAD, SHORT_MOST};
 use table::refusals::Refusal;
-use table::rows::{room, whole};
 use table::told::Edition;
 use write_inside::body::{Inside, body, open_at};
 use write_rows::advance::Misfit;
+use write_rows::lent::Table;
 
 // How many envelopes' lengths the check notes: as many as a table may have.
 pub const ENVELOPES: usize = ENVELOPES_MOST as usize;
@@ -74,16 +74,15 @@ fn count_in(t: Sizes, i: usize, many: usize) -> Sizes
 // or the row that fits nowhere. Nothing is laid: its part of the output is empty.
 pub(crate) fn measure(
     edition: Edition,
-    rows: &[u32],
-    pool: &[u8],
+    table: &Table,
     from: usize,
     base: bool,
 ) -> Result<Inside, Misfit>
-    requires { from ≤ room_of rows.now }
-    ensures { Measured (body_of (edition_of edition) (cells_at pool.now rows.now from) from (start base)) pool.now rows.now result }
+    requires { from ≤ room_of table.now.rows.now }
+    ensures { MeasuredAt (body_of (edition_of edition) (cells_from table.now from) from (start base)) table.now result }
 {
     let mut none = [0u8; 1];
-    body(edition, rows, pool, from, base, &mut none[..0])
+    body(edition, table, from, base, &mut none[..0])
 }
 
 // Notes how many bytes an envelope has inside, for the pass that writes, where `left` may still come with it.
@@ -99,13 +98,13 @@ fn note(lengths: &mut [usize], left: usize, many: usize)
 
 // Takes the row behind the base, and all envelopes. Answers the bytes that they need.
 // Refuses a row or a number left over there (15), then an envelope past a limit (5).
-pub(crate) fn ended(rows: &[u32], row: usize, t: Sizes) -> Result<usize, Fault>
-    ensures { (pool : List ℕ) → verdict_is result ≡ end_verdict (cells_at pool rows.now row) row t.total (limit_of t.over) }
+pub(crate) fn ended(table: &Table, row: usize, t: Sizes) -> Result<usize, Fault>
+    ensures { verdict_is result ≡ end_verdict (cells_from table.now row) row t.total (limit_of t.over) }
 {
-    if row < room(rows.len()) {
+    if row < table.room() {
         return Err(Refusal::TableWrong.at(row));
     }
-    if !whole(rows.len()) {
+    if !table.whole() {
         return Err(Refusal::TableWrong.at(row));
     }
     match t.over {
@@ -116,14 +115,9 @@ pub(crate) fn ended(rows: &[u32], row: usize, t: Sizes) -> Result<usize, Fault>
 
 // Takes all rows, and room for the envelopes' lengths. Answers the bytes that the rows need, and then the lengths are noted.
 // Refuses rows that are no table (15, at the first that fits nowhere), then an envelope past a limit (5, at its row).
-pub fn check(
-    edition: Edition,
-    rows: &[u32],
-    pool: &[u8],
-    lengths: &mut [usize],
-) -> Result<usize, Fault>
+pub fn check(edition: Edition, table: &Table, lengths: &mut [usize]) -> Result<usize, Fault>
     requires { length lengths.old ≡ envelopes_most }
-    ensures { CheckedAs (whole_plan (edition_of edition) (cells_at pool.now rows.now 0)) result lengths.new }
+    ensures { CheckedAs (whole_plan (edition_of edition) (cells_from table.now 0)) result lengths.new }
 {
     let mut i: usize = 0;
     let mut t = Sizes {
@@ -132,14 +126,14 @@ pub fn check(
         over: None,
     };
     loop {
-        let Some(base) = open_at(rows, pool, i) else {
+        let Some(base) = open_at(table, i) else {
             return Err(Refusal::TableWrong.at(i));
         };
-        let inside = measure(edition, rows, pool, i + 1, base)?;
+        let inside = measure(edition, table, i + 1, base)?;
         note(lengths, t.left, inside.many);
         t = count_in(t, i, inside.many);
         if base {
-            return ended(rows, inside.row, t);
+            return ended(table, inside.row, t);
         }
         i = inside.row;
     }

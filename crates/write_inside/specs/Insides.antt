@@ -12,6 +12,7 @@ use Rattle.laws_steps.specs.Rows.{whole_rows, cells_at, cells_last}
 use Rattle.write_rows.specs.Laying.{Laid}
 use Rattle.write_rows.specs.Bodies.{Body, halt, body, opens_number}
 use Rattle.write_rows.specs.declared.advance.Misfit.{Misfit}
+use Rattle.write_rows.specs.declared.lent.Table.{Table}
 use Rattle.write_inside.specs.declared.body.Inside.{Inside}
 
 -- whether a row opens the base or an extension
@@ -36,6 +37,10 @@ BodyIs (halt j) pool rows before at (Err misfit) after = misfit.row ≡ j
 BodyIs (halt j) pool rows before at (Ok inside) after = ⊥
 BodyIs (body bytes j cells) pool rows before at (Err misfit) after = ⊥
 BodyIs (body bytes j cells) pool rows before at (Ok inside) after = (inside.row ≡ j) × (inside.row ≤ room_of rows) × (cells ≡ cells_at pool rows inside.row) × Laid before at bytes after inside.many
+
+-- the same of a table that is lent
+abbrev pub BodyAt : Body → Table → List ℕ → ℕ → Result Inside Misfit → List ℕ → Type 0
+BodyAt b table before at r after = BodyIs b table.pool.now table.rows.now before at r after
 
 -- Laws
 

@@ -11,6 +11,7 @@ use Rattle.write_rows.specs.Rooms.{of_kind, NotAmong}
 use Rattle.write_rows.specs.Stages.{body_at, Onward, at_parameters}
 use Rattle.write_rows.specs.declared.advance.Onto.{Onto}
 use Rattle.write_rows.specs.declared.advance.Misfit.{Misfit}
+use Rattle.write_rows.specs.declared.lent.Table.{Table}
 
 abbrev pub after_one : ℕ → Option ℕ → Option Onto
 after_one i (Some p) = Some (record { row = i + 1; at = p })
@@ -69,3 +70,11 @@ abbrev pub FoundIs : Edition → List ℕ → List ℕ → ℕ → List ℕ → 
 FoundIs edition pool rows i before at (Ok (Some onto)) after = Onward edition pool rows i at_parameters onto.row at_parameters before at after onto.at × (i < onto.row)
 FoundIs edition pool rows i before at (Ok None) after = (after ≡ before) × NotAmong (moves edition parameters) 0 (cells_at pool rows i) × ClosingAhead (cells_at pool rows i)
 FoundIs edition pool rows i before at (Err misfit) after = body_at edition pool rows i at_parameters ≡ halt misfit.row
+
+-- The same of a table that is lent
+
+abbrev pub ParameterAt : Edition → List Move → Table → ℕ → List ℕ → ℕ → Result (Option Onto) Misfit → List ℕ → Type 0
+ParameterAt edition l table i before at r after = ParameterIs edition l table.pool.now table.rows.now i before at r after
+
+abbrev pub FoundAt : Edition → Table → ℕ → List ℕ → ℕ → Result (Option Onto) Misfit → List ℕ → Type 0
+FoundAt edition table i before at r after = FoundIs edition table.pool.now table.rows.now i before at r after

@@ -6,12 +6,11 @@ ghost use Rattle.meaning.specs.Kinds.{received_by, payload_length, own_key, beha
 ghost use Rattle.meaning.specs.Editions.{parameters, own_text, behaviour_value, outer, opens, on◌▸◌▸◌▸◌};
 ghost use Rattle.meaning.specs.Told;
 ghost use Rattle.meaning.specs.Told.{B};
-ghost use Rattle.laws_steps.specs.Rows.{cells_at};
 ghost use Rattle.table.specs.Kinds.{number_of};
 ghost use Rattle.table.specs.Told.{edition_of};
 ghost use Rattle.values.specs.Stages.{rule_of};
-ghost use Rattle.write_rows.specs.Stages.{StageRequires, TakeRequires};
-ghost use Rattle.write_inside.specs.Parameters.{Names, naming_code, naming_move, Represents, KindAhead, after_one, after_advance, encrypted_in, InParameters, ParameterIs, FoundIs};
+ghost use Rattle.write_rows.specs.Stages.{StageReady, TakeReady, cells_from};
+ghost use Rattle.write_inside.specs.Parameters.{FoundAt, ParameterAt, Names, naming_code, naming_move, Represents, KindAhead, after_one, after_advance, encrypted_in, InParameters};
 
 use table::kinds::Kind;
 use table::told::Edition;
@@ -22,6 +21,7 @@ use write_rows::advance::{Misfit, Onto, needed};
 use write_rows::ahead::{number, opened, text};
 use write_rows::any::any;
 use write_rows::lay::put;
+use write_rows::lent::Table;
 use write_rows::representation::standard;
 use write_rows::texts::texts;
 
@@ -44,18 +44,16 @@ fn begun(rest: Result<Onto, Misfit>) -> Result<Option<Onto>, Misfit>
 // "00 own key text, value text": lays the parameter that row i begins; its key is a line, its value a note.
 // None begins there if row i is no such key. Refuses the next row if that is no value.
 pub fn own_parameter(
-    rows: &[u32],
-    pool: &[u8],
+    table: &Table,
     i: usize,
     output: &mut [u8],
     at: usize,
 ) -> Result<Option<Onto>, Misfit>
-    requires { StageRequires rows.now i output.old at }
-    ensures { (edition : Told.Edition) → ParameterIs edition (on 0x00 ▸ own_key ▸ Rattle.meaning.specs.Editions.text line ▸ outer own_text ∷ []) pool.now rows.now i output.old at result output.new }
+    requires { StageReady table.now i output.old at }
+    ensures { (edition : Told.Edition) → ParameterAt edition (on 0x00 ▸ own_key ▸ Rattle.meaning.specs.Editions.text line ▸ outer own_text ∷ []) table.now i output.old at result output.new }
 {
     let t = text(
-        rows,
-        pool,
+        table,
         i,
         Kind::OwnKey,
         Rule::Line,
@@ -68,17 +66,7 @@ pub fn own_parameter(
         return Ok(None);
     };
     let k = i + 1;
-    let value = text(
-        rows,
-        pool,
-        k,
-        Kind::OwnValue,
-        Rule::Note,
-        0,
-        None,
-        output,
-        p,
-    );
+    let value = text(table, k, Kind::OwnValue, Rule::Note, 0, None, output, p);
     begun(needed(value, k))
 }
 
@@ -96,46 +84,43 @@ fn naming_code(kind: Kind) -> u8
 // "02 `to`, agent list; 03 `from`, one agent; .. 09 intended receiver, agent list": lays the parameter of this kind, naming agents, that row i opens.
 // None begins there if row i does not open it. Refuses what its agents do.
 pub fn naming(
-    rows: &[u32],
-    pool: &[u8],
+    table: &Table,
     i: usize,
     kind: Kind,
     edition: Edition,
     output: &mut [u8],
     at: usize,
 ) -> Result<Option<Onto>, Misfit>
-    requires { StageRequires rows.now i output.old at × Names (number_of kind) }
-    ensures { ParameterIs (edition_of edition) (naming_move (number_of kind) ∷ []) pool.now rows.now i output.old at result output.new }
+    requires { StageReady table.now i output.old at × Names (number_of kind) }
+    ensures { ParameterAt (edition_of edition) (naming_move (number_of kind) ∷ []) table.now i output.old at result output.new }
 {
     let code = Some(naming_code(kind));
-    let t = opened(rows, pool, i, kind, 0, code, output, at);
+    let t = opened(table, i, kind, 0, code, output, at);
     let Some(p) = t else {
         return Ok(None);
     };
     let k = i + 1;
     let one = kind.number() == Kind::FromOpens.number();
-    begun(agents(rows, pool, k, one, edition, output, p))
+    begun(agents(table, k, one, edition, output, p))
 }
 
 // "04 representation": lays the code and row i, which is of this kind, a representation's. Refuses row i if it is none.
 pub fn represented(
-    rows: &[u32],
-    pool: &[u8],
+    table: &Table,
     i: usize,
     kind: Kind,
     output: &mut [u8],
     at: usize,
 ) -> Result<Option<Onto>, Misfit>
-    requires { StageRequires rows.now i output.old at × Represents (number_of kind) × KindAhead (number_of kind) (cells_at pool.now rows.now i) }
-    ensures { (edition : Told.Edition) → FoundIs edition pool.now rows.now i output.old at result output.new }
+    requires { StageReady table.now i output.old at × Represents (number_of kind) × KindAhead (number_of kind) (cells_from table.now i) }
+    ensures { (edition : Told.Edition) → FoundAt edition table.now i output.old at result output.new }
 {
     let p = put(output, at, 0x04);
     if kind.number() == Kind::StandardRepresentation.number() {
-        return begun(needed(standard(rows, pool, i, output, p), i));
+        return begun(needed(standard(table, i, output, p), i));
     }
     let own = text(
-        rows,
-        pool,
+        table,
         i,
         Kind::OwnRepresentation,
         Rule::Line,
@@ -150,8 +135,7 @@ pub fn represented(
 // "05 comments text", "07 payload encoding text": lays the parameter of this kind that row i is, a text by this rule behind this code.
 // None begins there if row i is no such text.
 pub fn one_text(
-    rows: &[u32],
-    pool: &[u8],
+    table: &Table,
     i: usize,
     kind: Kind,
     rule: Rule,
@@ -159,109 +143,82 @@ pub fn one_text(
     output: &mut [u8],
     at: usize,
 ) -> Option<Onto>
-    requires { TakeRequires rows.now i (number_of kind) output.old at }
+    requires { TakeReady table.now i (number_of kind) output.old at }
     ensures { (edition : Told.Edition) → InParameters edition (on code ▸ number_of kind ▸ Rattle.meaning.specs.Editions.text (rule_of rule) ▸ outer parameters) → eqb (number_of kind) agent_name ≡ false →
-        ParameterIs edition (on code ▸ number_of kind ▸ Rattle.meaning.specs.Editions.text (rule_of rule) ▸ outer parameters ∷ []) pool.now rows.now i output.old at (Ok result) output.new }
+        ParameterAt edition (on code ▸ number_of kind ▸ Rattle.meaning.specs.Editions.text (rule_of rule) ▸ outer parameters ∷ []) table.now i output.old at (Ok result) output.new }
 {
-    let t = text(rows, pool, i, kind, rule, 0, Some(code), output, at);
+    let t = text(table, i, kind, rule, 0, Some(code), output, at);
     single(t, i)
 }
 
 // "06 payload length": lays the parameter that row i is. None begins there if row i is no such number.
-pub fn payload_length(
-    rows: &[u32],
-    pool: &[u8],
-    i: usize,
-    output: &mut [u8],
-    at: usize,
-) -> Option<Onto>
-    requires { StageRequires rows.now i output.old at }
-    ensures { (edition : Told.Edition) → ParameterIs edition (on 0x06 ▸ payload_length ▸ Rattle.meaning.specs.Editions.number ▸ outer parameters ∷ []) pool.now rows.now i output.old at (Ok result) output.new }
+pub fn payload_length(table: &Table, i: usize, output: &mut [u8], at: usize) -> Option<Onto>
+    requires { StageReady table.now i output.old at }
+    ensures { (edition : Told.Edition) → ParameterAt edition (on 0x06 ▸ payload_length ▸ Rattle.meaning.specs.Editions.number ▸ outer parameters ∷ []) table.now i output.old at (Ok result) output.new }
 {
-    let t = number(rows, pool, i, output, at);
+    let t = number(table, i, output, at);
     single(t, i)
 }
 
 // "08 encrypted, texts then 01 (B only)": lays the parameter that row i opens in B. None begins there if row i does not open it.
-fn encrypted_in_b(rows: &[u32], pool: &[u8], i: usize, output: &mut [u8], at: usize) -> Option<Onto>
-    requires { StageRequires rows.now i output.old at }
-    ensures { ParameterIs B (encrypted_in B) pool.now rows.now i output.old at (Ok result) output.new }
+fn encrypted_in_b(table: &Table, i: usize, output: &mut [u8], at: usize) -> Option<Onto>
+    requires { StageReady table.now i output.old at }
+    ensures { ParameterAt B (encrypted_in B) table.now i output.old at (Ok result) output.new }
 {
-    let t = opened(
-        rows,
-        pool,
-        i,
-        Kind::EncryptedOpens,
-        0,
-        Some(0x08),
-        output,
-        at,
-    );
+    let t = opened(table, i, Kind::EncryptedOpens, 0, Some(0x08), output, at);
     let Some(p) = t else {
         return None;
     };
-    Some(texts(rows, pool, i + 1, Kind::EncryptedItem, 0, output, p))
+    Some(texts(table, i + 1, Kind::EncryptedItem, 0, output, p))
 }
 
 // The same by edition: in D none begins there.
 pub fn encrypted(
-    rows: &[u32],
-    pool: &[u8],
+    table: &Table,
     i: usize,
     edition: Edition,
     output: &mut [u8],
     at: usize,
 ) -> Option<Onto>
-    requires { StageRequires rows.now i output.old at }
-    ensures { ParameterIs (edition_of edition) (encrypted_in (edition_of edition)) pool.now rows.now i output.old at (Ok result) output.new }
+    requires { StageReady table.now i output.old at }
+    ensures { ParameterAt (edition_of edition) (encrypted_in (edition_of edition)) table.now i output.old at (Ok result) output.new }
 {
     match edition {
-        Edition::B => encrypted_in_b(rows, pool, i, output, at),
+        Edition::B => encrypted_in_b(table, i, output, at),
         Edition::D => None,
     }
 }
 
 // "0A received object": lays the code and the object from row i on, whose kind is a `by`'s. Refuses what the object does.
 pub fn received_in(
-    rows: &[u32],
-    pool: &[u8],
+    table: &Table,
     i: usize,
     edition: Edition,
     output: &mut [u8],
     at: usize,
 ) -> Result<Option<Onto>, Misfit>
-    requires { StageRequires rows.now i output.old at × KindAhead received_by (cells_at pool.now rows.now i) }
-    ensures { FoundIs (edition_of edition) pool.now rows.now i output.old at result output.new }
+    requires { StageReady table.now i output.old at × KindAhead received_by (cells_from table.now i) }
+    ensures { FoundAt (edition_of edition) table.now i output.old at result output.new }
 {
     let p = put(output, at, 0x0a);
-    begun(received(rows, pool, i, edition, output, p))
+    begun(received(table, i, edition, output, p))
 }
 
 // "0B transport behaviour, an any-value": lays the parameter that row i opens. None begins there if row i does not open it.
 // Refuses the next row if that is no any-value.
 pub fn behaviour(
-    rows: &[u32],
-    pool: &[u8],
+    table: &Table,
     i: usize,
     output: &mut [u8],
     at: usize,
 ) -> Result<Option<Onto>, Misfit>
-    requires { StageRequires rows.now i output.old at }
-    ensures { (edition : Told.Edition) → ParameterIs edition (on 0x0b ▸ behaviour_opens ▸ opens ▸ outer behaviour_value ∷ []) pool.now rows.now i output.old at result output.new }
+    requires { StageReady table.now i output.old at }
+    ensures { (edition : Told.Edition) → ParameterAt edition (on 0x0b ▸ behaviour_opens ▸ opens ▸ outer behaviour_value ∷ []) table.now i output.old at result output.new }
 {
-    let t = opened(
-        rows,
-        pool,
-        i,
-        Kind::BehaviourOpens,
-        0,
-        Some(0x0b),
-        output,
-        at,
-    );
+    let t = opened(table, i, Kind::BehaviourOpens, 0, Some(0x0b), output, at);
     let Some(p) = t else {
         return Ok(None);
     };
     let k = i + 1;
-    begun(needed(any(rows, pool, k, 0, output, p), k))
+    begun(needed(any(table, k, 0, output, p), k))
 }

@@ -13,6 +13,7 @@ use Rattle.write_rows.specs.Stages.{body_at, Onward}
 use Rattle.write_objects.specs.declared.agents.ListTurn.{ListTurn}
 use Rattle.write_objects.specs.declared.agents.ListTurn.TheVariants.{On, Done}
 use Rattle.write_rows.specs.declared.advance.Misfit.{Misfit}
+use Rattle.write_rows.specs.declared.lent.Table.{Table}
 
 abbrev pub agent_names : List Move
 agent_names = on 0x02 ▸ agent_name ▸ text line ▸ stay after_name ∷ []
@@ -36,3 +37,11 @@ ListTurnIs edition single pool rows i st left before at (Ok (On onto level)) aft
     Onward edition pool rows i st onto.row (agents_at level single) before at after onto.at × (1 ≤ level) × (level ≤ level_most + 1) × (rows_and_levels rows onto.row level ≤ left)
 ListTurnIs edition single pool rows i st left before at (Ok (Done onto)) after = Onward edition pool rows i st onto.row (state parameters 0 false) before at after onto.at
 ListTurnIs edition single pool rows i st left before at (Err misfit) after = body_at edition pool rows i st ≡ halt misfit.row
+
+-- The same of a table that is lent
+
+abbrev pub ListTurnReady : Table → ℕ → ℕ → List ℕ → ℕ → Type 0
+ListTurnReady table i level part at = ListTurnRequires table.rows.now i level part at
+
+abbrev pub ListTurnAt : Edition → Bool → Table → ℕ → State → ℕ → List ℕ → ℕ → Result ListTurn Misfit → List ℕ → Type 0
+ListTurnAt edition single table i st left before at r after = ListTurnIs edition single table.pool.now table.rows.now i st left before at r after

@@ -3,11 +3,10 @@ ghost use Rattle.std.specs.Prelude.{Bool, false, ◌-◌, ◌≤◌};
 ghost use Rattle.meaning.specs.Editions.{state, after_name, after_addresses, after_resolvers, parameters};
 ghost use Rattle.meaning.specs.Reading.{level_most};
 ghost use Rattle.meaning.specs.Told;
-ghost use Rattle.laws_steps.specs.Rows.{cells_at};
 ghost use Rattle.table.specs.Told.{edition_of};
 ghost use Rattle.write_rows.specs.Rooms.{NotAmong};
-ghost use Rattle.write_rows.specs.Stages.{StageRequires, Onward, AdvanceIs};
-ghost use Rattle.write_objects.specs.Turns.{agent_names, agents_at, ListTurnRequires, ListTurnIs, rows_and_levels};
+ghost use Rattle.write_rows.specs.Stages.{StageReady, OnwardAt, AdvanceAt, cells_from};
+ghost use Rattle.write_objects.specs.Turns.{ListTurnAt, ListTurnReady, agent_names, agents_at, rows_and_levels};
 
 use table::codes::{CLOSING, agent_extra};
 use table::kinds::Kind;
@@ -18,6 +17,7 @@ use write_rows::advance::{Misfit, Onto};
 use write_rows::ahead::{opened, text};
 use write_rows::extras::extras;
 use write_rows::lay::put;
+use write_rows::lent::Table;
 use write_rows::texts::texts;
 
 // Where a list of agents goes on, and at which level; or where the whole list has ended.
@@ -29,23 +29,22 @@ pub enum ListTurn {
 
 // "optionally 02 and addresses (texts, then 01)": lays an agent's addresses from row i on. Answers the row and the place behind them;
 // where row i does not open addresses, both are as they were and nothing is laid.
-fn addresses(rows: &[u32], pool: &[u8], i: usize, level: u32, output: &mut [u8], at: usize) -> Onto
-    requires { StageRequires rows.now i output.old at }
-    ensures { (edition : Told.Edition) (single : Bool) → Onward edition pool.now rows.now i (state after_name level single) result.row (state after_addresses level single) output.old at output.new result.at }
+fn addresses(table: &Table, i: usize, level: u32, output: &mut [u8], at: usize) -> Onto
+    requires { StageReady table.now i output.old at }
+    ensures { (edition : Told.Edition) (single : Bool) → OnwardAt edition table.now i (state after_name level single) result.row (state after_addresses level single) output.old at output.new result.at }
 {
     let code = Some(0x02);
-    let t = opened(rows, pool, i, Kind::AddressesOpen, level, code, output, at);
+    let t = opened(table, i, Kind::AddressesOpen, level, code, output, at);
     let Some(p) = t else {
         return Onto { row: i, at };
     };
-    texts(rows, pool, i + 1, Kind::Address, level, output, p)
+    texts(table, i + 1, Kind::Address, level, output, p)
 }
 
 // "extras, 01": lays the end of an agent from row i on. Answers that its list goes on at this level; for the one agent of `from`,
 // that its parameter has ended. Refuses the row behind an extra's key that is no any-value.
 fn agent_ends(
-    rows: &[u32],
-    pool: &[u8],
+    table: &Table,
     i: usize,
     level: u32,
     single: bool,
@@ -53,11 +52,11 @@ fn agent_ends(
     output: &mut [u8],
     at: usize,
 ) -> Result<ListTurn, Misfit>
-    requires { ListTurnRequires rows.now i level output.old at }
-    ensures { ListTurnIs (edition_of edition) single pool.now rows.now i (state after_resolvers level single) (rows_and_levels rows.now i level) output.old at result output.new }
+    requires { ListTurnReady table.now i level output.old at }
+    ensures { ListTurnAt (edition_of edition) single table.now i (state after_resolvers level single) (rows_and_levels table.now.rows.now i level) output.old at result output.new }
 {
     let code = Some(agent_extra(edition));
-    let onto = extras(rows, pool, i, level, code, output, at)?;
+    let onto = extras(table, i, level, code, output, at)?;
     if single & (level == 1) {
         return Ok(ListTurn::Done(onto));
     }
@@ -67,8 +66,7 @@ fn agent_ends(
 // Lays the 01 of a list before row i, which names no agent of this level. At level 1 that ends the parameter; deeper it ends the resolvers
 // of the agent above, and that agent too. Refuses row i where the one agent of `from` has to stand.
 fn list_ends(
-    rows: &[u32],
-    pool: &[u8],
+    table: &Table,
     i: usize,
     level: u32,
     single: bool,
@@ -76,8 +74,8 @@ fn list_ends(
     output: &mut [u8],
     at: usize,
 ) -> Result<ListTurn, Misfit>
-    requires { (ListTurnRequires rows.now i level output.old at) × NotAmong agent_names level (cells_at pool.now rows.now i) }
-    ensures { ListTurnIs (edition_of edition) single pool.now rows.now i (agents_at level single) (rows_and_levels rows.now i level - 1) output.old at result output.new }
+    requires { (ListTurnReady table.now i level output.old at) × NotAmong agent_names level (cells_from table.now i) }
+    ensures { ListTurnAt (edition_of edition) single table.now i (agents_at level single) (rows_and_levels table.now.rows.now i level - 1) output.old at result output.new }
 {
     if level == 1 {
         if single {
@@ -87,14 +85,13 @@ fn list_ends(
         return Ok(ListTurn::Done(Onto { row: i, at: end }));
     }
     let p = put(output, at, CLOSING);
-    agent_ends(rows, pool, i, level - 1, single, edition, output, p)
+    agent_ends(table, i, level - 1, single, edition, output, p)
 }
 
 // "optionally 02 and addresses .., optionally 03 and resolvers": lays what stands behind an agent's name, from row i on, up to where its
 // resolvers open, or all of it. Refuses what the agent's end does.
 fn behind_name(
-    rows: &[u32],
-    pool: &[u8],
+    table: &Table,
     i: usize,
     level: u32,
     single: bool,
@@ -102,15 +99,14 @@ fn behind_name(
     output: &mut [u8],
     at: usize,
 ) -> Result<ListTurn, Misfit>
-    requires { (ListTurnRequires rows.now i level output.old at) × (level ≤ level_most) }
-    ensures { ListTurnIs (edition_of edition) single pool.now rows.now i (state after_name level single) (rows_and_levels rows.now i level) output.old at result output.new }
+    requires { (ListTurnReady table.now i level output.old at) × (level ≤ level_most) }
+    ensures { ListTurnAt (edition_of edition) single table.now i (state after_name level single) (rows_and_levels table.now.rows.now i level) output.old at result output.new }
 {
-    let s = addresses(rows, pool, i, level, output, at);
+    let s = addresses(table, i, level, output, at);
     let row = s.row;
     let p = s.at;
     let o = opened(
-        rows,
-        pool,
+        table,
         row,
         Kind::ResolversOpen,
         level,
@@ -119,7 +115,7 @@ fn behind_name(
         p,
     );
     let Some(behind) = o else {
-        return agent_ends(rows, pool, row, level, single, edition, output, p);
+        return agent_ends(table, row, level, single, edition, output, p);
     };
     Ok(ListTurn::On {
         onto: Onto {
@@ -133,8 +129,7 @@ fn behind_name(
 // "Agent: 02, name text, ..": lays the agent that row i names, up to where its resolvers open, or all of it; or the list's end, where row i names none.
 // Refuses row i if its level is past the limit, and what the agent's or the list's end does.
 fn agent(
-    rows: &[u32],
-    pool: &[u8],
+    table: &Table,
     i: usize,
     level: u32,
     single: bool,
@@ -142,12 +137,11 @@ fn agent(
     output: &mut [u8],
     at: usize,
 ) -> Result<ListTurn, Misfit>
-    requires { ListTurnRequires rows.now i level output.old at }
-    ensures { ListTurnIs (edition_of edition) single pool.now rows.now i (agents_at level single) (rows_and_levels rows.now i level - 1) output.old at result output.new }
+    requires { ListTurnReady table.now i level output.old at }
+    ensures { ListTurnAt (edition_of edition) single table.now i (agents_at level single) (rows_and_levels table.now.rows.now i level - 1) output.old at result output.new }
 {
     let t = text(
-        rows,
-        pool,
+        table,
         i,
         Kind::AgentName,
         Rule::Line,
@@ -157,34 +151,31 @@ fn agent(
         at,
     );
     let Some(p) = t else {
-        return list_ends(rows, pool, i, level, single, edition, output, at);
+        return list_ends(table, i, level, single, edition, output, at);
     };
     if LEVEL_MOST < level {
         return Err(Misfit { row: i });
     }
-    behind_name(rows, pool, i + 1, level, single, edition, output, p)
+    behind_name(table, i + 1, level, single, edition, output, p)
 }
 
 // "Agent list: agents, then 01"; or the one agent of `from`. Lays it from row `from` on. Answers the row and the place behind it.
 // Refuses what a turn of the list does.
 pub fn agents(
-    rows: &[u32],
-    pool: &[u8],
+    table: &Table,
     from: usize,
     single: bool,
     edition: Edition,
     output: &mut [u8],
     at: usize,
 ) -> Result<Onto, Misfit>
-    requires { StageRequires rows.now from output.old at }
-    ensures { AdvanceIs (edition_of edition) pool.now rows.now from (agents_at 1 single) (state parameters 0 false) output.old at result output.new }
+    requires { StageReady table.now from output.old at }
+    ensures { AdvanceAt (edition_of edition) table.now from (agents_at 1 single) (state parameters 0 false) output.old at result output.new }
 {
     let mut here = Onto { row: from, at };
     let mut level: u32 = 1;
     loop {
-        let turn = agent(
-            rows, pool, here.row, level, single, edition, output, here.at,
-        )?;
+        let turn = agent(table, here.row, level, single, edition, output, here.at)?;
         match turn {
             ListTurn::Done(end) => return Ok(end),
             ListTurn::On { onto, level: next } => {

@@ -13,6 +13,7 @@ use Rattle.write_rows.specs.Rooms.{own_among, NotAmong}
 use Rattle.table.specs.declared.rows.Ahead.{Ahead}
 use Rattle.write_rows.specs.declared.advance.Onto.{Onto}
 use Rattle.write_rows.specs.declared.advance.Misfit.{Misfit}
+use Rattle.write_rows.specs.declared.lent.Table.{Table}
 
 -- the row ahead is not of this kind and level
 abbrev pub NotOf : ℕ → ℕ → List Cell → Type 0
@@ -86,3 +87,27 @@ after_needed i None = Err (record { row = i })
 -- between two parameters
 abbrev pub at_parameters : State
 at_parameters = state parameters 0 false
+
+-- The same of a table that is lent
+
+-- its rows from row i on
+abbrev pub cells_from : Table → ℕ → List Cell
+cells_from table i = cells_at table.pool.now table.rows.now i
+
+abbrev pub SoughtAt : Table → ℕ → ℕ → ℕ → Option Ahead → Type 0
+SoughtAt table i kind level r = SoughtIs table.pool.now table.rows.now i kind level r
+
+abbrev pub StageReady : Table → ℕ → List ℕ → ℕ → Type 0
+StageReady table i part at = StageRequires table.rows.now i part at
+
+abbrev pub TakeReady : Table → ℕ → ℕ → List ℕ → ℕ → Type 0
+TakeReady table i kind part at = TakeRequires table.rows.now i kind part at
+
+abbrev pub TriedAt : List Move → ℕ → Table → ℕ → List ℕ → ℕ → Option ℕ → List ℕ → Type 0
+TriedAt l level table i before at r after = TriedIs l level table.pool.now table.rows.now i before at r after
+
+abbrev pub OnwardAt : Edition → Table → ℕ → State → ℕ → State → List ℕ → ℕ → List ℕ → ℕ → Type 0
+OnwardAt edition table i st k st₁ before at after p = Onward edition table.pool.now table.rows.now i st k st₁ before at after p
+
+abbrev pub AdvanceAt : Edition → Table → ℕ → State → State → List ℕ → ℕ → Result Onto Misfit → List ℕ → Type 0
+AdvanceAt edition table i st st₁ before at r after = AdvanceIs edition table.pool.now table.rows.now i st st₁ before at r after

@@ -4,10 +4,11 @@ ghost use Rattle.meaning.specs.Editions.{Next, any_values};
 ghost use Rattle.table.specs.Rows.{u32_most};
 ghost use Rattle.write_rows.specs.Laying.{Layable, Laid};
 ghost use Rattle.write_rows.specs.Codes.{block_bytes};
-ghost use Rattle.write_rows.specs.Stages.{StageRequires, TriedIs};
+ghost use Rattle.write_rows.specs.Stages.{StageReady, TriedAt};
 
-use crate::ahead::{look_for, text};
+use crate::ahead::text;
 use crate::lay::{copy, put};
+use crate::lent::Table;
 use table::kinds::Kind;
 use values::text::Rule;
 
@@ -37,21 +38,13 @@ fn block(bytes: &[u8], output: &mut [u8], at: usize) -> usize
 // Its text is a note. Where it is another row, or of the text's kind with a byte that no note has, nothing is laid.
 // It is put in place where it is called, so that a level that is a number there stays one.
 #[inline(always)]
-pub fn any(
-    rows: &[u32],
-    pool: &[u8],
-    i: usize,
-    level: u32,
-    output: &mut [u8],
-    at: usize,
-) -> Option<usize>
-    requires { StageRequires rows.now i output.old at }
-    ensures { (n : Next) → TriedIs (any_values n) level pool.now rows.now i output.old at result output.new }
+pub fn any(table: &Table, i: usize, level: u32, output: &mut [u8], at: usize) -> Option<usize>
+    requires { StageReady table.now i output.old at }
+    ensures { (n : Next) → TriedAt (any_values n) level table.now i output.old at result output.new }
 {
-    let Some(r) = look_for(rows, pool, i, Kind::AnyBytes, level) else {
+    let Some(r) = table.look_for(i, Kind::AnyBytes, level) else {
         return text(
-            rows,
-            pool,
+            table,
             i,
             Kind::AnyText,
             Rule::Note,
@@ -61,7 +54,5 @@ pub fn any(
             at,
         );
     };
-    let start = r.start;
-    let end = r.end;
-    Some(block(&pool[start..end], output, at))
+    Some(block(table.view(&r), output, at))
 }

@@ -4,13 +4,13 @@ ghost use Rattle.meaning.specs.Editions.{Next, shared_date, own_dates};
 ghost use Rattle.table.specs.Kinds.{number_of};
 ghost use Rattle.table.specs.Told.{edition_of};
 ghost use Rattle.write_rows.specs.Codes.{date_code};
-ghost use Rattle.write_rows.specs.Stages.{StageRequires, TriedIs};
+ghost use Rattle.write_rows.specs.Stages.{StageReady, TriedAt};
 
 use crate::lay::{copy, put};
+use crate::lent::Table;
 use crate::value::date_ok;
 use date::Form;
 use table::kinds::Kind;
-use table::rows::look_ahead;
 use table::told::Edition;
 
 // "Codes in B: 20 absolute, 21 absolute with designator. In D: 20, 21, 22 absolute, forward, backward; 24, 25, 26 the same with
@@ -34,27 +34,24 @@ fn date_code(kind: Kind, designated: bool, edition: Edition) -> Option<u8>
 // "Length 9 or 10 picks the date code": tries row i as a date of this level, and lays its code and bytes.
 // Where it is another row, or its bytes are no date of its code, nothing is laid.
 pub fn date(
-    rows: &[u32],
-    pool: &[u8],
+    table: &Table,
     i: usize,
     level: u32,
     edition: Edition,
     output: &mut [u8],
     at: usize,
 ) -> Option<usize>
-    requires { StageRequires rows.now i output.old at }
-    ensures { (n : Next) → TriedIs (shared_date n ++ own_dates (edition_of edition) n) level pool.now rows.now i output.old at result output.new }
+    requires { StageReady table.now i output.old at }
+    ensures { (n : Next) → TriedAt (shared_date n ++ own_dates (edition_of edition) n) level table.now i output.old at result output.new }
 {
-    let r = look_ahead(rows, pool, i)?;
+    let r = table.ahead(i)?;
     if r.level != level {
         return None;
     }
     let Ok(kind) = Kind::try_from(r.kind) else {
         return None;
     };
-    let start = r.start;
-    let end = r.end;
-    let bytes = &pool[start..end];
+    let bytes = table.view(&r);
     let designated = bytes.len() == 10;
     let code = date_code(kind, designated, edition)?;
     let absolute = r.kind == Kind::DateAbsolute.number();

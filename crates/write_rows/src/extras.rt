@@ -5,12 +5,13 @@ ghost use Rattle.meaning.specs.Kinds.{extra_key};
 ghost use Rattle.meaning.specs.Editions.{Room, State, state};
 ghost use Rattle.table.specs.Codes.{code_number};
 ghost use Rattle.write_rows.specs.Rooms.{ExtrasIn};
-ghost use Rattle.write_rows.specs.Stages.{StageRequires, AdvanceIs};
+ghost use Rattle.write_rows.specs.Stages.{StageReady, AdvanceAt};
 
 use crate::advance::{Misfit, Onto};
-use crate::ahead::{look_for, text};
+use crate::ahead::text;
 use crate::any::any;
 use crate::lay::put;
+use crate::lent::Table;
 use table::codes::CLOSING;
 use table::kinds::Kind;
 use values::text::Rule;
@@ -19,56 +20,44 @@ use values::text::Rule;
 // place behind the 01. Refuses the row behind a key that is no any-value.
 // Most often there are none, so the row ahead is looked at before anything is called.
 pub fn extras(
-    rows: &[u32],
-    pool: &[u8],
+    table: &Table,
     from: usize,
     level: u32,
     code: Option<u8>,
     output: &mut [u8],
     at: usize,
 ) -> Result<Onto, Misfit>
-    requires { StageRequires rows.now from output.old at }
+    requires { StageReady table.now from output.old at }
     ensures { (edition : Edition) (room : Room) (single : Bool) (st₁ : State) → ExtrasIn edition room level single (code_number code) st₁ →
-        AdvanceIs edition pool.now rows.now from (state room level single) st₁ output.old at result output.new }
+        AdvanceAt edition table.now from (state room level single) st₁ output.old at result output.new }
 {
-    let Some(_) = look_for(rows, pool, from, Kind::ExtraKey, level) else {
+    let Some(_) = table.look_for(from, Kind::ExtraKey, level) else {
         return Ok(Onto {
             row: from,
             at: put(output, at, CLOSING),
         });
     };
-    some_extras(rows, pool, from, level, code, output, at)
+    some_extras(table, from, level, code, output, at)
 }
 
 // The same, extra by extra, for whoever looks for no row ahead. It is kept out of its callers, so that these stay short.
 #[inline(never)]
 pub fn some_extras(
-    rows: &[u32],
-    pool: &[u8],
+    table: &Table,
     from: usize,
     level: u32,
     code: Option<u8>,
     output: &mut [u8],
     at: usize,
 ) -> Result<Onto, Misfit>
-    requires { StageRequires rows.now from output.old at }
+    requires { StageReady table.now from output.old at }
     ensures { (edition : Edition) (room : Room) (single : Bool) (st₁ : State) → ExtrasIn edition room level single (code_number code) st₁ →
-        AdvanceIs edition pool.now rows.now from (state room level single) st₁ output.old at result output.new }
+        AdvanceAt edition table.now from (state room level single) st₁ output.old at result output.new }
 {
     let mut i = from;
     let mut p = at;
     loop {
-        let t = text(
-            rows,
-            pool,
-            i,
-            Kind::ExtraKey,
-            Rule::Line,
-            level,
-            code,
-            output,
-            p,
-        );
+        let t = text(table, i, Kind::ExtraKey, Rule::Line, level, code, output, p);
         let Some(q) = t else {
             return Ok(Onto {
                 row: i,
@@ -76,7 +65,7 @@ pub fn some_extras(
             });
         };
         i += 1;
-        let v = any(rows, pool, i, level, output, q);
+        let v = any(table, i, level, output, q);
         p = v.ok_or(Misfit { row: i })?;
         i += 1;
     }

@@ -7,6 +7,7 @@ pub mod any;
 pub mod dates;
 pub mod extras;
 pub mod lay;
+pub mod lent;
 pub mod representation;
 pub mod texts;
 mod value;

@@ -5,11 +5,12 @@ ghost use Rattle.meaning.specs.Editions.{Room, State, state};
 ghost use Rattle.table.specs.Codes.{code_number};
 ghost use Rattle.table.specs.Kinds.{number_of};
 ghost use Rattle.write_rows.specs.Rooms.{TextsIn, OptionalIn};
-ghost use Rattle.write_rows.specs.Stages.{TakeRequires, Onward};
+ghost use Rattle.write_rows.specs.Stages.{TakeReady, OnwardAt};
 
 use crate::advance::Onto;
 use crate::ahead::text;
 use crate::lay::put;
+use crate::lent::Table;
 use table::codes::CLOSING;
 use table::kinds::Kind;
 use values::text::Rule;
@@ -19,21 +20,20 @@ use values::text::Rule;
 // It is kept out of its callers, so that the text's own test is put in place here.
 #[inline(never)]
 pub fn texts(
-    rows: &[u32],
-    pool: &[u8],
+    table: &Table,
     from: usize,
     kind: Kind,
     level: u32,
     output: &mut [u8],
     at: usize,
 ) -> Onto
-    requires { TakeRequires rows.now from (number_of kind) output.old at }
+    requires { TakeReady table.now from (number_of kind) output.old at }
     ensures { (edition : Edition) (room : Room) (single : Bool) (st₁ : State) → TextsIn edition room (number_of kind) level single st₁ →
-        Onward edition pool.now rows.now from (state room level single) result.row st₁ output.old at output.new result.at }
+        OnwardAt edition table.now from (state room level single) result.row st₁ output.old at output.new result.at }
 {
     let mut i = from;
     let mut p = at;
-    while let Some(q) = text(rows, pool, i, kind, Rule::Line, level, None, output, p) {
+    while let Some(q) = text(table, i, kind, Rule::Line, level, None, output, p) {
         i += 1;
         p = q;
     }
@@ -46,8 +46,7 @@ pub fn texts(
 // Lays row i as a text of this kind and level behind its code, if it is one. Answers the row and the place behind it;
 // where it is none, both are as they were and nothing is laid.
 pub fn optional(
-    rows: &[u32],
-    pool: &[u8],
+    table: &Table,
     i: usize,
     kind: Kind,
     level: u32,
@@ -55,11 +54,11 @@ pub fn optional(
     output: &mut [u8],
     at: usize,
 ) -> Onto
-    requires { TakeRequires rows.now i (number_of kind) output.old at }
+    requires { TakeReady table.now i (number_of kind) output.old at }
     ensures { (edition : Edition) (room room₁ : Room) (single : Bool) → OptionalIn edition room room₁ (number_of kind) (code_number code) →
-        Onward edition pool.now rows.now i (state room level single) result.row (state room₁ level single) output.old at output.new result.at }
+        OnwardAt edition table.now i (state room level single) result.row (state room₁ level single) output.old at output.new result.at }
 {
-    let t = text(rows, pool, i, kind, Rule::Line, level, code, output, at);
+    let t = text(table, i, kind, Rule::Line, level, code, output, at);
     let Some(p) = t else {
         return Onto { row: i, at };
     };

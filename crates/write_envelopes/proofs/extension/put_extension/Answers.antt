@@ -9,10 +9,10 @@ pub put_envelope-requires : goal.put_envelope-requires
 put_envelope-requires c =
     let a = c.args in
     let f = c.requires in
-    record { inside = planned_row (edition_of a.edition) a.pool.now a.rows.now f.body f.envelopes f.planned; small = f.small; room = omega (arith, f.room) }
+    record { inside = planned_row (edition_of a.edition) a.table.now.pool.now a.table.now.rows.now f.body f.envelopes f.planned; small = f.small; room = omega (arith, f.room) }
 
 pub returns : goal.returns
 returns c =
     let a = c.args in
     let f = c.requires in
-    λ bytes vs p. extension_laid (edition_of a.edition) a.pool.now a.rows.now bytes vs p (extension_long f.planned p ∙ f.long) c.put_envelope.ensures
+    λ bytes vs p. extension_laid (edition_of a.edition) a.table.now.pool.now a.table.now.rows.now bytes vs p (extension_long f.planned p ∙ f.long) c.put_envelope.ensures

@@ -12,7 +12,7 @@ use mathlib.Core.Path.{◌≡◌}
 use Rattle.write_envelopes.proofs.measure.check.Given as goal
 
 abbrev pub invariant-loop-base : goal.invariant-loop-base
-invariant-loop-base l = (l.t.total + l.t.left * envelope_most ≤ envelopes_most * envelope_most) × (verdict envelopes_most 0 fine (whole_plan (edition_of l.edition) (cells_at l.pool l.rows 0)) ≡ verdict l.t.left l.t.total (limit_of l.t.over) (rest (edition_of l.edition) l.pool l.rows l.i)) × Noting (edition_of l.edition) l.pool l.rows l.t.left l.i l.lengths × (l.i ≤ room_of l.rows)
+invariant-loop-base l = (l.t.total + l.t.left * envelope_most ≤ envelopes_most * envelope_most) × (verdict envelopes_most 0 fine (whole_plan (edition_of l.edition) (cells_at l.table.pool.now l.table.rows.now 0)) ≡ verdict l.t.left l.t.total (limit_of l.t.over) (rest (edition_of l.edition) l.table.pool.now l.table.rows.now l.i)) × Noting (edition_of l.edition) l.table.pool.now l.table.rows.now l.t.left l.i l.lengths × (l.i ≤ room_of l.table.rows.now)
 
 abbrev pub decreases-loop-base : goal.decreases-loop-base
-decreases-loop-base l = room_of l.rows - l.i
+decreases-loop-base l = room_of l.table.rows.now - l.i

@@ -10,4 +10,4 @@ use Rattle.write_inside.proofs.parameter.encrypted.Goals as goal
 pub returns-in-D : goal.returns-in-D
 returns-in-D c =
     let a = c.args in
-    encrypted_as a.pool.now a.rows.now a.i a.output.now a.at (Ok None) _ (ap edition_of c.in-D.is) (refl, nothing_among 0 (cells_at a.pool.now a.rows.now a.i))
+    encrypted_as a.table.now.pool.now a.table.now.rows.now a.i a.output.now a.at (Ok None) _ (ap edition_of c.in-D.is) (refl, nothing_among 0 (cells_at a.table.now.pool.now a.table.now.rows.now a.i))

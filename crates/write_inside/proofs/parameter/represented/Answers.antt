@@ -18,7 +18,7 @@ pub returns-then-number : goal.returns-then-number
 returns-then-number c edition =
     let a = c.args in
     let one : number_of a.kind ≡ standard_representation = sym c.number.ensures ∙ c.if-number.true ∙ c.number-2.ensures in
-    let ahead = subst (λ (k : ℕ). KindAhead k (cells_at a.pool.now a.rows.now a.i)) one c.requires.2 in
+    let ahead = subst (λ (k : ℕ). KindAhead k (cells_at a.table.now.pool.now a.table.now.rows.now a.i)) one c.requires.2 in
     let tried = c.standard in
     represented_found edition _ _ _ standard_representation (standards (outer parameters)) refl (none_represents edition).0 (omega arith) refl ahead tried.result c.needed.result c.begun.result _ c.requires.0.inside c.requires.0.layable.small c.put-p.ensures (tried.ensures (outer parameters)) c.needed.ensures c.begun.ensures
 
@@ -26,6 +26,6 @@ pub returns : goal.returns
 returns c edition =
     let a = c.args in
     let own : number_of a.kind ≡ own_representation = omega (arith, c.number.ensures, c.number-2.ensures, c.if-number.false, c.requires.1) in
-    let ahead = subst (λ (k : ℕ). KindAhead k (cells_at a.pool.now a.rows.now a.i)) own c.requires.2 in
+    let ahead = subst (λ (k : ℕ). KindAhead k (cells_at a.table.now.pool.now a.table.now.rows.now a.i)) own c.requires.2 in
     let tried = c.text-own in
     represented_found edition _ _ _ own_representation (on 0x00 ▸ own_representation ▸ text line ▸ outer parameters ∷ []) refl (none_represents edition).1 (omega arith) refl ahead tried.result c.needed-2.result c.begun-2.result _ c.requires.0.inside c.requires.0.layable.small c.put-p.ensures (tried.ensures (outer parameters)) c.needed-2.ensures c.begun-2.ensures

@@ -10,7 +10,7 @@ use Rattle.write_inside.proofs.parameters.parameters.Given as goal
 
 abbrev pub invariant-loop-next : goal.invariant-loop-next
 invariant-loop-next l =
-    (l.here.row ≤ room_of l.rows) × Layable l.output l.here.at × (length l.output ≡ length l.initial.output) × Onward (edition_of l.edition) l.pool l.rows l.from at_parameters l.here.row at_parameters l.initial.output l.at l.output l.here.at
+    (l.here.row ≤ room_of l.table.rows.now) × Layable l.output l.here.at × (length l.output ≡ length l.initial.output) × Onward (edition_of l.edition) l.table.pool.now l.table.rows.now l.from at_parameters l.here.row at_parameters l.initial.output l.at l.output l.here.at
 
 abbrev pub decreases-loop-next : goal.decreases-loop-next
-decreases-loop-next l = room_of l.rows - l.here.row
+decreases-loop-next l = room_of l.table.rows.now - l.here.row

@@ -32,4 +32,4 @@ returns c =
     let a = c.args in
     let taken = (c.in-Some.ensures (stay after_name)) in
     let on = name_on (edition_of a.edition) _ _ a.level a.single (omega (arith, c.if-level-gt-LEVEL_MOST.false)) taken in
-    turn_then a.single (rows_and_levels a.rows.now (a.i + 1) a.level) (rows_and_levels a.rows.now a.i a.level - 1) c.behind_name.result _ c.requires.layable.small (omega (arith, taken.ahead.within)) on c.behind_name.ensures
+    turn_then a.single (rows_and_levels a.table.now.rows.now (a.i + 1) a.level) (rows_and_levels a.table.now.rows.now a.i a.level - 1) c.behind_name.result _ c.requires.layable.small (omega (arith, taken.ahead.within)) on c.behind_name.ensures

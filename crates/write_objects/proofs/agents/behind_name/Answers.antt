@@ -31,7 +31,7 @@ returns-in_default c =
     let s = c.addresses-s.ensures d a.single in
     let other = (c.in_default.ensures (deeper agent_list)) in
     let none = unmoved other.0 (part_off d _ _ after_addresses after_resolvers (agent_resolvers d) a.level a.single refl refl refl s.inside (onward_layable s layable) other.1) in
-    turn_then a.single (rows_and_levels a.rows.now c.addresses-s.result.row a.level) (rows_and_levels a.rows.now a.i a.level) c.agent_ends.result _ layable.small (omega (arith, s.later, s.inside)) (onward_then layable.small s none) c.agent_ends.ensures
+    turn_then a.single (rows_and_levels a.table.now.rows.now c.addresses-s.result.row a.level) (rows_and_levels a.table.now.rows.now a.i a.level) c.agent_ends.result _ layable.small (omega (arith, s.later, s.inside)) (onward_then layable.small s none) c.agent_ends.ensures
 
 pub overflow_add-result : goal.overflow_add-result
 overflow_add-result c =

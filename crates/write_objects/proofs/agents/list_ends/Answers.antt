@@ -18,4 +18,4 @@ pub returns : goal.returns
 returns c =
     let a = c.args in
     let pre = c.requires.0 in
-    turn_then a.single (rows_and_levels a.rows.now a.i (a.level - 1)) (rows_and_levels a.rows.now a.i a.level - 1) c.agent_ends.result _ pre.layable.small (omega (arith, pre.least)) (list_up (edition_of a.edition) _ _ a.level a.single c.requires.1 (omega (arith, pre.least, c.if-level-eq1.false)) pre.inside c.put-p.ensures) c.agent_ends.ensures
+    turn_then a.single (rows_and_levels a.table.now.rows.now a.i (a.level - 1)) (rows_and_levels a.table.now.rows.now a.i a.level - 1) c.agent_ends.result _ pre.layable.small (omega (arith, pre.least)) (list_up (edition_of a.edition) _ _ a.level a.single c.requires.1 (omega (arith, pre.least, c.if-level-eq1.false)) pre.inside c.put-p.ensures) c.agent_ends.ensures

@@ -15,8 +15,8 @@ returns-in_err-r c n = tried_as _ _ _ _ _ _ _ _ (sym c.from_residual.ensures) (r
 
 pub returns-then-number_ok : goal.returns-then-number_ok
 unfolding valid write_value
-returns-then-number_ok c n = sought_taken (on 0x06 ▸ payload_length ▸ editions.number ▸ n) 0 refl c.in_ok-r.ensures (omega arith) (sym c.number_ok.ensures ∙ c.if-number_ok.true) (laid_then c.put-p.ensures c.requires.layable.small c.copy.ensures)
+returns-then-number_ok c n = sought_taken (on 0x06 ▸ payload_length ▸ editions.number ▸ n) 0 refl c.in_ok-r.ensures (omega arith) (rw c.view-bytes.ensures at (sym c.number_ok.ensures ∙ c.if-number_ok.true)) (rw c.view-bytes.ensures at (laid_then c.put-p.ensures c.requires.layable.small c.copy.ensures))
 
 pub returns : goal.returns
 unfolding valid
-returns c n = (refl, sought_none (on 0x06 ▸ payload_length ▸ editions.number ▸ n) 0 refl c.in_ok-r.ensures (sym c.number_ok.ensures ∙ c.if-number_ok.false))
+returns c n = (refl, sought_none (on 0x06 ▸ payload_length ▸ editions.number ▸ n) 0 refl c.in_ok-r.ensures (rw c.view-bytes.ensures at (sym c.number_ok.ensures ∙ c.if-number_ok.false)))

@@ -17,11 +17,11 @@ returns-in_err-r c n = tried_as _ _ _ _ _ _ _ _ (sym c.from_residual.ensures) (r
 pub returns-then-text_ok : goal.returns-then-text_ok
 unfolding valid write_value
 returns-then-text_ok c n =
-    let ok = sym c.text_ok.ensures ∙ c.if-text_ok.true in
+    let ok = rw c.view-bytes.ensures at (sym c.text_ok.ensures ∙ c.if-text_ok.true) in
     let coded = laid_layable c.put_code-p.ensures c.requires.layable in
-    let laid = laid_then c.put_code-p.ensures c.requires.layable.small (laid_then c.copy-q.ensures coded.small c.put.ensures) in
+    let laid = rw c.view-bytes.ensures at (laid_then c.put_code-p.ensures c.requires.layable.small (laid_then c.copy-q.ensures coded.small c.put.ensures)) in
     sought_taken (on code_number c.args.code ▸ number_of c.args.kind ▸ editions.text (rule_of c.args.rule) ▸ n) c.args.level refl c.in_ok-r.ensures c.requires.inner ok laid
 
 pub returns : goal.returns
 unfolding valid
-returns c n = (refl, sought_none (on code_number c.args.code ▸ number_of c.args.kind ▸ editions.text (rule_of c.args.rule) ▸ n) c.args.level refl c.in_ok-r.ensures (sym c.text_ok.ensures ∙ c.if-text_ok.false))
+returns c n = (refl, sought_none (on code_number c.args.code ▸ number_of c.args.kind ▸ editions.text (rule_of c.args.rule) ▸ n) c.args.level refl c.in_ok-r.ensures (rw c.view-bytes.ensures at (sym c.text_ok.ensures ∙ c.if-text_ok.false)))

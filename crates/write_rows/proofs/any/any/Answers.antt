@@ -12,7 +12,7 @@ use Rattle.write_rows.proofs.any.any.Goals as goal
 pub returns-in_default : goal.returns-in_default
 returns-in_default c n =
     let a = c.args in
-    tried_away any_bytes a.level (on 0x14 ▸ any_text ▸ text note ▸ n ∷ []) (any_values n) (λ j h. rw (ne_eqb any_bytes j (λ q. h (sym q))) refl) a.pool.now a.rows.now a.i c.in_default.ensures _ _ _ c.text.result (c.text.ensures n)
+    tried_away any_bytes a.level (on 0x14 ▸ any_text ▸ text note ▸ n ∷ []) (any_values n) (λ j h. rw (ne_eqb any_bytes j (λ q. h (sym q))) refl) a.table.now.pool.now a.table.now.rows.now a.i c.in_default.ensures _ _ _ c.text.result (c.text.ensures n)
 
 pub returns : goal.returns
-returns c n = block_taken _ n c.args.level c.in-Some.ensures.row (view_short c.in-Some.ensures) c.block.ensures
+returns c n = block_taken _ n c.args.level c.in-Some.ensures.row (view_short c.in-Some.ensures) (rw c.view.ensures at c.block.ensures)

@@ -19,14 +19,14 @@ returns-in_default c n = (refl, ahead_none (dates_of (edition_of c.args.edition)
 pub returns-in_err-code : goal.returns-in_err-code
 returns-in_err-code c n =
     tried_as _ _ _ _ _ _ _ _ (sym c.from_residual-in_err-code.ensures)
-    (refl, ahead_none (dates_of (edition_of c.args.edition) n) c.args.level c.in_ok-r.ensures (λ q. date_unknown _ n (edition_of c.args.edition) _ (rw (← c.in-Ok.ensures) c.in_err-code.ensures)))
+    (refl, ahead_none (dates_of (edition_of c.args.edition) n) c.args.level c.in_ok-r.ensures (λ q. date_unknown _ n (edition_of c.args.edition) _ (rw (← c.in-Ok.ensures, ← c.view-bytes.ensures) c.in_err-code.ensures)))
 
 pub returns-then-date_ok : goal.returns-then-date_ok
 returns-then-date_ok c n =
-    let ok = rw (c.number.ensures) at (sym c.date_ok.ensures ∙ c.if-date_ok.true) in
-    date_taken (edition_of c.args.edition) c.args.level n _ c.in_ok-r.ensures c.if-r-level.false (rw (← c.in-Ok.ensures) c.in_ok-code.ensures) (omega arith) ok (laid_then c.put-p.ensures c.requires.layable.small c.copy.ensures)
+    let ok = rw (c.number.ensures, c.view-bytes.ensures) at (sym c.date_ok.ensures ∙ c.if-date_ok.true) in
+    date_taken (edition_of c.args.edition) c.args.level n _ c.in_ok-r.ensures c.if-r-level.false (rw (← c.in-Ok.ensures, ← c.view-bytes.ensures) c.in_ok-code.ensures) (omega arith) ok (rw c.view-bytes.ensures at (laid_then c.put-p.ensures c.requires.layable.small c.copy.ensures))
 
 pub returns : goal.returns
 returns c n =
-    let wrong = rw (c.number.ensures) at (sym c.date_ok.ensures ∙ c.if-date_ok.false) in
+    let wrong = rw (c.number.ensures, c.view-bytes.ensures) at (sym c.date_ok.ensures ∙ c.if-date_ok.false) in
     (refl, ahead_none (dates_of (edition_of c.args.edition) n) c.args.level c.in_ok-r.ensures (λ q. date_wrong _ n (edition_of c.args.edition) c.in_ok-r.r.kind wrong))

@@ -14,7 +14,7 @@ use Rattle.write_rows.proofs.representation.standard.Goals as goal
 pub returns-in_err-r : goal.returns-in_err-r
 returns-in_err-r c n =
     let a = c.args in
-    tried_as _ _ _ _ _ _ _ _ (sym c.from_residual.ensures) (tried_away standard_representation 0 [] (standards n) (λ j h. rw (ne_eqb standard_representation j (λ q. h (sym q))) refl) a.pool.now a.rows.now a.i c.in_err-r.ensures a.output.now a.at _ None (refl, nothing_among 0 (cells_at a.pool.now a.rows.now a.i)))
+    tried_as _ _ _ _ _ _ _ _ (sym c.from_residual.ensures) (tried_away standard_representation 0 [] (standards n) (λ j h. rw (ne_eqb standard_representation j (λ q. h (sym q))) refl) a.table.now.pool.now a.table.now.rows.now a.i c.in_err-r.ensures a.output.now a.at _ None (refl, nothing_among 0 (cells_at a.table.now.pool.now a.table.now.rows.now a.i)))
 
 pub returns-then-r-start-ne1 : goal.returns-then-r-start-ne1
 returns-then-r-start-ne1 c n =

@@ -14,8 +14,8 @@ use Rattle.write_rows.proofs.texts.texts.Given as goal
 
 abbrev pub invariant-loop-q : goal.invariant-loop-q
 invariant-loop-q l =
-    (l.i ≤ room_of l.rows) × Layable l.output l.p × (length l.output ≡ length l.initial.output)
-    × ((edition : Edition) (room : Room) (single : Bool) (st₁ : State) → TextsIn edition room (number_of l.kind) l.level single st₁ → Onward edition l.pool l.rows l.from (state room l.level single) l.i (state room l.level single) l.initial.output l.at l.output l.p)
+    (l.i ≤ room_of l.table.rows.now) × Layable l.output l.p × (length l.output ≡ length l.initial.output)
+    × ((edition : Edition) (room : Room) (single : Bool) (st₁ : State) → TextsIn edition room (number_of l.kind) l.level single st₁ → Onward edition l.table.pool.now l.table.rows.now l.from (state room l.level single) l.i (state room l.level single) l.initial.output l.at l.output l.p)
 
 abbrev pub decreases-loop-q : goal.decreases-loop-q
-decreases-loop-q l = room_of l.rows - l.i
+decreases-loop-q l = room_of l.table.rows.now - l.i
