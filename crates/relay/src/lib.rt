@@ -21,6 +21,7 @@ use table::rows::room;
 use table::told::{Edition, Strictness, Told};
 use write_envelopes::extension::{check_extension, put_extension};
 use write_envelopes::measure::size_of;
+use write_rows::lent::Table;
 use writer::skips_before;
 
 // What is joined, once it is checked: how far the old header reaches, and how many bytes the new envelope has inside.
@@ -49,7 +50,8 @@ pub fn relay(
     let Ok(known) = Edition::try_from(edition) else {
         return Reply::from(Refusal::EditionUnknown.at(0));
     };
-    match check_joint(known, input, table, pool) {
+    let new = Table { rows: table, pool };
+    match check_joint(known, input, &new) {
         Err(fault) => Reply::from(fault),
         Ok(joint) => join(known, input, table, pool, rows, words, output, joint),
     }
@@ -57,14 +59,14 @@ pub fn relay(
 
 // Takes the old input and the new table, in a known edition. Answers what may be joined. Refuses, in this order, what the reader refuses of the old
 // input, what is wrong with the new table (15), and what passes the limits (5, at row 0).
-fn check_joint(edition: Edition, input: &[u8], table: &[u32], pool: &[u8]) -> Result<Joint, Fault>
-    ensures { JudgedAs (edition_of edition) input.now table.now pool.now result }
+fn check_joint(edition: Edition, input: &[u8], new: &Table) -> Result<Joint, Fault>
+    ensures { JudgedAs (edition_of edition) input.now new.now.rows.now new.now.pool.now result }
 {
     let old = match count_in(edition, input) {
         Stage::Refused(fault) => return Err(fault),
         Stage::Go(to) => to,
     };
-    let inside = check_new(edition, table, pool)?;
+    let inside = check_new(edition, new)?;
     if one_more_fits(input, inside) {
         return Ok(Joint { old, inside });
     }
@@ -73,11 +75,11 @@ fn check_joint(edition: Edition, input: &[u8], table: &[u32], pool: &[u8]) -> Re
 
 // Takes the new table's rows. Answers how many bytes its envelope has inside. Refuses (15) what is no table of one extension, and then a wrong skip
 // number.
-fn check_new(edition: Edition, table: &[u32], pool: &[u8]) -> Result<usize, Fault>
-    ensures { verdict_is result ≡ new_verdict (skips_held table.now) (extension_plan (edition_of edition) (cells_at pool.now table.now 0)) }
+fn check_new(edition: Edition, new: &Table) -> Result<usize, Fault>
+    ensures { verdict_is result ≡ new_verdict (skips_held new.now.rows.now) (extension_plan (edition_of edition) (cells_at new.now.pool.now new.now.rows.now 0)) }
 {
-    let inside = check_extension(edition, table, pool)?;
-    skips_before(table, Ok(inside))
+    let inside = check_extension(edition, new)?;
+    skips_before(new.rows, Ok(inside))
 }
 
 // Takes an accepted old input, and how many bytes the new envelope has inside. Answers whether it may stand in front: "5 at row 0 for a 17th envelope or a
@@ -124,7 +126,8 @@ fn join(
     if output.len() < to.at {
         return Reply::from(Refusal::OutputShort.at(to.at));
     }
-    put_extension(edition, table, pool, joint.inside, output);
+    let new = Table { rows: table, pool };
+    put_extension(edition, &new, joint.inside, output);
     lay(&input[..joint.old.at], &mut output[size..]);
     let told = Told {
         edition,
