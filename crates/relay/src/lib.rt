@@ -88,10 +88,7 @@ fn one_more_fits(input: &[u8], inside: usize) -> bool
     requires { inside ≤ envelope_most }
     ensures { OneMoreFits input.now inside result }
 {
-    if ENVELOPES_MOST <= count_envelopes(input) {
-        return false;
-    }
-    size_of(inside) <= ENVELOPE_MOST
+    count_envelopes(input) < ENVELOPES_MOST && size_of(inside) <= ENVELOPE_MOST
 }
 
 // Takes an old input and a new table, in a known edition, which may be joined. Refuses too little room: "14, room for the joined rows, at the joined
