@@ -115,6 +115,7 @@ pub(crate) fn ended(table: &Table, row: usize, t: Sizes) -> Result<usize, Fault>
 
 // Takes all rows, and room for the envelopes' lengths. Answers the bytes that the rows need, and then the lengths are noted.
 // Refuses rows that are no table (15, at the first that fits nowhere), then an envelope past a limit (5, at its row).
+// A loop, and no chain over the rows: where the next envelope begins only the last one says.
 pub fn check(edition: Edition, table: &Table, lengths: &mut [usize]) -> Result<usize, Fault>
     requires { length lengths.old ≡ envelopes_most }
     ensures { CheckedAs (whole_plan (edition_of edition) (cells_from table.now 0)) result lengths.new }

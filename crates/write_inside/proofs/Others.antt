@@ -1,15 +1,20 @@
 -- A kind that neither begins a parameter nor has a code that leads to it.
 use Prim.Native.Nat.{ℕ}
+use lib.Dec.{eqb}
+use mathlib.Core.Bool.{Bool, true, false}
 use mathlib.Core.List.{[]}
 use mathlib.Core.Logic.{◌⊎◌, inl, inr}
 use mathlib.Core.Path.{◌≡◌, refl, sym}
 use native.Mathlib.Omega.{arith}
 use borrow.Author.Tests.{ne_eqb}
+use denote.Enum.Bare.{sameb}
+use Rattle.meaning.specs.Kinds.{standard_representation, own_representation, from_opens}
 use Rattle.meaning.specs.Editions.{parameters, closing, moves, shared, own}
 use Rattle.meaning.specs.Writing.{way_to}
 use Rattle.meaning.specs.Told.{Edition, B, D}
 use Rattle.write_rows.specs.Rooms.{of_kind}
 use Rattle.table.specs.Kinds.{number_of}
+use Rattle.table.specs.contracts.kinds.Kind.{the_type}
 use Rattle.table.specs.declared.kinds.Kind.{Kind}
 use Rattle.table.specs.declared.kinds.Kind.TheVariants.{StandardRepresentation, OwnRepresentation, ReceivedBy, ToOpens, FromOpens, ReceiverOpens, Comments, PayloadLength, PayloadEncoding, EncryptedOpens, OwnKey, BehaviourOpens}
 use Rattle.write_inside.specs.Parameters.{Names, Represents}
@@ -45,6 +50,16 @@ pub names_kind : (k : Kind) → (k ≡ ToOpens) ⊎ ((k ≡ FromOpens) ⊎ (k �
 names_kind k (inl q) = rw q (omega arith, omega arith)
 names_kind k (inr (inl q)) = rw q (omega arith, omega arith)
 names_kind k (inr (inr q)) = rw q (omega arith, omega arith)
+
+-- the code's own tests of a kind
+pub from_kind : (k : Kind) {b : Bool} → b ≡ sameb the_type k FromOpens → b ≡ eqb (number_of k) from_opens
+from_kind k q = grind (arith, common_steps)
+
+pub standard_kind : (k : Kind) {b : Bool} → b ≡ sameb the_type k StandardRepresentation → b ≡ true → number_of k ≡ standard_representation
+standard_kind k q t = grind (arith, common_steps)
+
+pub own_kind : (k : Kind) {b : Bool} → b ≡ sameb the_type k StandardRepresentation → b ≡ false → Represents (number_of k) → number_of k ≡ own_representation
+own_kind k q t r = grind (arith, common_steps)
 
 -- a number that is no kind's
 pub no_kind : (k : ℕ) → ((kind : Kind) → number_of kind ≡ k → ⊥) → OtherKind k

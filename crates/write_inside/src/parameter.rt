@@ -100,7 +100,7 @@ pub fn naming(
         return Ok(None);
     };
     let k = i + 1;
-    let one = kind.number() == Kind::FromOpens.number();
+    let one = kind == Kind::FromOpens;
     begun(agents(table, k, one, edition, output, p))
 }
 
@@ -116,7 +116,7 @@ pub fn represented(
     ensures { (edition : Told.Edition) → FoundAt edition table.now i output.old at result output.new }
 {
     let p = put(output, at, 0x04);
-    if kind.number() == Kind::StandardRepresentation.number() {
+    if kind == Kind::StandardRepresentation {
         return begun(needed(standard(table, i, output, p), i));
     }
     let own = text(

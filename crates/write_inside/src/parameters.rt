@@ -60,7 +60,7 @@ fn by_kind(
 }
 
 // Lays every parameter from row `from` on, and the 01. Answers the first row that begins none, and the place behind the 01.
-// Refuses what a parameter does.
+// Refuses what a parameter does. A `while let`, and no chain over the rows: where the next one begins only the last one says.
 pub fn parameters(
     table: &Table,
     from: usize,

@@ -160,7 +160,7 @@ fn agent(
 }
 
 // "Agent list: agents, then 01"; or the one agent of `from`. Lays it from row `from` on. Answers the row and the place behind it.
-// Refuses what a turn of the list does.
+// Refuses what a turn of the list does. A loop, and no chain over the rows: row, place and level of the next turn only the last one says.
 pub fn agents(
     table: &Table,
     from: usize,

@@ -25,6 +25,9 @@ use Rattle.write_rows.specs.Codes.{date_code, block_bytes}
 use Rattle.write_rows.specs.Rooms.{of_kind, standards, own_among, NotAmong}
 use Rattle.write_rows.specs.Stages.{IsSought, RowTaken}
 use Rattle.table.specs.Kinds.{number_of}
+use Rattle.table.specs.contracts.kinds.Kind.{the_type}
+use denote.Enum.Bare.{sameb}
+use Rattle.std.proofs.lemmas.Grind.{common_steps}
 use Rattle.table.specs.declared.kinds.Kind.{Kind}
 use Rattle.table.specs.declared.kinds.Kind.TheVariants.{DateAbsolute, DateForward, DateBackward}
 use Rattle.table.specs.declared.rows.Ahead.{Ahead}
@@ -225,6 +228,10 @@ module _ (v : List ℕ) where
           at : (o : Option ℕ) → dated o kind (eqb (length v) 10) n ≡ none
           at None = refl
           at (Some code) = ap (λ (b : Bool). pick b (hit (on code ▸ kind ▸ date (reaching (eqb kind 5)) (eqb (length v) 10) ▸ n)) none) q
+
+-- the code's own test of a kind
+pub absolute_kind : (k : Kind) {b : Bool} → b ≡ sameb the_type k DateAbsolute → b ≡ eqb (number_of k) 5
+absolute_kind k q = grind (arith, common_steps)
 
 -- a number that is no kind's is no date's
 pub date_of_none : (edition : Edition) (n : Next) (v : List ℕ) (kind : ℕ) → ((k : Kind) → number_of k ≡ kind → ⊥) → find (takes v) (of_kind kind (dates_of edition n)) ≡ none

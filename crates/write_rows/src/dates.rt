@@ -54,7 +54,7 @@ pub fn date(
     let bytes = table.view(&r);
     let designated = bytes.len() == 10;
     let code = date_code(kind, designated, edition)?;
-    let absolute = r.kind == Kind::DateAbsolute.number();
+    let absolute = kind == Kind::DateAbsolute;
     let form = Form {
         absolute,
         designated,

@@ -41,6 +41,7 @@ pub fn extras(
 }
 
 // The same, extra by extra, for whoever looks for no row ahead. It is kept out of its callers, so that these stay short.
+// A loop, and no chain over the rows: where the next extra is laid only the last one says, and each may be the last.
 #[inline(never)]
 pub fn some_extras(
     table: &Table,

@@ -1,5 +1,6 @@
 // Bytes laid into the part that is lent, or counted where it has no room: so the same functions measure and write.
 // The count stops at an envelope's limit: no sum wraps, whatever the rows view.
+// It goes on past what `output` has room for, so `at` is no place in a slice, and the two are passed side by side.
 ghost use Rattle.std.specs.Prelude.{◌≡◌, ◌-◌, ◌≤◌, length, take};
 ghost use Rattle.std.proofs.lemmas.List.Edits.{sets};
 ghost use Rattle.table.specs.Codes.{code_number};

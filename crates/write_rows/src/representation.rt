@@ -21,7 +21,7 @@ pub fn standard(table: &Table, i: usize, output: &mut [u8], at: usize) -> Option
         return None;
     }
     let b = table.pool[start];
-    if (0x10 <= b) & (b <= 0x12) {
+    if (0x10..=0x12).contains(&b) {
         return Some(put(output, at, b));
     }
     None

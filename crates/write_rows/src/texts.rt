@@ -17,6 +17,7 @@ use values::text::Rule;
 
 // "In a list of texts, 01 where an item would begin ends the list": lays every text of this kind and level from row `from` on,
 // and the 01. Answers the first row that is none of them, and the place behind the 01. It refuses nothing: a list may be empty.
+// A `while let`, and no chain over the rows: where the next text is laid only the last one says, and each may be the list's end.
 // It is kept out of its callers, so that the text's own test is put in place here.
 #[inline(never)]
 pub fn texts(

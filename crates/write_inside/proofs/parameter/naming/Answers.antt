@@ -5,6 +5,7 @@ use Rattle.write_rows.specs.Onward.{leading}
 use Rattle.write_rows.specs.Laying.{laid_layable}
 use Rattle.write_inside.proofs.Choosing.{after_first, parameter_row, tried_move}
 use Rattle.meaning.specs.Kinds.{from_opens}
+use Rattle.write_inside.proofs.Others.{from_kind}
 use Rattle.write_inside.proofs.Rooms.{agents_begin, names_first, names_shallow}
 use Rattle.write_inside.specs.Parameters.{agents_next, naming_move}
 use Rattle.std.specs.Prelude.{None, Some}
@@ -32,5 +33,5 @@ returns c =
     let in_there = names_first (edition_of a.edition) c.requires.1 in
     let first = tried_move kind (agents_next one) _ _ _ _ _ (Some c.in-Some.p) _ c.naming_code.ensures (c.in-Some.ensures (agents_next one)) in
     let opening = parameter_row (edition_of a.edition) _ _ (naming_move kind) in_there.is (names_shallow c.requires.1) first in
-    let agents = rw (c.number.ensures, c.number-2.ensures) at c.agents.ensures in
+    let agents = rw (from_kind a.kind c.eq-one.ensures) at c.agents.ensures in
     after_first (edition_of a.edition) _ c.requires.0.layable.small (leading (agents_begin one) opening) c.agents.result _ agents c.begun.ensures

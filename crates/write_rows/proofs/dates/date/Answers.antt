@@ -5,8 +5,9 @@ use Rattle.table.specs.Told.{edition_of}
 use Rattle.write_rows.specs.Laying.{laid_then}
 use Rattle.write_rows.specs.Onward.{tried_as}
 use Rattle.write_rows.specs.Rooms.{NotAmong}
-use Rattle.write_rows.proofs.Forms.{ahead_none, date_of_none, date_taken, date_unknown, date_wrong}
-use mathlib.Core.Path.{◌∙◌, refl, sym}
+use Rattle.write_rows.proofs.Forms.{absolute_kind, ahead_none, date_of_none, date_taken, date_unknown, date_wrong}
+use lib.Dec.{eqb}
+use mathlib.Core.Path.{◌≡◌, ◌∙◌, refl, sym}
 use native.Mathlib.Omega.{arith}
 use Rattle.write_rows.proofs.dates.date.Goals as goal
 
@@ -23,10 +24,12 @@ returns-in_err-code c n =
 
 pub returns-then-date_ok : goal.returns-then-date_ok
 returns-then-date_ok c n =
-    let ok = rw (c.number.ensures, c.view-bytes.ensures) at (sym c.date_ok.ensures ∙ c.if-date_ok.true) in
+    let is : c.eq-absolute.result ≡ eqb c.in_ok-r.r.kind 5 = rw (← c.in-Ok.ensures) (absolute_kind c.in-Ok.kind c.eq-absolute.ensures) in
+    let ok = rw (is, c.view-bytes.ensures) at (sym c.date_ok.ensures ∙ c.if-date_ok.true) in
     date_taken (edition_of c.args.edition) c.args.level n _ c.in_ok-r.ensures c.if-r-level.false (rw (← c.in-Ok.ensures, ← c.view-bytes.ensures) c.in_ok-code.ensures) (omega arith) ok (rw c.view-bytes.ensures at (laid_then c.put-p.ensures c.requires.layable.small c.copy.ensures))
 
 pub returns : goal.returns
 returns c n =
-    let wrong = rw (c.number.ensures, c.view-bytes.ensures) at (sym c.date_ok.ensures ∙ c.if-date_ok.false) in
+    let is : c.eq-absolute.result ≡ eqb c.in_ok-r.r.kind 5 = rw (← c.in-Ok.ensures) (absolute_kind c.in-Ok.kind c.eq-absolute.ensures) in
+    let wrong = rw (is, c.view-bytes.ensures) at (sym c.date_ok.ensures ∙ c.if-date_ok.false) in
     (refl, ahead_none (dates_of (edition_of c.args.edition) n) c.args.level c.in_ok-r.ensures (λ q. date_wrong _ n (edition_of c.args.edition) c.in_ok-r.r.kind wrong))

@@ -6,6 +6,8 @@ use Rattle.write_rows.specs.Onward.{tried_as}
 use Rattle.write_rows.specs.Rooms.{standards}
 use Rattle.write_rows.proofs.Forms.{standard_none, standard_other, standard_taken, unpicked, view_length}
 use Rattle.std.specs.Prelude.{None}
+use Rattle.std.proofs.lemmas.Grind.{common_steps}
+use native.Mathlib.Omega.{arith}
 use borrow.Author.Tests.{ne_eqb}
 use mathlib.Core.List.{[]}
 use mathlib.Core.Path.{◌∙◌, refl, sym}
@@ -21,8 +23,8 @@ returns-then-r-start-ne1 c n =
     let sought = c.in_ok-r.ensures in
     (refl, unpicked (standards n) 0 standard_representation 0 _ refl sought.row (standard_none n _ (λ q. c.if-r-start-ne1.true (sym (view_length sought) ∙ q))))
 
-pub returns-then-b : goal.returns-then-b
-returns-then-b c n = standard_taken n c.in_ok-r.ensures c.if-r-start-ne1.false c.if-b.true c.put.ensures
+pub returns-then-contains : goal.returns-then-contains
+returns-then-contains c n = standard_taken n c.in_ok-r.ensures c.if-r-start-ne1.false (grind (arith, common_steps)) c.put.ensures
 
 pub returns : goal.returns
-returns c n = (refl, standard_other n c.in_ok-r.ensures c.if-r-start-ne1.false c.if-b.false)
+returns c n = (refl, standard_other n c.in_ok-r.ensures c.if-r-start-ne1.false (grind (arith, common_steps)))
