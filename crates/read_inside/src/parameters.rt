@@ -112,16 +112,7 @@ fn open_behaviour(s: &[u8], from: Reached, rows: &mut [u32], told: Told) -> Stag
     ensures { OpenedReadAt (told_of told) s.now behaviour_opens (state behaviour_value 0 false) from rows.old result (state parameters 0 false) rows.new }
 {
     let opened = rows::open(rows, from, Kind::BehaviourOpens, 0);
-    in_parts(behaviour_value(s, opened, rows, told))
-}
-
-// The any-value of a transport behaviour. It is kept out of its caller, so that the way of every other parameter stays short.
-#[inline(never)]
-fn behaviour_value(s: &[u8], from: Reached, rows: &mut [u32], told: Told) -> Stage
-    requires { ReadyAt s.now from }
-    ensures { StateReadAt (told_of told) s.now (state behaviour_value 0 false) from rows.old result (state parameters 0 false) rows.new }
-{
-    rows::any(s, from, rows, 0, told)
+    rows::behaviour(s, opened, rows, told)
 }
 
 // "08 encrypted, texts then 01 (B only)", from the code on; in D the code is refused.

@@ -38,13 +38,23 @@ pub fn number(s: &[u8], from: Reached, rows: &mut [u32]) -> Stage
     keep(v, rows, from.rows, 0)
 }
 
-// An any-value, whose row has this level.
+// An any-value, whose row has this level. It is put in place where it is called.
+#[inline(always)]
 pub fn any(s: &[u8], from: Reached, rows: &mut [u32], level: u32, told: Told) -> Stage
     requires { ReadyAt s.now from }
     ensures { (q d : State) → Shaped (told_of told) q d level 7 any_values → StateReadAt (told_of told) s.now q from rows.old result d rows.new }
 {
     let v = values::any::take(s, from.at, told);
     keep(v, rows, from.rows, level)
+}
+
+// The same of a transport behaviour, whose row has level 0.
+pub fn behaviour(s: &[u8], from: Reached, rows: &mut [u32], told: Told) -> Stage
+    requires { ReadyAt s.now from }
+    ensures { (q d : State) → Shaped (told_of told) q d 0 7 any_values → StateReadAt (told_of told) s.now q from rows.old result d rows.new }
+{
+    let v = values::any::take_in_place(s, from.at, told);
+    keep(v, rows, from.rows, 0)
 }
 
 // A representation.

@@ -35,6 +35,52 @@ pub fn take(s: &[u8], at: usize, told: Told) -> Value
     }
 }
 
+// The same for a transport behaviour; bytes behind a short length are taken without a call. With `take_called` and `in_parts` it stands beside
+// `take` for speed: with `take` alone, put in place or called, an envelope full of behaviours took 60 in 100 more instructions.
+pub fn take_in_place(s: &[u8], at: usize, told: Told) -> Value
+    requires { Within s.now at }
+    ensures { CodedAt (told_of told) any_values 7 s.now at result }
+{
+    let end = s.len();
+    if at < end {
+        if s[at] == 0x16 {
+            return block(s, at, 1, told);
+        }
+        if s[at] == 0x17 {
+            return block(s, at, 2, told);
+        }
+    }
+    take_called(s, at, told)
+}
+
+// The same behind a call. A function of its own, so that bytes behind a short length are never handed through memory.
+fn take_called(s: &[u8], at: usize, told: Told) -> Value
+    requires { Within s.now at }
+    ensures { CodedAt (told_of told) any_values 7 s.now at result }
+{
+    in_parts(take(s, at, told))
+}
+
+// Takes a value's answer. Answers the same, put together again from its parts: what a call left in memory goes on in registers.
+fn in_parts(v: Value) -> Value
+    ensures { result ≡ v }
+{
+    match v {
+        Value::Is {
+            kind,
+            start,
+            length,
+            after,
+        } => Value::Is {
+            kind: kind,
+            start: start,
+            length: length,
+            after: after,
+        },
+        Value::Refused(fault) => Value::Refused(fault),
+    }
+}
+
 // Bytes behind a length of so many bytes. "11 comes after the length bytes, before the block", at the code.
 fn block(s: &[u8], at: usize, width: usize, told: Told) -> Value
     requires { BlockWithin s.now at width }
