@@ -17,7 +17,7 @@
        return 0;
 
    Threads: there is no state, and no memory but what is lent; any number of calls may run at once.
-   Stack: at most 2,712 bytes, in gamulisyan_relay, by the frames of its machine code; docs/BENCHMARK.md has each entry's.
+   Stack: at most 1,776 bytes, in gamulisyan_figures_report, by the frames of its machine code; docs/BENCHMARK.md has each entry's.
    Needs: an x86-64 processor with SSE2, which all have, memcpy and memset. No other function, no file, no allocation, no thread-local memory.
    Size: 49 KB of code and constants; linked with -Wl,--gc-sections, 12 KB for gamulisyan_read alone and 32 KB with gamulisyan_write.
    Memory: a header made to hurt has a row for nearly each of its bytes, so 20 bytes of rows for a byte of input: for the longest

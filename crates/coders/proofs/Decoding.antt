@@ -19,8 +19,6 @@ use Rattle.values.specs.Answers.{valued_at, valued_refused}
 use Rattle.values.specs.Numbers.{counts, tally, tallied, Counted}
 use Rattle.std.specs.Prelude.{Result, Ok, Err, ltb}
 use Rattle.table.specs.declared.answers.Fault.{Fault}
-use Rattle.table.specs.declared.kinds.Kind.{Kind}
-use Rattle.table.specs.Kinds.{number_of}
 use Rattle.date.specs.Dates.{reaching, value_by}
 use Rattle.coders.specs.declared.decode.DecodedDate.{DecodedDate}
 use Rattle.coders.specs.Plain.{NumberDecodes, DateDecodes, DecodesReach, plain_of, unread_at, undecoded_at}
@@ -140,7 +138,7 @@ module _ (s : List ℕ) (isAbsolute : Bool) where
       at false false = omega arith
 
   -- what the stage answered
-  module _ (k : Kind) {r : Result ℕ Fault} (v : Valued s (length s) 0 (number_of k) 0 (take_date checks [] (from s 0 (length s))) (value_by k 0 r)) where
+  module _ (k : ℕ) {r : Result ℕ Fault} (v : Valued s (length s) 0 k 0 (take_date checks [] (from s 0 (length s))) (value_by k 0 r)) where
     pub undated : {fault : Fault} → r ≡ Err fault → DecodesReach (dated (reaching isAbsolute)) s (undecoded_at fault.at)
     undated {fault} h =
         let p = valued_refused (rw h at v) refl in

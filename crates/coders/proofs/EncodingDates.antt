@@ -12,8 +12,6 @@ use Rattle.meaning.specs.Bytes.{Taken, took, failed, prefixed, Check, letter, pa
 use Rattle.meaning.specs.Plain.{Date, outcome, encode_outcome, encode_memory, Reached, dated, reach_of, reach_allows, designated, fits_digits, pair_byte, date_bytes, date_in_range, date_encoded, date_output}
 use Rattle.std.specs.Prelude.{Result, Ok, Err, is_err}
 use Rattle.table.specs.declared.answers.Fault.{Fault}
-use Rattle.table.specs.declared.kinds.Kind.{Kind}
-use Rattle.table.specs.Kinds.{number_of}
 use Rattle.coders.specs.declared.encode.Encoded.{Encoded}
 use Rattle.values.specs.Stages.{span, spans, misses, rest, ValuedAt}
 use Rattle.values.specs.Answers.{valued_at, valued_refused}
@@ -133,7 +131,7 @@ module _ (d : Date) (isAbsolute : Bool) {many : ℕ} {array : List ℕ} (hm : ma
   ok_here = ok_taken checks [] (date_bytes d) (omega (arith, many_long, hm, (long_by d isAbsolute (designated d)).1)) ∙ ap is_taken (sym taken_here)
 
   -- the stage's answer over those bytes, as a date of any kind
-  module _ (k : Kind) (r : Result ℕ Fault) (v : ValuedAt (take many array) 0 (number_of k) 0 taken (value_by k 0 r)) where
+  module _ (k : ℕ) (r : Result ℕ Fault) (v : ValuedAt (take many array) 0 k 0 taken (value_by k 0 r)) where
     date_allowed : Fits d ≡ true → {after : ℕ} → r ≡ Ok after → reach_allows d (dated (reaching isAbsolute)) ≡ true
     date_allowed f h =
         let p = valued_at (rw h at v) refl in

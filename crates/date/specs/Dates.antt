@@ -7,7 +7,6 @@ use Rattle.meaning.specs.Editions.{Next, Move, date, shared_date, own_dates, on�
 use Rattle.meaning.specs.Reading.{look, none, hit}
 use Rattle.date.specs.declared.Dated.{Dated}
 use Rattle.table.specs.declared.answers.Fault.{Fault}
-use Rattle.table.specs.declared.kinds.Kind.{Kind}
 use Rattle.table.specs.Kinds.{number_of}
 use Rattle.values.specs.declared.Value.{Value}
 use Rattle.values.specs.declared.Value.TheVariants.{Is, Refused}
@@ -48,7 +47,7 @@ abbrev pub dates_of : Edition → Next → List Move
 dates_of e n = shared_date n ++ own_dates e n
 
 -- the date whose bytes at a place were read, as a value of a kind
-abbrev pub value_by : Kind → ℕ → Result ℕ Fault → Value
+abbrev pub value_by : ℕ → ℕ → Result ℕ Fault → Value
 value_by kind at (Ok after) = Is kind at (after - at) after
 value_by kind at (Err fault) = Refused fault
 

@@ -6,8 +6,6 @@ ghost use Rattle.meaning.specs.Basics.{pick};
 ghost use Rattle.meaning.specs.Bytes.{pair_within, passes, half, letter, is_leap, last_day, last_day_after, date_checks, take_date};
 ghost use Rattle.meaning.specs.Told.{Told, B, D};
 ghost use Rattle.table.specs.Told.{edition_of};
-ghost use Rattle.table.specs.Kinds.{number_of};
-ghost use Rattle.table.specs.declared.kinds.Kind as declared;
 ghost use Rattle.values.specs.Stages.{Coded, Within, ValuedAt, CodedAt, rest};
 ghost use Rattle.date.specs.Dates.{value_by, reaching, absolute_check, check_at, earlier, date_length, Passing, DateCode, dates_of};
 
@@ -47,7 +45,7 @@ pub fn take(s: &[u8], at: usize, edition: Edition) -> Value
     let first = at + 1;
     match bytes(s, first, dated.form) {
         Ok(after) => Value::Is {
-            kind: dated.kind,
+            kind: dated.kind.number(),
             start: first,
             length: after - first,
             after: after,
@@ -56,10 +54,12 @@ pub fn take(s: &[u8], at: usize, edition: Edition) -> Value
     }
 }
 
-// The nine bytes of a date, and its designator. Answers the place behind them, or the refusal.
+// The nine bytes of a date, and its designator. Answers the place behind them, or the refusal. It is put in place where it is called: behind a call the
+// date decoder took a quarter more stack.
+#[inline(always)]
 pub fn bytes(s: &[u8], at: usize, form: Form) -> Result<usize, Fault>
     requires { Within s.now at }
-    ensures { (kind : declared.Kind) → ValuedAt s.now at (number_of kind) 0 (take_date (date_checks (reaching form.absolute) form.designated) [] (rest s.now at)) (value_by kind at result) }
+    ensures { (kind : ℕ) → ValuedAt s.now at kind 0 (take_date (date_checks (reaching form.absolute) form.designated) [] (rest s.now at)) (value_by kind at result) }
 {
     let end = s.len();
     let length = length_of(form.designated);

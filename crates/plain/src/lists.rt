@@ -4,7 +4,7 @@ ghost use Rattle.plain.specs.declared.lists.ListKind.TheVariants.{Many, Resolver
 ghost use Rattle.plain.specs.Nested.{Nested};
 
 // "agent level 8"; "a level 8 agent may open an empty resolver list": a ninth.
-const LISTS_MOST: usize = 9;
+pub const LISTS_MOST: usize = 9;
 
 // What an open list is: a parameter's list of agents or a received object, the one agent of `from`, or resolvers.
 #[derive(Clone, Copy, PartialEq, Eq)]

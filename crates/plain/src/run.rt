@@ -44,7 +44,7 @@ pub fn run_inside(s: &[u8], from: Reached, rows: &mut [u32], base: bool, told: T
             }
             Fed::Ends { of, length } => {
                 let level = engine.standing.lists.level();
-                put_row(rows, here.rows, of.kind, level, of.start, length);
+                put_row(rows, here.rows, of.kind.number(), level, of.start, length);
                 engine = engine.behind(of.next);
                 reached = Reached {
                     at: here.at + 1,

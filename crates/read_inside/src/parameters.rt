@@ -53,9 +53,16 @@ fn read_parameter(s: &[u8], from: Reached, rows: &mut [u32], code: u8, told: Tol
         0x02 => open_list(s, from, rows, Kind::ToOpens, told),
         0x03 => open_one(s, from, rows, told),
         0x04 => rows::representation(s, from.passed(), rows),
-        0x05 => rows::text(s, from.passed(), rows, Kind::Comments, Rule::Note, 0),
+        0x05 => rows::text(s, from.passed(), rows, Kind::Comments as u32, Rule::Note, 0),
         0x06 => rows::number(s, from.passed(), rows),
-        0x07 => rows::text(s, from.passed(), rows, Kind::PayloadEncoding, Rule::Line, 0),
+        0x07 => rows::text(
+            s,
+            from.passed(),
+            rows,
+            Kind::PayloadEncoding as u32,
+            Rule::Line,
+            0,
+        ),
         0x08 => open_encrypted(s, from, rows, told),
         0x09 => open_list(s, from, rows, Kind::ReceiverOpens, told),
         0x0a => received_object(s, from.passed(), rows, told),
@@ -77,11 +84,11 @@ fn own_parameter(s: &[u8], from: Reached, rows: &mut [u32]) -> Stage
     requires { ReadyAt s.now from }
     ensures { (t : meaning.Told) → TextReadAt t s.now own_key line 0 (state own_text 0 false) from rows.old result (state parameters 0 false) rows.new }
 {
-    let key = rows::text(s, from, rows, Kind::OwnKey, Rule::Line, 0);
+    let key = rows::text(s, from, rows, Kind::OwnKey as u32, Rule::Line, 0);
     let Stage::Go(behind_key) = key else {
         return key;
     };
-    rows::text(s, behind_key, rows, Kind::OwnValue, Rule::Note, 0)
+    rows::text(s, behind_key, rows, Kind::OwnValue as u32, Rule::Note, 0)
 }
 
 // "02 `to`, agent list"; "09 intended receiver, agent list", from the code on. The opening row has this kind.
@@ -124,5 +131,5 @@ fn open_encrypted(s: &[u8], from: Reached, rows: &mut [u32], told: Told) -> Stag
         return Stage::Refused(Refusal::CodeWrong.at(from.at));
     };
     let opened = rows::open(rows, from, Kind::EncryptedOpens, 0);
-    texts::texts(s, opened, rows, Kind::EncryptedItem, 0)
+    texts::texts(s, opened, rows, Kind::EncryptedItem as u32, 0)
 }

@@ -26,8 +26,10 @@ const ADDRESSES: u8 = 0x02;
 
 const RESOLVERS: u8 = 0x03;
 
-// "Agent list: agents, then 01", the agents of this level; "12: agent of level 9, its 02".
+// "Agent list: agents, then 01", the agents of this level; "12: agent of level 9, its 02". It is put into the agent: as two frames for each level, eight
+// levels took two thirds more stack and a fifth more instructions.
 #[cycle(read_agent_read_list)]
+#[inline(always)]
 pub fn read_list(s: &[u8], from: Reached, rows: &mut [u32], level: u32, told: Told) -> Stage
     requires { (ReadyAt s.now from) × (1 ≤ level) × (level ≤ 9) }
     ensures { (single : Bool) → InList level single →
@@ -96,7 +98,7 @@ fn name_and_addresses(s: &[u8], from: Reached, rows: &mut [u32], level: u32) -> 
     ensures { (t : meaning.Told) (single : Bool) →
         TextReadAt t s.now agent_name line level (state after_name level single) from rows.old result (state after_addresses level single) rows.new }
 {
-    let name = rows::text(s, from, rows, Kind::AgentName, Rule::Line, level);
+    let name = rows::text(s, from, rows, Kind::AgentName as u32, Rule::Line, level);
     let Stage::Go(behind_name) = name else {
         return name;
     };
@@ -104,7 +106,7 @@ fn name_and_addresses(s: &[u8], from: Reached, rows: &mut [u32], level: u32) -> 
         return name;
     }
     let opened = rows::open(rows, behind_name, Kind::AddressesOpen, level);
-    texts::texts(s, opened, rows, Kind::Address, level)
+    texts::texts(s, opened, rows, Kind::Address as u32, level)
 }
 
 // An agent's extras, most often none, and its 01.
@@ -117,5 +119,5 @@ fn behind_resolvers(s: &[u8], from: Reached, rows: &mut [u32], level: u32, told:
         return Stage::Go(from.passed());
     }
     let code = agent_extra(told.edition);
-    in_parts(texts::extras(s, from, rows, code, level, told))
+    in_parts(texts::extras(s, from, rows, u32::from(code), level, told))
 }

@@ -18,7 +18,7 @@ pub fn read_received(s: &[u8], from: Reached, rows: &mut [u32], told: Told) -> S
     requires { ReadyAt s.now from }
     ensures { StateReadAt (told_of told) s.now (state received_begins 0 false) from rows.old result (state parameters 0 false) rows.new }
 {
-    let by = rows::text(s, from, rows, Kind::ReceivedBy, Rule::Line, 0);
+    let by = rows::text(s, from, rows, Kind::ReceivedBy as u32, Rule::Line, 0);
     let Stage::Go(behind_by) = by else {
         return by;
     };
@@ -34,15 +34,15 @@ fn behind_date(s: &[u8], date: Reached, rows: &mut [u32], told: Told) -> Stage
     requires { ReadyAt s.now date }
     ensures { StateReadAt (told_of told) s.now (state after_date 1 false) date rows.old result (state parameters 0 false) rows.new }
 {
-    let from = texts::optional(s, date, rows, 0x02, Kind::ReceivedFrom, 1);
+    let from = texts::optional(s, date, rows, 0x02, Kind::ReceivedFrom as u32, 1);
     let Stage::Go(behind_from) = from else {
         return from;
     };
-    let id = texts::optional(s, behind_from, rows, 0x03, Kind::ReceivedId, 1);
+    let id = texts::optional(s, behind_from, rows, 0x03, Kind::ReceivedId as u32, 1);
     let Stage::Go(behind_id) = id else {
         return id;
     };
-    let via = texts::optional(s, behind_id, rows, 0x04, Kind::ReceivedVia, 1);
+    let via = texts::optional(s, behind_id, rows, 0x04, Kind::ReceivedVia as u32, 1);
     let Stage::Go(after_via) = via else {
         return via;
     };
@@ -61,5 +61,5 @@ fn behind_via(s: &[u8], from: Reached, rows: &mut [u32], told: Told) -> Stage
     let Some(code) = received_extra(told.edition) else {
         return fault(b, from.at);
     };
-    texts::extras(s, from, rows, code, 1, told)
+    texts::extras(s, from, rows, u32::from(code), 1, told)
 }

@@ -14,7 +14,6 @@ use Rattle.table.specs.declared.answers.Reached.{Reached}
 use Rattle.table.specs.declared.answers.Stage.{Stage}
 use Rattle.table.specs.declared.answers.Stage.TheVariants.{Go, Refused}
 use Rattle.table.specs.declared.refusals.Refusal.TheVariants.{CodeWrong, EnvelopeEnds}
-use Rattle.table.specs.Kinds.{number_of}
 use Rattle.table.specs.Refusals.{answer_of}
 
 -- "either a value with the place after it, or a refusal": what each case of the enum says, in the state q with the memory m
@@ -77,7 +76,7 @@ goes_on (value.Is kind start len after) n = Go (record { at = after; rows = n + 
 goes_on (value.Refused fault) n = Refused fault
 
 abbrev pub keeps : Value → ℕ → ℕ → List ℕ → List ℕ
-keeps (value.Is kind start len after) n level m = put m n (number_of kind) level start len
+keeps (value.Is kind start len after) n level m = put m n kind level start len
 keeps (value.Refused fault) n level m = m
 
 -- numbers of a row that fit u32

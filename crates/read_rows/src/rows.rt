@@ -21,9 +21,9 @@ use values::Value;
 use values::text::Rule;
 
 // A text by its rule, whose row has this kind and level.
-pub fn text(s: &[u8], from: Reached, rows: &mut [u32], kind: Kind, rule: Rule, level: u32) -> Stage
+pub fn text(s: &[u8], from: Reached, rows: &mut [u32], kind: u32, rule: Rule, level: u32) -> Stage
     requires { ReadyAt s.now from }
-    ensures { (t : meaning.Told) (q : State) → TextReadAt t s.now (number_of kind) (rule_of rule) level q from rows.old result q rows.new }
+    ensures { (t : meaning.Told) (q : State) → TextReadAt t s.now kind (rule_of rule) level q from rows.old result q rows.new }
 {
     let v = values::text::take(s, from.at, kind, rule);
     keep(v, rows, from.rows, level)
@@ -106,7 +106,7 @@ pub fn open(rows: &mut [u32], from: Reached, kind: Kind, level: u32) -> Reached
     ensures rows { result.rows ≡ from.rows + 1 }
     ensures put { rows.new ≡ put rows.old from.rows (number_of kind) level from.at 0 }
 {
-    put_row(rows, from.rows, kind, level, from.at, 0);
+    put_row(rows, from.rows, kind.number(), level, from.at, 0);
     Reached {
         at: from.at + 1,
         rows: from.rows + 1,

@@ -5,7 +5,6 @@ ghost use Rattle.meaning.specs.Kinds.{extra_key};
 ghost use Rattle.meaning.specs.Told as meaning;
 ghost use Rattle.meaning.specs.Editions.{State, any_values};
 ghost use Rattle.laws_steps.specs.Shapes.{Shaped, Texts, Optional, Extras};
-ghost use Rattle.table.specs.Kinds.{number_of};
 ghost use Rattle.table.specs.Told.{told_of};
 ghost use Rattle.read_rows.specs.Stages.{ReadyAt, StateReadAt, TextReadAt};
 
@@ -18,16 +17,9 @@ use table::told::Told;
 use values::text::Rule;
 
 // A line that may be left out, from its code on. Where another byte stands, nothing is taken and no row changes.
-pub fn optional(
-    s: &[u8],
-    from: Reached,
-    rows: &mut [u32],
-    code: u8,
-    kind: Kind,
-    level: u32,
-) -> Stage
+pub fn optional(s: &[u8], from: Reached, rows: &mut [u32], code: u8, kind: u32, level: u32) -> Stage
     requires { ReadyAt s.now from }
-    ensures { (t : meaning.Told) (q d : State) → Optional t q d code (number_of kind) level → StateReadAt t s.now q from rows.old result d rows.new }
+    ensures { (t : meaning.Told) (q d : State) → Optional t q d code kind level → StateReadAt t s.now q from rows.old result d rows.new }
 {
     if peek(s, from.at) != Some(code) {
         return Stage::Go(from);
@@ -36,9 +28,9 @@ pub fn optional(
 }
 
 // Lines of one kind and level, and the 01 behind them: "In a list of texts, 01 where an item would begin ends the list."
-pub fn texts(s: &[u8], from: Reached, rows: &mut [u32], kind: Kind, level: u32) -> Stage
+pub fn texts(s: &[u8], from: Reached, rows: &mut [u32], kind: u32, level: u32) -> Stage
     requires { ReadyAt s.now from }
-    ensures { (t : meaning.Told) (q d : State) → Texts t q d (number_of kind) level → StateReadAt t s.now q from rows.old result d rows.new }
+    ensures { (t : meaning.Told) (q d : State) → Texts t q d kind level → StateReadAt t s.now q from rows.old result d rows.new }
 {
     let mut here = from;
     loop {
@@ -53,18 +45,22 @@ pub fn texts(s: &[u8], from: Reached, rows: &mut [u32], kind: Kind, level: u32) 
     }
 }
 
-// Extras with this code, and the 01 behind them. Most often there are none: whoever calls looks for the 01 first.
-pub fn extras(s: &[u8], from: Reached, rows: &mut [u32], code: u8, level: u32, told: Told) -> Stage
-    requires { ReadyAt s.now from }
+// Extras with this code, and the 01 behind them. A code above 256 is no byte: there are no extras. Most often there are none: whoever calls looks for the
+// 01 first.
+pub fn extras(s: &[u8], from: Reached, rows: &mut [u32], code: u32, level: u32, told: Told) -> Stage
+    requires { (ReadyAt s.now from) × (code ≡ 256 → ⊥) }
     ensures { (q any d : State) → Extras (told_of told) q any d code level → StateReadAt (told_of told) s.now q from rows.old result d rows.new }
 {
     let mut here = from;
     loop {
         let b = peek(s, here.at);
-        if b == Some(CLOSING) {
+        let Some(found) = b else {
+            return fault(b, here.at);
+        };
+        if found == CLOSING {
             return Stage::Go(here.passed());
         }
-        if b != Some(code) {
+        if u32::from(found) != code {
             return fault(b, here.at);
         }
         let r = extra(s, here.passed(), rows, level, told);
@@ -80,7 +76,7 @@ fn extra(s: &[u8], from: Reached, rows: &mut [u32], level: u32, told: Told) -> S
     requires { ReadyAt s.now from }
     ensures { (q d : State) → Shaped (told_of told) q d level 7 any_values → TextReadAt (told_of told) s.now extra_key line level q from rows.old result d rows.new }
 {
-    let key = rows::text(s, from, rows, Kind::ExtraKey, Rule::Line, level);
+    let key = rows::text(s, from, rows, Kind::ExtraKey as u32, Rule::Line, level);
     let Stage::Go(behind_key) = key else {
         return key;
     };

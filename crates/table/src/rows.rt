@@ -3,10 +3,7 @@ ghost use Rattle.std.specs.Prelude.{◌≡◌, eqb, ◌+◌, ◌*◌, ◌/◌, �
 ghost use Rattle.meaning.specs.Memory.{row_width, room_of};
 ghost use Rattle.laws_steps.specs.Rows.{put};
 ghost use Rattle.laws_steps.specs.Hopping.{given_at};
-ghost use Rattle.table.specs.Kinds.{number_of};
 ghost use Rattle.table.specs.Rows.{u32_most, RowIs, AheadIs};
-
-use crate::kinds::Kind;
 
 pub const ROW_NUMBERS: usize = 5;
 
@@ -43,13 +40,13 @@ pub fn whole(numbers: usize) -> bool
 }
 
 // Row n of `rows` but its skip number, which stays, where there is room for it; else nothing changes.
-pub fn put_row(rows: &mut [u32], n: usize, kind: Kind, level: u32, start: usize, length: usize)
+pub fn put_row(rows: &mut [u32], n: usize, kind: u32, level: u32, start: usize, length: usize)
     requires { (n ≤ u32_most) × (start ≤ u32_most) × (length ≤ u32_most) }
-    ensures { rows.new ≡ put rows.old n (number_of kind) level start length }
+    ensures { rows.new ≡ put rows.old n kind level start length }
 {
     let i = n * ROW_NUMBERS;
     if i + ROW_NUMBERS <= rows.len() {
-        rows[i] = kind.number();
+        rows[i] = kind;
         rows[i + 1] = level;
         rows[i + 2] = start as u32;
         rows[i + 3] = length as u32;

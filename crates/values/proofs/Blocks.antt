@@ -13,7 +13,6 @@ use Rattle.meaning.specs.Kinds.{any_bytes}
 use Rattle.laws_steps.specs.From.{from, from_length, from_end, from_cons}
 use Rattle.laws_steps.specs.HighFirst.{high_few, high_one, high_two, high_four}
 use Rattle.table.specs.declared.answers.Fault.{Fault}
-use Rattle.table.specs.declared.kinds.Kind.TheVariants.{AnyBytes}
 use Rattle.table.specs.declared.refusals.Refusal.TheVariants.{EnvelopeEnds, LengthFormWide}
 use Rattle.std.specs.Prelude.{Option, None, Some}
 use Rattle.values.specs.declared.Value.TheVariants.{Is, Refused}
@@ -93,7 +92,7 @@ module _ (s : List ℕ) (end at width : ℕ) (l : end ≤ length s) (b : at < en
         let e = length_to a h in
         refuses f (rw (length_is, h, sym is ∙ q) (take_short s end l value (at + 1 + width) 0 e (omega arith) ∙ ap (misses 6) (omega arith))) (omega arith)
 
-    pub block_goes : r ≡ false → value ≤ end - (at + 1 + width) → Valued s end (at + 1) any_bytes 0 (take_block t w (end - at) (from s (at + 1) end)) (Is AnyBytes (at + 1 + width) value (at + 1 + width + value))
+    pub block_goes : r ≡ false → value ≤ end - (at + 1 + width) → Valued s end (at + 1) any_bytes 0 (take_block t w (end - at) (from s (at + 1) end)) (Is any_bytes (at + 1 + width) value (at + 1 + width + value))
     unfolding take_block block_of said
     block_goes q d =
         let e = length_to a h in

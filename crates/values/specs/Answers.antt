@@ -5,9 +5,7 @@ use Rattle.std.proofs.Common.{◌∙◌, arith}
 use Rattle.meaning.specs.Bytes.{Taken, took, failed, prefixed}
 use Rattle.laws_steps.specs.From.{from}
 use Rattle.table.specs.declared.answers.Fault.{Fault}
-use Rattle.table.specs.declared.kinds.Kind.{Kind}
 use Rattle.table.specs.declared.refusals.Refusal.{Refusal}
-use Rattle.table.specs.Kinds.{number_of}
 use Rattle.table.specs.Refusals.{answer_of}
 use Rattle.values.specs.declared.Value.{Value}
 use Rattle.values.specs.declared.Value.TheVariants.{Is, Refused}
@@ -18,7 +16,7 @@ span_prefixed k b (took v rest) = let q : k + suc (length v) ≡ k + 1 + length 
 span_prefixed k b (failed refusal left) = refl
 
 module _ {s : List ℕ} {end at kind back : ℕ} {taken : Taken} where
-  pub answered : {k : Kind} {start length after : ℕ} → number_of k ≡ kind → span 0 taken ≡ spans length (from s after end) → start + length + back ≡ after → at ≤ start → at < after → after ≤ end
+  pub answered : {k start length after : ℕ} → k ≡ kind → span 0 taken ≡ spans length (from s after end) → start + length + back ≡ after → at ≤ start → at < after → after ≤ end
       → Valued s end at kind back taken (Is k start length after)
   unfolding span_of Stands
   answered h q a b c d = record { is = q; stands = (h, a, b, c, d) }
@@ -27,8 +25,8 @@ module _ {s : List ℕ} {end at kind back : ℕ} {taken : Taken} where
   unfolding span_of Stands
   refuses h q a = record { is = rw h q; stands = rw h a }
 
-  pub valued_at : {r : Value} {k : Kind} {start length after : ℕ} → Valued s end at kind back taken r → r ≡ Is k start length after
-      → (span 0 taken ≡ spans length (from s after end)) × (number_of k ≡ kind) × (start + length + back ≡ after) × (at ≤ start) × (at < after) × (after ≤ end)
+  pub valued_at : {r : Value} {k start length after : ℕ} → Valued s end at kind back taken r → r ≡ Is k start length after
+      → (span 0 taken ≡ spans length (from s after end)) × (k ≡ kind) × (start + length + back ≡ after) × (at ≤ start) × (at < after) × (after ≤ end)
   unfolding span_of Stands
   valued_at a h = let p = rw h at a.stands in (a.is ∙ ap (span_of s end) h, p.0, p.1, p.2, p.3, p.4)
 

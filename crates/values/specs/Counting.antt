@@ -6,7 +6,6 @@ use Rattle.meaning.specs.Bytes.{Taken, took, failed, take_number}
 use Rattle.meaning.specs.Kinds.{payload_length}
 use Rattle.laws_steps.specs.From.{from}
 use Rattle.table.specs.declared.answers.Fault.{Fault}
-use Rattle.table.specs.declared.kinds.Kind.TheVariants.{PayloadLength}
 use Rattle.values.specs.declared.number.Number.{Number}
 use Rattle.values.specs.declared.number.Number.TheVariants.{Counts, Fails}
 use Rattle.values.specs.declared.Value.TheVariants.{Is, Refused}
@@ -35,7 +34,7 @@ module _ {s : List ℕ} {end at : ℕ} {r : Number} (a : Counted s end at r) whe
   spans_counted : span 0 (take_number 0 true (from s at end)) ≡ valueless (tallied s end at r)
   spans_counted = span_tally 0 0 (take_number 0 true (from s at end)) ∙ ap valueless a.is
 
-  pub counted_is : {value after : ℕ} → r ≡ Counts value after → Valued s end at payload_length 0 (take_number 0 true (from s at end)) (Is PayloadLength at (after - at) after)
+  pub counted_is : {value after : ℕ} → r ≡ Counts value after → Valued s end at payload_length 0 (take_number 0 true (from s at end)) (Is payload_length at (after - at) after)
   unfolding tallied
   counted_is h = let p = counted_to h in answered refl (spans_counted ∙ ap (λ (x : Number). valueless (tallied s end at x)) h) (omega arith) (omega arith) p.0 p.1
 

@@ -9,7 +9,6 @@ use Rattle.meaning.specs.Reading.{look, none, hit, take_value, reach_back}
 use Rattle.laws_steps.specs.From.{from}
 use Rattle.table.specs.declared.refusals.Refusal.{Refusal}
 use Rattle.table.specs.declared.refusals.Refusal.TheVariants.{EnvelopeEnds}
-use Rattle.table.specs.Kinds.{number_of}
 use Rattle.table.specs.Refusals.{answer_of}
 use Rattle.values.specs.declared.text.Rule as declared
 use Rattle.values.specs.declared.text.Rule.TheVariants.{Line, Note}
@@ -33,7 +32,7 @@ span_of s end (Refused fault) = misses (answer_of fault.refusal) (end - fault.at
 
 -- where a value stands: its row has this kind and begins `back` bytes and its length before the place after it, which is behind `at`
 unfoldable pub Stands : ℕ → ℕ → ℕ → ℕ → Value → Type 0
-Stands end at kind back (Is k start length after) = (number_of k ≡ kind) × (start + length + back ≡ after) × (at ≤ start) × (at < after) × (after ≤ end)
+Stands end at kind back (Is k start length after) = (k ≡ kind) × (start + length + back ≡ after) × (at ≤ start) × (at < after) × (after ≤ end)
 Stands end at kind back (Refused fault) = fault.at ≤ end
 
 -- a stage's answer for the value that `meaning` takes at a place

@@ -27,7 +27,7 @@ pub fn take(s: &[u8], at: usize, told: Told) -> Value
     let code = s[at];
     let first = at + 1;
     match code {
-        0x14 => text::take(s, first, Kind::AnyText, Rule::Note),
+        0x14 => text::take(s, first, Kind::AnyText as u32, Rule::Note),
         0x16 => block(s, at, 1, told),
         0x17 => block(s, at, 2, told),
         0x19 => block(s, at, 4, told),
@@ -99,7 +99,7 @@ fn block(s: &[u8], at: usize, width: usize, told: Told) -> Value
         return Value::Refused(Refusal::EnvelopeEnds.at(end));
     }
     Value::Is {
-        kind: Kind::AnyBytes,
+        kind: Kind::AnyBytes as u32,
         start: start,
         length: length,
         after: start + length,

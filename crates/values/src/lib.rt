@@ -9,13 +9,13 @@ pub mod representation;
 pub mod text;
 
 use table::answers::Fault;
-use table::kinds::Kind;
 
-// "either a value with the place after it, or a refusal": a row's kind, start and length, or document 01's number and place.
+// "either a value with the place after it, or a refusal": a row's kind, start and length, or document 01's number and place. The kind is its number, as a row
+// has it, since a text is taken for any.
 #[derive(Drop)]
 pub enum Value {
     Is {
-        kind: Kind,
+        kind: u32,
         start: usize,
         length: usize,
         after: usize,

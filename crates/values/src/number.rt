@@ -35,7 +35,7 @@ pub fn take(s: &[u8], at: usize) -> Value
 {
     match count(s, at) {
         Number::Counts { value: _, after } => Value::Is {
-            kind: Kind::PayloadLength,
+            kind: Kind::PayloadLength as u32,
             start: at,
             length: after - at,
             after: after,

@@ -19,9 +19,9 @@ pub fn take(s: &[u8], at: usize) -> Value
     let code = s[at];
     let first = at + 1;
     match code {
-        0x00 => text::rare_line(s, first, Kind::OwnRepresentation),
+        0x00 => text::rare_line(s, first, Kind::OwnRepresentation as u32),
         0x10 | 0x11 | 0x12 => Value::Is {
-            kind: Kind::StandardRepresentation,
+            kind: Kind::StandardRepresentation as u32,
             start: at,
             length: 1,
             after: first,

@@ -1,12 +1,10 @@
 // "Text: bytes 20 to FF (hex), possibly none, then 00", and in notes line breaks.
 ghost use Rattle.std.specs.Prelude.{◌≡◌, true, false, ℕ, ◌+◌, ◌-◌, ◌≤◌, ◌<◌, length, get_or};
 ghost use Rattle.meaning.specs.Bytes.{line, note, is_break, text_byte, take_text};
-ghost use Rattle.table.specs.Kinds.{number_of};
 ghost use Rattle.values.specs.Stages.{rule_of, rule_by, all_text, FirstBelow, Within, ValuedAt, SkippedAt, RunAt, LineRunAt, rest};
 
 use crate::Value;
 use std::simd::prelude::*;
-use table::kinds::Kind;
 use table::refusals::Refusal;
 
 // What a text is for: a line, or a note, which may have line breaks.
@@ -20,9 +18,9 @@ pub enum Rule {
 const FIRST_TEXT: u8 = 0x20;
 
 // A text by its rule, from its first byte on: its row and the place behind its 00, or the refusal.
-pub fn take(s: &[u8], at: usize, kind: Kind, rule: Rule) -> Value
+pub fn take(s: &[u8], at: usize, kind: u32, rule: Rule) -> Value
     requires { Within s.now at }
-    ensures { ValuedAt s.now at (number_of kind) 1 (take_text (rule_of rule) (rest s.now at)) result }
+    ensures { ValuedAt s.now at kind 1 (take_text (rule_of rule) (rest s.now at)) result }
 {
     let i = stop(s, at, rule);
     ended(s, at, i, kind)
@@ -30,18 +28,18 @@ pub fn take(s: &[u8], at: usize, kind: Kind, rule: Rule) -> Value
 
 // The same of a line that seldom stands there: a function of its own for speed, since its bytes are looked at behind a call and the code
 // before it stays short.
-pub fn rare_line(s: &[u8], at: usize, kind: Kind) -> Value
+pub fn rare_line(s: &[u8], at: usize, kind: u32) -> Value
     requires { Within s.now at }
-    ensures { ValuedAt s.now at (number_of kind) 1 (take_text line (rest s.now at)) result }
+    ensures { ValuedAt s.now at kind 1 (take_text line (rest s.now at)) result }
 {
     let i = long_line(s, at);
     ended(s, at, i, kind)
 }
 
 // Takes the place i where the run of the text at `at` stops. Answers the row and the place behind its 00, or the refusal at i.
-fn ended(s: &[u8], at: usize, i: usize, kind: Kind) -> Value
+fn ended(s: &[u8], at: usize, i: usize, kind: u32) -> Value
     requires { (at ≤ i) × (i ≤ length s.now) }
-    ensures { (rule : Rattle.meaning.specs.Bytes.Rule) → RunAt rule s.now at i → ValuedAt s.now at (number_of kind) 1 (take_text rule (rest s.now at)) result }
+    ensures { (rule : Rattle.meaning.specs.Bytes.Rule) → RunAt rule s.now at i → ValuedAt s.now at kind 1 (take_text rule (rest s.now at)) result }
 {
     let end = s.len();
     if end <= i {

@@ -55,7 +55,7 @@ pub fn own_parameter(
     let t = text(
         table,
         i,
-        Kind::OwnKey,
+        Kind::OwnKey as u32,
         Rule::Line,
         0,
         Some(0x00),
@@ -66,7 +66,16 @@ pub fn own_parameter(
         return Ok(None);
     };
     let k = i + 1;
-    let value = text(table, k, Kind::OwnValue, Rule::Note, 0, None, output, p);
+    let value = text(
+        table,
+        k,
+        Kind::OwnValue as u32,
+        Rule::Note,
+        0,
+        None,
+        output,
+        p,
+    );
     begun(needed(value, k))
 }
 
@@ -95,7 +104,7 @@ pub fn naming(
     ensures { ParameterAt (edition_of edition) (naming_move (number_of kind) ∷ []) table.now i output.old at result output.new }
 {
     let code = Some(naming_code(kind));
-    let t = opened(table, i, kind, 0, code, output, at);
+    let t = opened(table, i, kind.number(), 0, code, output, at);
     let Some(p) = t else {
         return Ok(None);
     };
@@ -122,7 +131,7 @@ pub fn represented(
     let own = text(
         table,
         i,
-        Kind::OwnRepresentation,
+        Kind::OwnRepresentation as u32,
         Rule::Line,
         0,
         Some(0x00),
@@ -147,7 +156,7 @@ pub fn one_text(
     ensures { (edition : Told.Edition) → InParameters edition (on code ▸ number_of kind ▸ Rattle.meaning.specs.Editions.text (rule_of rule) ▸ outer parameters) → eqb (number_of kind) agent_name ≡ false →
         ParameterAt edition (on code ▸ number_of kind ▸ Rattle.meaning.specs.Editions.text (rule_of rule) ▸ outer parameters ∷ []) table.now i output.old at (Ok result) output.new }
 {
-    let t = text(table, i, kind, rule, 0, Some(code), output, at);
+    let t = text(table, i, kind.number(), rule, 0, Some(code), output, at);
     single(t, i)
 }
 
@@ -165,11 +174,19 @@ fn encrypted_in_b(table: &Table, i: usize, output: &mut [u8], at: usize) -> Opti
     requires { StageReady table.now i output.old at }
     ensures { ParameterAt B (encrypted_in B) table.now i output.old at (Ok result) output.new }
 {
-    let t = opened(table, i, Kind::EncryptedOpens, 0, Some(0x08), output, at);
+    let t = opened(
+        table,
+        i,
+        Kind::EncryptedOpens as u32,
+        0,
+        Some(0x08),
+        output,
+        at,
+    );
     let Some(p) = t else {
         return None;
     };
-    Some(texts(table, i + 1, Kind::EncryptedItem, 0, output, p))
+    Some(texts(table, i + 1, Kind::EncryptedItem as u32, 0, output, p))
 }
 
 // The same by edition: in D none begins there.
@@ -215,7 +232,15 @@ pub fn behaviour(
     requires { StageReady table.now i output.old at }
     ensures { (edition : Told.Edition) → ParameterAt edition (on 0x0b ▸ behaviour_opens ▸ opens ▸ outer behaviour_value ∷ []) table.now i output.old at result output.new }
 {
-    let t = opened(table, i, Kind::BehaviourOpens, 0, Some(0x0b), output, at);
+    let t = opened(
+        table,
+        i,
+        Kind::BehaviourOpens as u32,
+        0,
+        Some(0x0b),
+        output,
+        at,
+    );
     let Some(p) = t else {
         return Ok(None);
     };

@@ -34,11 +34,19 @@ fn addresses(table: &Table, i: usize, level: u32, output: &mut [u8], at: usize) 
     ensures { (edition : Told.Edition) (single : Bool) → OnwardAt edition table.now i (state after_name level single) result.row (state after_addresses level single) output.old at output.new result.at }
 {
     let code = Some(0x02);
-    let t = opened(table, i, Kind::AddressesOpen, level, code, output, at);
+    let t = opened(
+        table,
+        i,
+        Kind::AddressesOpen as u32,
+        level,
+        code,
+        output,
+        at,
+    );
     let Some(p) = t else {
         return Onto { row: i, at };
     };
-    texts(table, i + 1, Kind::Address, level, output, p)
+    texts(table, i + 1, Kind::Address as u32, level, output, p)
 }
 
 // "extras, 01": lays the end of an agent from row i on. Answers that its list goes on at this level; for the one agent of `from`,
@@ -108,7 +116,7 @@ fn behind_name(
     let o = opened(
         table,
         row,
-        Kind::ResolversOpen,
+        Kind::ResolversOpen as u32,
         level,
         Some(0x03),
         output,
@@ -143,7 +151,7 @@ fn agent(
     let t = text(
         table,
         i,
-        Kind::AgentName,
+        Kind::AgentName as u32,
         Rule::Line,
         level,
         Some(0x02),

@@ -28,9 +28,33 @@ fn behind_date(
     requires { StageReady table.now i output.old at }
     ensures { AdvanceAt (edition_of edition) table.now i (state after_date 1 false) (state parameters 0 false) output.old at result output.new }
 {
-    let a = optional(table, i, Kind::ReceivedFrom, 1, Some(0x02), output, at);
-    let b = optional(table, a.row, Kind::ReceivedId, 1, Some(0x03), output, a.at);
-    let c = optional(table, b.row, Kind::ReceivedVia, 1, Some(0x04), output, b.at);
+    let a = optional(
+        table,
+        i,
+        Kind::ReceivedFrom as u32,
+        1,
+        Some(0x02),
+        output,
+        at,
+    );
+    let b = optional(
+        table,
+        a.row,
+        Kind::ReceivedId as u32,
+        1,
+        Some(0x03),
+        output,
+        a.at,
+    );
+    let c = optional(
+        table,
+        b.row,
+        Kind::ReceivedVia as u32,
+        1,
+        Some(0x04),
+        output,
+        b.at,
+    );
     let Some(code) = received_extra(edition) else {
         return Ok(Onto {
             row: c.row,
@@ -52,7 +76,16 @@ pub fn received(
     requires { StageReady table.now i output.old at }
     ensures { (AdvanceAt (edition_of edition) table.now i (state received_begins 0 false) (state parameters 0 false) output.old at result output.new) × Beyond i result }
 {
-    let t = text(table, i, Kind::ReceivedBy, Rule::Line, 0, None, output, at);
+    let t = text(
+        table,
+        i,
+        Kind::ReceivedBy as u32,
+        Rule::Line,
+        0,
+        None,
+        output,
+        at,
+    );
     let by = needed(t, i)?;
     let d = date(table, by.row, 1, edition, output, by.at);
     let dated = needed(d, by.row)?;

@@ -19,6 +19,7 @@ module _ (pool rows : List ℕ) (i kind level : ℕ) where
     pub sought : r.kind ≡ kind → r.level ≡ level → IsSought pool rows i kind level r
     sought k l =
         record {
+          of_kind = k;
           ordered = a.ordered;
           inside = a.inside;
           short = a.short;

@@ -15,7 +15,6 @@ use Rattle.laws_steps.specs.Logic.{is_true}
 use Rattle.laws_steps.specs.From.{from, from_length, from_end, from_cons}
 use Rattle.laws_steps.specs.Values.{Was, text_byte_above, date_in, date_out, number_in, number_out}
 use Rattle.table.specs.declared.answers.Fault.{Fault}
-use Rattle.table.specs.declared.kinds.Kind.{Kind}
 use Rattle.values.specs.declared.Value.{Value}
 use Rattle.values.specs.declared.Value.TheVariants.{Is, Refused}
 use Rattle.values.specs.Stages.{Span, span, spans, misses, Valued, Run}
@@ -56,7 +55,7 @@ module _ (stage : List ℕ → Taken) (ok : List ℕ → Bool) (into : (v : List
     none_at (took w rest) refusal left e q = let z : ◌≡◌ {A = ℕ} 0 1 = cc q in absurd (omega arith)
     none_at (failed refusal₁ left₁) refusal left e q = not_ok v (λ p. let z : ◌≡◌ {A = ℕ} 0 1 = cc (e, p) in omega arith)
 
-    value_whole : {kind back : ℕ} {r : Value} {kd : Kind} {start many after : ℕ} → Valued s end at kind back (stage v) r → r ≡ Is kd start many after → leb end after ≡ ok v
+    value_whole : {kind back : ℕ} {r : Value} {kd : ℕ} {start many after : ℕ} → Valued s end at kind back (stage v) r → r ≡ Is kd start many after → leb end after ≡ ok v
     value_whole {many = many} {after = after} a q = by (leb end after) refl (valued_at a q).0
       where
         by : (b : Bool) → leb end after ≡ b → span 0 (stage v) ≡ spans many (from s after end) → leb end after ≡ ok v
@@ -114,14 +113,14 @@ abbrev number_here : List ℕ → Bool
 number_here v = number_ok 0 true v
 
 module _ (v : List ℕ) {kind back : ℕ} {r : Value} where
-  pub number_whole : {kd : Kind} {s n after : ℕ} → Valued v (length v) 0 kind back (take_number 0 true (from v 0 (length v))) r → r ≡ Is kd s n after → leb (length v) after ≡ number_ok 0 true v
+  pub number_whole : {kd : ℕ} {s n after : ℕ} → Valued v (length v) 0 kind back (take_number 0 true (from v 0 (length v))) r → r ≡ Is kd s n after → leb (length v) after ≡ number_ok 0 true v
   number_whole a q = value_whole (take_number 0 true) number_here (λ v t. number_in 0 true v [] t) (number_out 0 true) v 0 (length v) (omega arith) (omega arith) a q ∙ ap number_here (from_all v)
 
   pub number_refused : {fault : Fault} → Valued v (length v) 0 kind back (take_number 0 true (from v 0 (length v))) r → r ≡ Refused fault → false ≡ number_ok 0 true v
   number_refused a q = value_refused (take_number 0 true) number_here (λ v t. number_in 0 true v [] t) (number_out 0 true) v 0 (length v) (omega arith) (omega arith) a q ∙ ap number_here (from_all v)
 
   module _ (cs : List Check) where
-    pub date_whole : {kd : Kind} {s n after : ℕ} → Valued v (length v) 0 kind back (take_date cs [] (from v 0 (length v))) r → r ≡ Is kd s n after → leb (length v) after ≡ date_ok cs [] v
+    pub date_whole : {kd : ℕ} {s n after : ℕ} → Valued v (length v) 0 kind back (take_date cs [] (from v 0 (length v))) r → r ≡ Is kd s n after → leb (length v) after ≡ date_ok cs [] v
     date_whole a q = value_whole (take_date cs []) (date_ok cs []) (λ v t. date_in cs [] v [] t) (date_out cs []) v 0 (length v) (omega arith) (omega arith) a q ∙ ap (date_ok cs []) (from_all v)
 
     pub date_refused : {fault : Fault} → Valued v (length v) 0 kind back (take_date cs [] (from v 0 (length v))) r → r ≡ Refused fault → false ≡ date_ok cs [] v

@@ -158,7 +158,15 @@ two_is n h =
     let a : n / 256 % 256 ≡ n / 256 = omega arith in
     rw a refl
 
-pub four_is : (n : ℕ) → n ≤ 4294967295 → to_be_bytes w32 n ≡ length_bytes four_bytes n
-four_is n h =
+pub four_written : (n : ℕ) → n ≤ 4294967295 → to_be_bytes w32 n ≡ length_bytes four_bytes n
+four_written n h =
     let a : n / 16777216 % 256 ≡ n / 16777216 = omega arith in
     rw a refl
+
+-- four bytes are two and two
+pub four_is : (n : ℕ) → length_bytes two_bytes (n / 65536) ++ length_bytes two_bytes (n % 65536) ≡ length_bytes four_bytes n
+four_is n =
+    let a : n / 65536 / 256 ≡ n / 16777216 = omega arith in
+    let c : n % 65536 / 256 ≡ n / 256 % 256 = omega arith in
+    let d : n % 65536 % 256 ≡ n % 256 = omega arith in
+    rw (a, c, d) refl

@@ -23,6 +23,7 @@ NotOf kind level (cell row ∷ cs) = row.kind ≡ kind → row.level ≡ level �
 
 -- or it is r
 pub record IsSought (pool rows : List ℕ) (i kind level : ℕ) (r : Ahead) : Type 0 where
+  pub of_kind : r.kind ≡ kind
   pub ordered : r.start ≤ r.end
   pub inside : r.end ≤ length pool
   pub short : r.end ≤ r.start + u32_most

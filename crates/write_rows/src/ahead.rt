@@ -4,7 +4,6 @@ ghost use Rattle.meaning.specs.Kinds.{payload_length};
 ghost use Rattle.meaning.specs.Editions.{Next, opens, on◌▸◌▸◌▸◌};
 ghost use Rattle.meaning.specs.Memory.{room_of};
 ghost use Rattle.table.specs.Codes.{code_number};
-ghost use Rattle.table.specs.Kinds.{number_of};
 ghost use Rattle.values.specs.Stages.{rule_of};
 ghost use Rattle.write_rows.specs.Stages.{StageReady, TakeReady, TriedAt};
 
@@ -20,15 +19,15 @@ use values::text::Rule;
 pub fn text(
     table: &Table,
     i: usize,
-    kind: Kind,
+    kind: u32,
     rule: Rule,
     level: u32,
     code: Option<u8>,
     output: &mut [u8],
     at: usize,
 ) -> Option<usize>
-    requires { TakeReady table.now i (number_of kind) output.old at }
-    ensures { (n : Next) → TriedAt (on code_number code ▸ number_of kind ▸ Rattle.meaning.specs.Editions.text (rule_of rule) ▸ n ∷ []) level table.now i output.old at result output.new }
+    requires { TakeReady table.now i kind output.old at }
+    ensures { (n : Next) → TriedAt (on code_number code ▸ kind ▸ Rattle.meaning.specs.Editions.text (rule_of rule) ▸ n ∷ []) level table.now i output.old at result output.new }
 {
     let r = table.look_for(i, kind, level)?;
     let bytes = table.view(&r);
@@ -45,14 +44,14 @@ pub fn text(
 pub fn opened(
     table: &Table,
     i: usize,
-    kind: Kind,
+    kind: u32,
     level: u32,
     code: Option<u8>,
     output: &mut [u8],
     at: usize,
 ) -> Option<usize>
-    requires { TakeReady table.now i (number_of kind) output.old at }
-    ensures { (n : Next) → TriedAt (on code_number code ▸ number_of kind ▸ opens ▸ n ∷ []) level table.now i output.old at result output.new }
+    requires { TakeReady table.now i kind output.old at }
+    ensures { (n : Next) → TriedAt (on code_number code ▸ kind ▸ opens ▸ n ∷ []) level table.now i output.old at result output.new }
 {
     let r = table.look_for(i, kind, level)?;
     if r.start == r.end {
@@ -67,7 +66,7 @@ pub fn number(table: &Table, i: usize, output: &mut [u8], at: usize) -> Option<u
     requires { StageReady table.now i output.old at }
     ensures { (n : Next) → TriedAt (on 0x06 ▸ payload_length ▸ Rattle.meaning.specs.Editions.number ▸ n ∷ []) 0 table.now i output.old at result output.new }
 {
-    let r = table.look_for(i, Kind::PayloadLength, 0)?;
+    let r = table.look_for(i, Kind::PayloadLength as u32, 0)?;
     let bytes = table.view(&r);
     if number_ok(bytes) {
         let p = put(output, at, 0x06);

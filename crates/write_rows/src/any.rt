@@ -42,11 +42,11 @@ pub fn any(table: &Table, i: usize, level: u32, output: &mut [u8], at: usize) ->
     requires { StageReady table.now i output.old at }
     ensures { (n : Next) → TriedAt (any_values n) level table.now i output.old at result output.new }
 {
-    let Some(r) = table.look_for(i, Kind::AnyBytes, level) else {
+    let Some(r) = table.look_for(i, Kind::AnyBytes as u32, level) else {
         return text(
             table,
             i,
-            Kind::AnyText,
+            Kind::AnyText as u32,
             Rule::Note,
             level,
             Some(0x14),

@@ -31,7 +31,7 @@ pub fn extras(
     ensures { (edition : Edition) (room : Room) (single : Bool) (st₁ : State) → ExtrasIn edition room level single (code_number code) st₁ →
         AdvanceAt edition table.now from (state room level single) st₁ output.old at result output.new }
 {
-    let Some(_) = table.look_for(from, Kind::ExtraKey, level) else {
+    let Some(_) = table.look_for(from, Kind::ExtraKey as u32, level) else {
         return Ok(Onto {
             row: from,
             at: put(output, at, CLOSING),
@@ -58,7 +58,16 @@ pub fn some_extras(
     let mut i = from;
     let mut p = at;
     loop {
-        let t = text(table, i, Kind::ExtraKey, Rule::Line, level, code, output, p);
+        let t = text(
+            table,
+            i,
+            Kind::ExtraKey as u32,
+            Rule::Line,
+            level,
+            code,
+            output,
+            p,
+        );
         let Some(q) = t else {
             return Ok(Onto {
                 row: i,

@@ -1,11 +1,9 @@
 // A table as the writer is lent it: "takes edition, rows, a pool of bytes that they view, and output".
 ghost use Rattle.std.specs.Prelude.{◌≡◌, ◌≤◌, ◌/◌, ◌%◌, eqb, length};
 ghost use Rattle.meaning.specs.Memory.{row_width, room_of};
-ghost use Rattle.table.specs.Kinds.{number_of};
 ghost use Rattle.table.specs.Rows.{AheadIs, viewed};
 ghost use Rattle.write_rows.specs.Stages.{SoughtAt};
 
-use table::kinds::Kind;
 use table::rows::{Ahead, look_ahead, room, whole};
 
 // The rows of a table, and the pool of bytes that they view.
@@ -39,12 +37,12 @@ impl<'a> Table<'a> {
     }
 
     // The row at i, if it is of this kind and level and its bytes are all in the pool.
-    pub fn look_for(&self, i: usize, kind: Kind, level: u32) -> Option<Ahead>
+    pub fn look_for(&self, i: usize, kind: u32, level: u32) -> Option<Ahead>
         requires { i ≤ room_of self.now.rows.now }
-        ensures { SoughtAt self.now i (number_of kind) level result }
+        ensures { SoughtAt self.now i kind level result }
     {
         let r = self.ahead(i)?;
-        if r.kind != kind.number() {
+        if r.kind != kind {
             return None;
         }
         if r.level != level {

@@ -15,7 +15,7 @@ pub fn standard(table: &Table, i: usize, output: &mut [u8], at: usize) -> Option
     requires { StageReady table.now i output.old at }
     ensures { (n : Next) → TriedAt (standards n) 0 table.now i output.old at result output.new }
 {
-    let r = table.look_for(i, Kind::StandardRepresentation, 0)?;
+    let r = table.look_for(i, Kind::StandardRepresentation as u32, 0)?;
     let start = r.start;
     if r.end - start != 1 {
         return None;
@@ -38,7 +38,7 @@ pub fn representation(table: &Table, i: usize, output: &mut [u8], at: usize) -> 
         return text(
             table,
             i,
-            Kind::OwnRepresentation,
+            Kind::OwnRepresentation as u32,
             Rule::Line,
             0,
             Some(0x00),

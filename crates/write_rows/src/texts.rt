@@ -3,7 +3,6 @@ ghost use Rattle.std.specs.Prelude.{Bool};
 ghost use Rattle.meaning.specs.Told.{Edition};
 ghost use Rattle.meaning.specs.Editions.{Room, State, state};
 ghost use Rattle.table.specs.Codes.{code_number};
-ghost use Rattle.table.specs.Kinds.{number_of};
 ghost use Rattle.write_rows.specs.Rooms.{TextsIn, OptionalIn};
 ghost use Rattle.write_rows.specs.Stages.{TakeReady, OnwardAt};
 
@@ -12,7 +11,6 @@ use crate::ahead::text;
 use crate::lay::put;
 use crate::lent::Table;
 use table::codes::CLOSING;
-use table::kinds::Kind;
 use values::text::Rule;
 
 // "In a list of texts, 01 where an item would begin ends the list": lays every text of this kind and level from row `from` on,
@@ -23,13 +21,13 @@ use values::text::Rule;
 pub fn texts(
     table: &Table,
     from: usize,
-    kind: Kind,
+    kind: u32,
     level: u32,
     output: &mut [u8],
     at: usize,
 ) -> Onto
-    requires { TakeReady table.now from (number_of kind) output.old at }
-    ensures { (edition : Edition) (room : Room) (single : Bool) (st₁ : State) → TextsIn edition room (number_of kind) level single st₁ →
+    requires { TakeReady table.now from kind output.old at }
+    ensures { (edition : Edition) (room : Room) (single : Bool) (st₁ : State) → TextsIn edition room kind level single st₁ →
         OnwardAt edition table.now from (state room level single) result.row st₁ output.old at output.new result.at }
 {
     let mut i = from;
@@ -49,14 +47,14 @@ pub fn texts(
 pub fn optional(
     table: &Table,
     i: usize,
-    kind: Kind,
+    kind: u32,
     level: u32,
     code: Option<u8>,
     output: &mut [u8],
     at: usize,
 ) -> Onto
-    requires { TakeReady table.now i (number_of kind) output.old at }
-    ensures { (edition : Edition) (room room₁ : Room) (single : Bool) → OptionalIn edition room room₁ (number_of kind) (code_number code) →
+    requires { TakeReady table.now i kind output.old at }
+    ensures { (edition : Edition) (room room₁ : Room) (single : Bool) → OptionalIn edition room room₁ kind (code_number code) →
         OnwardAt edition table.now i (state room level single) result.row (state room₁ level single) output.old at output.new result.at }
 {
     let t = text(table, i, kind, Rule::Line, level, code, output, at);

@@ -1,7 +1,6 @@
 -- `encode::fitting`: the bytes made, taken as a date, and laid over the front where there is room.
 use mathlib.Core.Path.{sym, ap, ◌∙◌}
 use Rattle.date.specs.Dates.{reaching}
-use Rattle.table.specs.declared.kinds.Kind.TheVariants.{DateAbsolute}
 use Rattle.coders.specs.Plain.{plain_of}
 use Rattle.meaning.specs.Memory.{laid_over}
 use Rattle.coders.proofs.Encoding.{encodes_out, encodes_short, encodes_laid}
@@ -13,14 +12,14 @@ pub returns-then-is_err : goal.returns-then-is_err
 returns-then-is_err c =
     let a = c.args in
     let d = plain_of a.date in
-    let denied = date_denies d a.absolute c.length_of-many.ensures c.ten_bytes-bytes.ensures DateAbsolute c.bytes.result (c.bytes.ensures DateAbsolute) c.requires (sym c.is_err.ensures.value ∙ c.if-is_err.true) in
+    let denied = date_denies d a.absolute c.length_of-many.ensures c.ten_bytes-bytes.ensures 0 c.bytes.result (c.bytes.ensures 0) c.requires (sym c.is_err.ensures.value ∙ c.if-is_err.true) in
     rw (c.into.ensures, c.at.ensures) (reach_encodes (dated (reaching a.absolute)) d a.output.now a.output.now (encodes_out 9 a.output.now (date_bytes d) denied))
 
 pub returns-then-output-many : goal.returns-then-output-many
 returns-then-output-many c =
     let a = c.args in
     let d = plain_of a.date in
-    let allowed = date_allows d a.absolute c.length_of-many.ensures c.ten_bytes-bytes.ensures DateAbsolute c.bytes.result (c.bytes.ensures DateAbsolute) c.requires (sym c.is_err.ensures.value ∙ c.if-is_err.false) in
+    let allowed = date_allows d a.absolute c.length_of-many.ensures c.ten_bytes-bytes.ensures 0 c.bytes.result (c.bytes.ensures 0) c.requires (sym c.is_err.ensures.value ∙ c.if-is_err.false) in
     let long = many_long d a.absolute c.length_of-many.ensures c.ten_bytes-bytes.ensures in
     rw (c.into-then-output-many.ensures, c.at-then-output-many.ensures) (reach_encodes (dated (reaching a.absolute)) d a.output.now a.output.now (encodes_short 9 a.output.now (date_bytes d) allowed long c.if-output-many.true))
 
@@ -28,7 +27,7 @@ pub returns : goal.returns
 returns c =
     let a = c.args in
     let d = plain_of a.date in
-    let allowed = date_allows d a.absolute c.length_of-many.ensures c.ten_bytes-bytes.ensures DateAbsolute c.bytes.result (c.bytes.ensures DateAbsolute) c.requires (sym c.is_err.ensures.value ∙ c.if-is_err.false) in
+    let allowed = date_allows d a.absolute c.length_of-many.ensures c.ten_bytes-bytes.ensures 0 c.bytes.result (c.bytes.ensures 0) c.requires (sym c.is_err.ensures.value ∙ c.if-is_err.false) in
     let long = many_long d a.absolute c.length_of-many.ensures c.ten_bytes-bytes.ensures in
     let here = bytes_here d a.absolute c.length_of-many.ensures c.ten_bytes-bytes.ensures in
     reach_encodes (dated (reaching a.absolute)) d a.output.now c.lay.new.output

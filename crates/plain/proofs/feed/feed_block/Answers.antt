@@ -1,6 +1,4 @@
 -- `feed::feed_block`: the last byte of the block, or one before it.
-use native.Mathlib.Omega.{arith}
-use Rattle.plain.specs.Values.{Valid}
 use Rattle.plain.proofs.Feeding.{block_further, block_ended}
 use Rattle.plain.proofs.feed.feed_block.Goals as goal
 

@@ -1,6 +1,5 @@
 -- `feed::feed_date`: a byte that passes, the last one among them, or one that does not.
 use native.Mathlib.Omega.{arith}
-use Rattle.plain.specs.Values.{Valid}
 use Rattle.plain.proofs.Feeding.{date_further, date_ended, date_refused}
 use Rattle.plain.proofs.feed.feed_date.Goals as goal
 

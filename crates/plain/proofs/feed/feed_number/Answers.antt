@@ -1,7 +1,5 @@
 -- `feed::feed_number`: by what the byte does to the number so far.
 use mathlib.Core.Path.{refl}
-use native.Mathlib.Omega.{arith}
-use Rattle.plain.specs.Values.{Valid}
 use Rattle.plain.proofs.Feeding.{number_stops, number_goes, number_wrongs}
 use Rattle.plain.proofs.feed.feed_number.Goals as goal
 

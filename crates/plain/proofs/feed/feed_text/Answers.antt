@@ -1,6 +1,5 @@
 -- `feed::feed_text`: the closing 00, a byte that the rule allows, or another.
 use mathlib.Core.Path.{sym, ◌∙◌}
-use Rattle.plain.specs.Values.{Valid}
 use Rattle.plain.proofs.Feeding.{text_ended, text_further, text_refused}
 use Rattle.plain.proofs.feed.feed_text.Goals as goal
 

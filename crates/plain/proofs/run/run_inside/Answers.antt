@@ -62,7 +62,7 @@ behind-engine-requires-in-Ends c = ends_lead (told_of c.args.told) c.args.s.now 
 
 pub loop-told-preserved : goal.loop-told-preserved
 loop-told-preserved c =
-    let u = run_ends (told_of c.args.told) c.args.s.now (length c.args.s.now) c.loop-told.reached.at c.past_text.result c.loop-told.reached.rows c.loop-told.rows c.loop-told.engine c.args.from.at c.loop-told.invariant.comes c.past_text.ensures c.if-s-here.false c.requires.whole c.step.ensures c.behind-engine-in-Ends.result c.in-Ends.is c.level-level.ensures c.put_row.ensures c.behind-engine-in-Ends.ensures.0 c.behind-engine-in-Ends.ensures.1 in
+    let u = run_ends (told_of c.args.told) c.args.s.now (length c.args.s.now) c.loop-told.reached.at c.past_text.result c.loop-told.reached.rows c.loop-told.rows c.loop-told.engine c.args.from.at c.loop-told.invariant.comes c.past_text.ensures c.if-s-here.false c.requires.whole c.step.ensures c.behind-engine-in-Ends.result c.in-Ends.is c.level-level.ensures (rw c.number.ensures at c.put_row.ensures) c.behind-engine-in-Ends.ensures.0 c.behind-engine-in-Ends.ensures.1 in
     record {
       length_kept = c.put_row.auto.rows ∙ c.loop-told.invariant.length_kept;
       forward = omega (arith, c.loop-told.invariant.forward, c.past_text.ensures.inside);

@@ -1,6 +1,7 @@
 -- `agents::behind_resolvers`: an agent's extras are a run of extras with the edition's code.
 use Rattle.std.specs.Prelude.{length}
 use Rattle.std.specs.Prelude.{refl}
+use mathlib.Core.Path.{◌∙◌}
 use Rattle.meaning.specs.Editions.{after_resolvers, agent_extra, agent_ends, go, state}
 use Rattle.laws_steps.specs.AgentRooms.{agent_extras_lem}
 use Rattle.laws_steps.specs.Pouring.{source}
@@ -19,4 +20,4 @@ pub returns : goal.returns
 returns c single =
     let level = c.args.level in
     rw c.in_parts.ensures
-    (c.extras.ensures (state after_resolvers level single) (state agent_extra level single) (go agent_ends (state after_resolvers level single)) (agent_extras_lem _ level single c.agent_extra-code.ensures))
+    (c.extras.ensures (state after_resolvers level single) (state agent_extra level single) (go agent_ends (state after_resolvers level single)) (agent_extras_lem _ level single (c.from.ensures ∙ c.agent_extra-code.ensures)))

@@ -28,5 +28,5 @@ returns-in_default c =
 pub returns : goal.returns
 returns c =
     let a = c.args in
-    let some : received_extra_code (edition_of a.told.edition) ≡ Some c.in-Some.code = cc in
+    let some : received_extra_code (edition_of a.told.edition) ≡ Some c.from.result = cc in
     c.extras.ensures _ _ _ (received_extras_lem (told_of a.told) some)

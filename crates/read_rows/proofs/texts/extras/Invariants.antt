@@ -8,10 +8,10 @@ use Rattle.laws_steps.specs.Shapes.{Extras}
 use Rattle.table.specs.Told.{told_of}
 use Rattle.read_rows.proofs.texts.extras.Given as goal
 
-abbrev pub invariant-loop-told : goal.invariant-loop-told
-invariant-loop-told l =
+abbrev pub invariant-loop-found : goal.invariant-loop-found
+invariant-loop-found l =
     (l.fn.from.at ≤ l.here.at) × (l.here.at ≤ (length l.s)) × (l.here.rows ≤ l.here.at) × (length l.rows ≡ length l.initial.rows)
     × ((q any d : State) → Extras (told_of l.told) q any d l.code l.level → run_at (source (told_of l.told) l.s (length l.s)) q l.fn.from.at l.fn.from.rows l.initial.rows ≡ run_at (source (told_of l.told) l.s (length l.s)) q l.here.at l.here.rows l.rows)
 
-abbrev pub decreases-loop-told : goal.decreases-loop-told
-decreases-loop-told l = (length l.s) - l.here.at
+abbrev pub decreases-loop-found : goal.decreases-loop-found
+decreases-loop-found l = (length l.s) - l.here.at

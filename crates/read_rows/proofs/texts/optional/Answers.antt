@@ -6,7 +6,6 @@ use Rattle.meaning.specs.Bytes.{line}
 use Rattle.meaning.specs.Editions.{go}
 use Rattle.laws_steps.specs.Pouring.{not_deep, source, text_at}
 use Rattle.laws_steps.specs.ReadAt.{alike_at, text_at_lem}
-use Rattle.table.specs.Kinds.{number_of}
 use Rattle.read_rows.specs.Joining.{arrives, begun, going, other_found, same_found}
 use Rattle.read_rows.specs.Stages.{found}
 use Rattle.read_rows.proofs.texts.optional.Goals as goal
@@ -25,6 +24,6 @@ returns c t q d h =
     let is = same_found p.result a.code c.ne.ensures c.if-ne.false in
     arrives h.leads
     (begun (omega arith)
-    (text_at_lem i a.from.at a.from.rows a.rows.now (found p.result) p.ensures a.code is (omega arith) q (number_of a.kind) line h.out h.has (not_deep q (number_of a.kind) h.flat)
-    ∙ ap (λ (x : ℕ). text_at i (number_of a.kind) line x (go h.out q) (a.from.at + 1) a.from.rows a.rows.now) h.deep)
+    (text_at_lem i a.from.at a.from.rows a.rows.now (found p.result) p.ensures a.code is (omega arith) q a.kind line h.out h.has (not_deep q a.kind h.flat)
+    ∙ ap (λ (x : ℕ). text_at i a.kind line x (go h.out q) (a.from.at + 1) a.from.rows a.rows.now) h.deep)
     (rw (c.passed.ensures.at, c.passed.ensures.rows) at (c.text.ensures t (go h.out q))))

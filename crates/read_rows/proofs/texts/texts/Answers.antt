@@ -29,23 +29,23 @@ once_more {t} {s} {end} {b} {kind} {q = q} here rows h same p more text =
 
 pub returns-then-eq : goal.returns-then-eq
 returns-then-eq c t q d h =
-    let l = c.loop-kind in
+    let l = c.loop-here in
     let is = found_is c.peek.result 1 c.eq.ensures c.if-eq.true in
     closes (source t c.args.s.now (length c.args.s.now)) q l.here l.rows (found c.peek.result) c.peek.ensures is h.stop h.leads c.passed.ensures.at c.passed.ensures.rows (l.invariant.4 t q d h) l.invariant.0 l.invariant.2
 
 pub returns-in_default : goal.returns-in_default
 returns-in_default c t q d h =
-    let l = c.loop-kind in
+    let l = c.loop-here in
     handed c.in_default.is (once_more l.here l.rows h (l.invariant.4 t q d h) c.peek.ensures (not_found c.peek.result 1 (omega arith) c.eq.ensures c.if-eq.false) (c.text-r.ensures t (go h.again q)))
 
-pub loop-kind-smaller : goal.loop-kind-smaller
-loop-kind-smaller c =
+pub loop-here-smaller : goal.loop-here-smaller
+loop-here-smaller c =
     let u = moved_to c.in-Go.is (c.text-r.ensures (told B) (state parameters 0 false)) in
     omega arith
 
-pub loop-kind-preserved : goal.loop-kind-preserved
-loop-kind-preserved c =
-    let l = c.loop-kind in
+pub loop-here-preserved : goal.loop-here-preserved
+loop-here-preserved c =
+    let l = c.loop-here in
     let u = moved_to c.in-Go.is (c.text-r.ensures (told B) (state parameters 0 false)) in (
       omega arith,
       omega arith,

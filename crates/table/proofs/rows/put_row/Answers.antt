@@ -5,7 +5,7 @@ use Rattle.table.proofs.rows.put_row.Goals as goal
 
 pub returns-then-i-rows : goal.returns-then-i-rows
 unfolding put
-returns-then-i-rows c = simp (le-leb _ _ c.if-i-rows.true, c.number.ensures)
+returns-then-i-rows c = simp (le-leb _ _ c.if-i-rows.true)
 
 pub returns-else-i-rows : goal.returns-else-i-rows
 unfolding put

@@ -18,7 +18,7 @@ pub returns-in_default : goal.returns-in_default
 returns-in_default c =
     let a = c.args in
     let next = agents_next (eqb (number_of a.kind) from_opens) in
-    tried_move (number_of a.kind) next _ _ _ _ a.at None _ c.naming_code.ensures (c.in_default.ensures next)
+    tried_move (number_of a.kind) next _ _ _ _ a.at None _ c.naming_code.ensures (rw c.number.ensures at (c.in_default.ensures next))
 
 pub agents-requires : goal.agents-requires
 agents-requires c =
@@ -31,7 +31,7 @@ returns c =
     let kind : ℕ = number_of a.kind in
     let one = eqb kind from_opens in
     let in_there = names_first (edition_of a.edition) c.requires.1 in
-    let first = tried_move kind (agents_next one) _ _ _ _ _ (Some c.in-Some.p) _ c.naming_code.ensures (c.in-Some.ensures (agents_next one)) in
+    let first = tried_move kind (agents_next one) _ _ _ _ _ (Some c.in-Some.p) _ c.naming_code.ensures (rw c.number.ensures at (c.in-Some.ensures (agents_next one))) in
     let opening = parameter_row (edition_of a.edition) _ _ (naming_move kind) in_there.is (names_shallow c.requires.1) first in
     let agents = rw (from_kind a.kind c.eq-one.ensures) at c.agents.ensures in
     after_first (edition_of a.edition) _ c.requires.0.layable.small (leading (agents_begin one) opening) c.agents.result _ agents c.begun.ensures

@@ -1,5 +1,5 @@
 -- `any::block`: the code, the length in as many bytes as it needs, and the bytes.
-use Rattle.write_rows.specs.Laying.{four_is, laid_as, laid_three, two_is}
+use Rattle.write_rows.specs.Laying.{four_written, laid_as, laid_three, two_is}
 use Rattle.write_rows.proofs.Forms.{block_four, block_one, block_two}
 use lib.ListN.{length}
 use mathlib.Core.Path.{◌∙◌, sym}
@@ -16,5 +16,5 @@ returns-then-many-lt65536 c =
 
 pub returns : goal.returns
 returns c =
-    let many = laid_as c.copy-q-2.ensures _ (c.to_be_bytes-2.ensures ∙ four_is (length c.args.bytes.now) c.requires.0) in
+    let many = laid_as c.copy-q-2.ensures _ (c.to_be_bytes-2.ensures ∙ four_written (length c.args.bytes.now) c.requires.0) in
     laid_as (laid_three c.requires.1 c.put-p-2.ensures many c.copy-2.ensures) _ (sym (block_four c.args.bytes.now c.if-many-lt65536.false))

@@ -1,6 +1,5 @@
 -- `texts::optional`: the text is there, or the room behind it does as well.
 use Rattle.meaning.specs.Editions.{stay}
-use Rattle.table.specs.Kinds.{number_of}
 use Rattle.write_rows.specs.Onward.{unmoved}
 use Rattle.write_rows.proofs.Lists.{shallow_kind}
 use Rattle.write_rows.specs.Optional.{part_off, part_on}
@@ -15,4 +14,4 @@ returns-in_default c edition room room₁ single o =
 pub returns : goal.returns
 returns c edition room room₁ single o =
     let a = c.args in
-    part_on edition _ _ room room₁ o.is a.level single (c.in-Some.ensures (stay room₁)) (shallow_kind (number_of a.kind) a.level o.shallow)
+    part_on edition _ _ room room₁ o.is a.level single (c.in-Some.ensures (stay room₁)) (shallow_kind a.kind a.level o.shallow)
