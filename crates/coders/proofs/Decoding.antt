@@ -5,7 +5,8 @@ use mathlib.Core.Bool.{Bool, true, false}
 use mathlib.Core.Path.{◌≡◌, refl, ap, sym, ◌∙◌}
 use native.Mathlib.Nat.{le_refl}
 use native.Mathlib.Omega.{arith}
-use lib.ListN.{length}
+use borrow.Author.Tests.{lt-ltb}
+use lib.ListN.{length, get_or}
 use lib.Seq.{take_all}
 use Rattle.meaning.specs.Basics.{pick}
 use Rattle.meaning.specs.Bytes.{Taken, took, failed, prefixed, Check, passes, date_checks, take_date, take_number}
@@ -14,14 +15,16 @@ use Rattle.laws_steps.specs.From.{from, from_end, from_cons}
 use Rattle.values.specs.declared.number.Number.{Number}
 use Rattle.values.specs.declared.number.Number.TheVariants.{Counts, Fails}
 use Rattle.coders.specs.declared.Date.{Date}
-use Rattle.values.specs.Stages.{span, spans, misses, Valued}
+use Rattle.values.specs.Stages.{span, spans, misses}
 use Rattle.values.specs.Answers.{valued_at, valued_refused}
 use Rattle.values.specs.Numbers.{counts, tally, tallied, Counted}
-use Rattle.std.specs.Prelude.{Result, Ok, Err, ltb}
+use Rattle.std.specs.Prelude.{Ok}
 use Rattle.table.specs.declared.answers.Fault.{Fault}
-use Rattle.date.specs.Dates.{reaching, value_by}
+use Rattle.date.specs.Dates.{reaching, date_length, check_at, earlier}
+use Rattle.date.specs.DateSteps.{date_from, date_begins, date_over, date_ends, date_wrong, passing_goes}
 use Rattle.coders.specs.declared.decode.DecodedDate.{DecodedDate}
-use Rattle.coders.specs.Plain.{NumberDecodes, DateDecodes, DecodesReach, plain_of, unread_at, undecoded_at}
+use Rattle.coders.specs.Stepped.{has_designator, Passed, RefusedAt, decoded_by}
+use Rattle.coders.specs.Plain.{NumberDecodes, DateDecodes, DecodesReach, plain_of, unread_at}
 use Rattle.values.specs.Counting.{counted_is, counted_refused}
 
 pub from_all : (s : List ℕ) → from s 0 (length s) ≡ s
@@ -109,13 +112,12 @@ front_whole cs s (took v rest) f e =
     (sym q, ap length q ∙ f.1)
 front_whole cs s (failed refusal left) f e = let z : ◌≡◌ {A = ℕ} 0 1 = cc in absurd (omega arith)
 
--- A date, as the reader's stage takes it
-
--- "a tenth byte is the designator"
-abbrev pub has_designator : List ℕ → Bool
-has_designator s = ltb 9 (length s)
+-- A date byte by byte
 
 module _ (s : List ℕ) (isAbsolute : Bool) where
+  abbrev many : ℕ
+  many = date_length (has_designator s)
+
   abbrev checks : List Check
   checks = date_checks (reaching isAbsolute) (has_designator s)
 
@@ -125,42 +127,45 @@ module _ (s : List ℕ) (isAbsolute : Bool) where
   there : take_date checks [] (from s 0 (length s)) ≡ date
   there = ap (take_date checks []) (from_all s)
 
-  undated_at : (place : ℕ) → exactly s date ≡ undecoded place → DecodesReach (dated (reaching isAbsolute)) s (undecoded_at place)
+  undated_at : (place : ℕ) → exactly s date ≡ undecoded place → RefusedAt s isAbsolute place
   undated_at place q = record { is = rw q refl; worth = rw q refl }
 
-  nine_checks : 9 ≤ length checks
-  nine_checks = at isAbsolute (has_designator s)
-    where
-      at : (x y : Bool) → 9 ≤ length (date_checks (reaching x) y)
-      at true true = omega arith
-      at true false = omega arith
-      at false true = omega arith
-      at false false = omega arith
+  -- the bytes before byte j have passed: what is left to take
+  module _ {j : ℕ} (p : Passed s isAbsolute j) (h : j ≤ many) where
+    behind : span 0 date ≡ date_from s (length s) 0 isAbsolute many j
+    behind =
+        ap (span 0) (sym there) ∙ date_begins s (length s) 0 isAbsolute many (has_designator s) refl
+        ∙ passing_goes s (length s) 0 isAbsolute many (le_refl (length s)) j h (omega (arith, p.inside)) p.passing
 
-  -- what the stage answered
-  module _ (k : ℕ) {r : Result ℕ Fault} (v : Valued s (length s) 0 k 0 (take_date checks [] (from s 0 (length s))) (value_by k 0 r)) where
-    pub undated : {fault : Fault} → r ≡ Err fault → DecodesReach (dated (reaching isAbsolute)) s (undecoded_at fault.at)
-    undated {fault} h =
-        let p = valued_refused (rw h at v) refl in
-        undated_at fault.at (exactly_refused s date (ap (span 0) (sym there) ∙ p.0) p.1)
+  module _ {j : ℕ} (p : Passed s isAbsolute j) (h : j < many) where
+    pub missing : length s ≤ j → RefusedAt s isAbsolute j
+    missing l =
+        let z : length s - length s ≡ length s - j = omega (arith, p.inside) in
+        undated_at j (exactly_refused s date (behind p (omega arith) ∙ date_ends s (length s) 0 isAbsolute many j h (omega arith) ∙ ap (misses 6) z) p.inside)
 
-    pub date_left : {after : ℕ} → r ≡ Ok after → after < length s → DecodesReach (dated (reaching isAbsolute)) s (undecoded_at after)
-    date_left {after} h l =
-        let p = valued_at (rw h at v) refl in
-        undated_at after (exactly_left s date (ap (span 0) (sym there) ∙ p.0) (omega arith) l)
+    pub wrong : j < length s → {r : Bool} → r ≡ passes (check_at isAbsolute j) (earlier s 0 j) (get_or s (0 + j) 0) → r ≡ false → RefusedAt s isAbsolute j
+    wrong l q f =
+        let z : length s - (0 + j) ≡ length s - j = omega arith in
+        undated_at j (exactly_refused s date (behind p (omega arith) ∙ date_wrong s (length s) 0 isAbsolute many j h (le_refl (length s)) (omega arith) q f ∙ ap (misses 9) z) p.inside)
 
-    module _ {after : ℕ} (h : r ≡ Ok after) (l : length s ≤ after) where
-      whole : (exactly s date ≡ decoded (front date)) × (length (front date) ≡ after) × (date ≡ took (front date) [])
-      whole = let p = valued_at (rw h at v) refl in exactly_all s date (ap (span 0) (sym there) ∙ p.0) (omega arith) l
+  module _ {j : ℕ} (p : Passed s isAbsolute j) (h : j ≡ many) where
+    over : span 0 date ≡ spans j (from s j (length s))
+    over =
+        let z : 0 + j ≡ j = omega arith in
+        behind p (omega arith) ∙ date_over s (length s) 0 isAbsolute many j (omega arith) ∙ ap (λ (x : ℕ). spans j (from s x (length s))) z
 
-      fills : (front date ≡ s) × (length s ≡ length checks)
-      fills = front_whole checks s date (date_fronts checks [] s) whole.2
+    pub left_over : j < length s → RefusedAt s isAbsolute j
+    left_over l = undated_at j (exactly_left s date over refl l)
 
-      pub date_long : 9 ≤ length s
-      date_long = omega (arith, fills.1, nine_checks)
+  pub date_whole : Passed s isAbsolute (length s) → length s ≡ many → {d : Date} → plain_of d ≡ date_of s → DecodesReach (dated (reaching isAbsolute)) s (decoded_by s (Ok d))
+  date_whole p h g =
+      let w = exactly_all s date (over p h) refl (le_refl (length s)) in
+      let f = front_whole checks s date (date_fronts checks [] s) w.2 in
+      record { is = rw (w.0, w.1) refl; worth = g ∙ rw (w.0, f.0) refl }
 
-      pub date_whole : {d : Date} → plain_of d ≡ date_of s → DecodesReach (dated (reaching isAbsolute)) s (record { answer = 0; place = after; date = d })
-      date_whole g = record { is = rw (whole.0, whole.1) refl; worth = g ∙ rw (whole.0, fills.0) refl }
+-- how many bytes the slice's length asks for
+pub ten_long : (s : List ℕ) → 10 ≤ length s → 10 ≡ date_length (has_designator s)
+ten_long s h = sym (ap date_length (lt-ltb 9 (length s) (omega arith)))
 
 -- the kind's reach
 pub kind_decodes : (kind : ℕ) (s : List ℕ) {reach : Reached} {r : DecodedDate} → reach_of kind ≡ reach → DecodesReach reach s r → DateDecodes kind s r

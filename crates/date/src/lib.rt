@@ -55,7 +55,7 @@ pub fn take(s: &[u8], at: usize, edition: Edition) -> Value
 }
 
 // The nine bytes of a date, and its designator. Answers the place behind them, or the refusal. It is put in place where it is called: behind a call the
-// date decoder took a quarter more stack.
+// date encoder took half as much stack again.
 #[inline(always)]
 pub fn bytes(s: &[u8], at: usize, form: Form) -> Result<usize, Fault>
     requires { Within s.now at }

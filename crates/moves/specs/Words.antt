@@ -5,6 +5,7 @@ use Rattle.meaning.specs.Editions.{no_code, on◌▸◌▸◌▸◌, pass◌▸�
 use Rattle.meaning.specs.Editions as meaning
 use Rattle.meaning.specs.Reading as reading
 use Rattle.table.specs.Kinds.{number_of}
+use Rattle.table.specs.declared.kinds.Kind.{Kind}
 use Rattle.values.specs.Stages.{rule_of}
 use Rattle.moves.specs.declared.rooms.Room.{Room}
 use Rattle.moves.specs.declared.rooms.Room.TheVariants as room
@@ -62,13 +63,19 @@ next_of next.Deeper = meaning.deeper meaning.agent_list
 next_of next.ListEnds = meaning.list_ends
 next_of next.AgentEnds = meaning.agent_ends
 
--- the move that is found at the byte b
-abbrev pub move_of : ℕ → Move → meaning.Move
-move_of b (Coded kind form next) = on b ▸ number_of kind ▸ form_of form ▸ next_of next
-move_of b (Quiet next) = pass b ▸ next_of next
-move_of b (Uncoded kind rule next) = on no_code ▸ number_of kind ▸ meaning.text (rule_of rule) ▸ next_of next
+-- the move that is found at the byte b, where a row's kind is said in the caller's way
+abbrev pub move_by : {K : Type 0} → (K → ℕ) → ℕ → Move K → meaning.Move
+move_by number b (Coded kind form next) = on b ▸ number kind ▸ form_of form ▸ next_of next
+move_by number b (Quiet next) = pass b ▸ next_of next
+move_by number b (Uncoded kind rule next) = on no_code ▸ number kind ▸ meaning.text (rule_of rule) ▸ next_of next
+
+abbrev pub move_of : ℕ → Move Kind → meaning.Move
+move_of = move_by number_of
 
 -- what is found at the byte b
-abbrev pub found_of : ℕ → Option Move → reading.Found
-found_of b None = reading.none
-found_of b (Some m) = reading.hit (move_of b m)
+abbrev pub found_by : {K : Type 0} → (K → ℕ) → ℕ → Option (Move K) → reading.Found
+found_by number b None = reading.none
+found_by number b (Some m) = reading.hit (move_by number b m)
+
+abbrev pub found_of : ℕ → Option (Move Kind) → reading.Found
+found_of = found_by number_of

@@ -63,12 +63,12 @@ pub enum Next {
 }
 
 // A move at a byte, and where it leads. The byte is its code, before a value that has a row, by its kind and its form; or its code, with no row; or no
-// code but the first byte of a text.
+// code but the first byte of a text. A row's kind is a Kind, or whatever else says one to the caller of `texts`.
 #[derive(Clone, Copy)]
-pub enum Move {
-    Coded(Kind, Form, Next),
+pub enum Move<K = Kind> {
+    Coded(K, Form, Next),
     Quiet(Next),
-    Uncoded(Kind, Rule, Next),
+    Uncoded(K, Rule, Next),
 }
 
 impl Move {

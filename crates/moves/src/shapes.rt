@@ -1,11 +1,10 @@
 // Moves that several rooms have: representations, any-values, dates, and lists of texts.
-ghost use Rattle.std.specs.Prelude.{◌≡◌, [], ◌∷◌, ◌++◌, Some};
+ghost use Rattle.std.specs.Prelude.{◌≡◌, [], ◌∷◌, ◌++◌, ℕ, Some};
 ghost use Rattle.meaning.specs.Bytes.{line};
 ghost use Rattle.meaning.specs.Editions.{representations, any_values, shared_date, own_dates, text, no_code, closing, on◌▸◌▸◌▸◌, pass◌▸◌};
 ghost use Rattle.meaning.specs.Reading.{look};
-ghost use Rattle.table.specs.Kinds.{number_of};
 ghost use Rattle.table.specs.Told.{edition_of};
-ghost use Rattle.moves.specs.Words.{next_of, found_of};
+ghost use Rattle.moves.specs.Words.{next_of, found_of, found_by};
 
 use crate::rooms::{Form, Move, Next};
 use table::kinds::Kind;
@@ -64,9 +63,10 @@ fn dated(kind: Kind, absolute: bool, designated: bool, next: Next) -> Option<Mov
     Some(Move::Coded(kind, form, next))
 }
 
-// "In a list of texts, 01 where an item would begin ends the list": lines of one kind, and where the list and an item lead.
-pub fn texts(b: u8, kind: Kind, item: Next, end: Next) -> Option<Move>
-    ensures { found_of b result ≡ look b (pass closing ▸ next_of end ∷ on no_code ▸ number_of kind ▸ text line ▸ next_of item ∷ []) }
+// "In a list of texts, 01 where an item would begin ends the list": lines of one kind, and where the list and an item lead. The kind may be a number, any
+// at all, and is only passed on.
+pub fn texts<K: Copy>(b: u8, kind: K, item: Next, end: Next) -> Option<Move<K>>
+    ensures { (number : K → ℕ) → found_by number b result ≡ look b (pass closing ▸ next_of end ∷ on no_code ▸ number kind ▸ text line ▸ next_of item ∷ []) }
 {
     match b {
         0x01 => Some(Move::Quiet(end)),

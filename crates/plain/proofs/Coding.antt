@@ -296,5 +296,5 @@ module _ (t : Told) (s : List ℕ) (at : ℕ) (r : Standing) where
         ∙ landed_span_lem (source t s end) 1 (number_of kind) r.lists.depth (go (next_of g) q) (take_text (rule_of rule) (from s at end)) n m ∙ rw u refl
 
   -- what a look found
-  pub is_here : {found : Option Move} → b < 256 → found_of b found ≡ look b (moves t.edition (room_of r.room)) → Here t s at r.room found
+  pub is_here : {found : Option (Move Kind)} → b < 256 → found_of b found ≡ look b (moves t.edition (room_of r.room)) → Here t s at r.room found
   is_here low is = record { byte = low; is = sym is }

@@ -8,6 +8,7 @@ use Rattle.laws_steps.specs.Rows.{put}
 use Rattle.laws_steps.specs.Pouring.{Filling, stopped, pour, Source, source, run_at}
 use Rattle.values.specs.Stages.{Span, spans, misses}
 use Rattle.table.specs.Kinds.{number_of}
+use Rattle.table.specs.declared.kinds.Kind.{Kind}
 use Rattle.table.specs.Refusals.{answer_of}
 use Rattle.table.specs.declared.answers.Stage.{Stage}
 use Rattle.read_rows.specs.Stages.{after, Moved}
@@ -86,7 +87,7 @@ abbrev pub Steps : Engine → Told → List ℕ → ℕ → Fed → Type 0
 Steps e t s at x = StepsFrom (λ i n m. comes i e at n m) e.standing t s at x
 
 -- what the room has for the byte at `at`: a move, or none
-pub record Here (t : Told) (s : List ℕ) (at : ℕ) (room : Room) (found : Option Move) : Type 0 where
+pub record Here (t : Told) (s : List ℕ) (at : ℕ) (room : Room) (found : Option (Move Kind)) : Type 0 where
   pub byte : get_or s at 0 < 256
   pub is : look (get_or s at 0) (moves t.edition (room_of room)) ≡ found_of (get_or s at 0) found
 

@@ -4,7 +4,9 @@
 pub mod codes;
 pub mod engine;
 pub mod feed;
+pub mod header;
 pub mod lists;
 pub mod read;
 pub mod run;
 pub mod standing;
+pub mod state;

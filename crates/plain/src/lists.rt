@@ -15,11 +15,11 @@ pub enum ListKind {
 }
 
 // The open lists, the outermost first, and how many they are: the level. Behind the first all are resolvers, and the first is none. Document 01's named
-// form: "the open lists held in an array of fixed size, and its depth".
+// form: "the open lists held in an array of fixed size, and its depth". The depth is one byte: docs/DECISIONS.md.
 #[derive(Clone, Copy)]
 pub struct Lists {
     kinds: [ListKind; LISTS_MOST],
-    depth: usize,
+    depth: u8,
     ghost nested: { Nested kinds depth },
 }
 
@@ -63,7 +63,7 @@ impl Lists {
             return None;
         }
         let kinds = self.kinds;
-        Some(kinds[depth - 1])
+        Some(kinds[depth as usize - 1])
     }
 
     // Resolvers are opened in the innermost list.
@@ -73,7 +73,7 @@ impl Lists {
     {
         let depth = self.depth;
         let mut kinds = self.kinds;
-        kinds[depth] = ListKind::Resolvers;
+        kinds[depth as usize] = ListKind::Resolvers;
         Lists {
             kinds,
             depth: depth + 1,

@@ -1,12 +1,10 @@
 // The plain reader: a header as rows and words in lent memory, by the engine. Its promises are the first reader's, and so is all but the insides.
 ghost use Rattle.reader.specs.Promises.{ReadPromise, TolerantPromise};
 
-use crate::run::run_inside;
-use read_envelopes::insides::ReadsInside;
+pub use crate::header::ByMoves;
 use reader::read_by;
-use table::answers::{Reached, Stage};
 use table::reply::Reply;
-use table::told::{Strictness, Told};
+use table::told::Strictness;
 
 // Takes an edition's number and the input. Fills `rows` with the rows of the header at the input's front and `words` with a word for each of its
 // envelopes, and answers 0, the place behind the header and the count of rows. A refusal is answered by number and place, and changes no row
@@ -22,13 +20,4 @@ pub fn read_plain_tolerant(edition: u32, input: &[u8], rows: &mut [u32], words: 
     ensures { TolerantPromise edition input.now rows.old words.old result rows.new words.new }
 {
     read_by::<ByMoves>(edition, Strictness::Tolerant, input, rows, words)
-}
-
-// By moves, one step a byte: the plain engine.
-pub struct ByMoves;
-
-impl ReadsInside for ByMoves {
-    fn inside(s: &[u8], from: Reached, rows: &mut [u32], base: bool, told: Told) -> Stage {
-        run_inside(s, from, rows, base, told)
-    }
 }

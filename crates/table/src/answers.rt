@@ -4,11 +4,12 @@ ghost use Rattle.table.specs.Rows.{u32_most};
 
 use crate::refusals::Refusal;
 
-// "a refusal": document 01's number and place.
+// "a refusal": document 01's number and place. The place is first, where a `Reached` has its own: docs/DECISIONS.md,
+// "Answers in registers".
 #[derive(Clone, Copy)]
 pub struct Fault {
-    pub refusal: Refusal,
     pub at: usize,
+    pub refusal: Refusal,
 }
 
 // How far a reading has come: the place, and the count of rows so far.
